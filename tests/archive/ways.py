@@ -10,7 +10,7 @@ from typing import Sequence
 import clients
 from loop import MANAGERS, archived, expect
 from packages import BOTH, TWELVE, Package, Upload, build_all
-from stage import COMMANDS, SETUP, Archive, Failed, Office, Reprepro, Stage, command, run
+from stage import COMMANDS, SETUP, Aptly, Archive, Failed, Office, Reprepro, Stage, command, run
 
 LAG = [Package("lag"), Package("lag-doc", is_all=True)]
 UNCLEAN = [Upload("duo", "1-1", "2025-03-01", [Package("duo"), Package("duo-bad", "nosuch, duo")]),
@@ -101,7 +101,7 @@ def adopted_by_aptly(program: str, folder: str) -> str:
 def look_words(stage: Stage, day: str, *more: str) -> Sequence[str]:
     """The words of office-look on a day: it judges, and orders."""
     return ["--url", stage.office.url, "--conf", SETUP, "--cache", os.path.join(stage.folder, "look"), "--day", day,
-            "--order", *more, *(stage.archive.published(suite) for suite in ("testing", "ordered"))]
+            "--order", *more, *(stage.archive.published(suite) for suite in ("testing", stage.line.split()[1]))]
 
 
 def look(stage: Stage, day: str, *more: str) -> Sequence[str]:
@@ -170,19 +170,21 @@ def proposed(program: str, folder: str) -> str:
 
 
 class Unattended:
-    """An archive of reprepro that office-day runs."""
+    """An archive that office-day runs."""
 
-    def __init__(self, program: str, folder: str) -> None:
+    def __init__(self, program: str, folder: str, manager: str = "reprepro") -> None:
         self.office = Office(program, folder)
-        self.archive = Reprepro(folder)
+        self.archive = MANAGERS[manager](folder)
         self.stage = Stage(self.office, self.archive, folder, os.path.join(os.path.dirname(folder), "built"))
         self.folder = folder
-        line = f"[trusted=yes arch={','.join(BOTH)}] file:{self.archive.base} ordered main"
+        self.stage.line = self.archive.ready()
+        pull = f"aptly -config={self.archive.config} publish update -skip-signing -batch unstable" \
+            if isinstance(self.archive, Aptly) else f"reprepro --silent -b {self.archive.base} pull ordered"
         with open(os.path.join(folder, "day.conf"), "w", encoding="utf-8") as file:
-            file.write(f"Url: {self.office.url}\nSetup: {SETUP}\nState: {folder}/state\n"
-                       f"Pull: reprepro --silent -b {self.archive.base} pull ordered\n"
-                       f"Feed: --changes {folder}/changes --apt 'deb {line}'\n --apt 'deb-src [trusted=yes] "
-                       f"file:{self.archive.base} ordered main'\nApply: reprepro {self.archive.base} ordered testing\n")
+            file.write(f"Url: {self.office.url}\nSetup: {SETUP}\nState: {folder}/state\nPull: {pull}\n"
+                       f"Feed: --changes {folder}/changes\n --apt 'deb [trusted=yes arch={','.join(BOTH)}] "
+                       f"{self.stage.line}'\n --apt 'deb-src [trusted=yes] {self.stage.line}'\n"
+                       f"Apply: {' '.join(self.archive.apply_words())}\n")
 
     def day(self, day: str, due: int) -> str:
         """Runs a day, which has to end with this status, and gives what stands still."""
@@ -206,16 +208,28 @@ class Unattended:
             file.write("Package: vendor-tool\nVersion: 1.0\nArchitecture: amd64\nMaintainer: A Tester <t@example.org>\n"
                        "Section: misc\nPriority: optional\nDescription: tiny\n")
         run("dpkg-deb", "--root-owner-group", "-b", place, place + ".deb")
-        self.archive.reprepro("includedeb", "unstable", place + ".deb")
+        if isinstance(self.archive, Aptly):
+            self.archive.aptly("repo", "add", "unstable", place + ".deb")
+        elif isinstance(self.archive, Reprepro):
+            self.archive.reprepro("includedeb", "unstable", place + ".deb")
+
+    def withdraw(self, source: str) -> None:
+        """Puts testing's version of a source into unstable in the place of the one there."""
+        self.archive.drop_source(source)
+        if isinstance(self.archive, Aptly):
+            self.archive.aptly("repo", "copy", "testing", "unstable", f"$Source ({source}) | Name ({source})")
+        elif isinstance(self.archive, Reprepro):
+            self.archive.reprepro("copysrc", "unstable", "testing", source)
+        self.archive.ready()
 
     def testing(self) -> Sequence[str]:
         """The sources and packages of the archive's testing, without those of arm64."""
         return sorted(line for line in archived(self.archive) if not line.endswith("arm64"))
 
 
-def unattended(program: str, folder: str) -> str:
+def unattended(program: str, folder: str, manager: str = "reprepro") -> str:
     """A package without a source, an apply that was missed, and an upload that is withdrawn between order and apply."""
-    days = Unattended(program, folder)
+    days = Unattended(program, folder, manager)
     days.office.start()
     try:
         days.stage.takes([CALM, *DUET])
@@ -231,9 +245,7 @@ def unattended(program: str, folder: str) -> str:
                days.testing())
         days.stage.takes([LONES[2], next(upload for upload in RIVALS if upload.source == "fine")])
         days.ordered("2025-03-13")
-        days.archive.drop_source("lone")
-        days.archive.reprepro("copysrc", "unstable", "testing", "lone")
-        days.archive.ready()
+        days.withdraw("lone")
         told = days.day("2025-03-14", 1)
         if "held back: lone 0.4-1: there is no source lone 0.4-1 to copy" not in told:
             raise Failed(told)
@@ -247,7 +259,12 @@ def unattended(program: str, folder: str) -> str:
                [line for line in days.testing() if line.startswith("lone")])
     finally:
         days.office.stop()
-    return "unattended: a missed apply, a withdrawn upload and a package without a source stop nothing"
+    return f"{manager}: a missed apply, a withdrawn upload and a package without a source stop nothing"
+
+
+def unattended_by_aptly(program: str, folder: str) -> str:
+    """The same over an archive that keeps several versions."""
+    return unattended(program, folder, "aptly")
 
 
 def main(words: Sequence[str]) -> None:
@@ -256,7 +273,7 @@ def main(words: Sequence[str]) -> None:
     build_all(ALL, os.path.join(folder, "built"))
     told = []
     for name, way in (("adopted", adopted), ("aptly", adopted_by_aptly), ("looked", looked), ("proposed", proposed),
-                      ("unattended", unattended)):
+                      ("unattended", unattended), ("unattended-aptly", unattended_by_aptly)):
         os.makedirs(os.path.join(folder, name))
         told.append(way(program, os.path.join(folder, name)))
     print("\n".join(told))

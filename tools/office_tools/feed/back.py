@@ -47,7 +47,7 @@ class Retold:
 
     `urgent` are the sources that wait no days, `again` those whose age begins once more; `under` has the source's
     version of packages that are told under another one than they were built of. `lines` and `alone` are what is told of
-    sources and of packages alone.
+    sources and of packages alone. `staying` are the made-up sources of packages that stay, `extra` such packages.
     """
 
     sources: dict[str, str] = field(default_factory=dict)
@@ -56,6 +56,8 @@ class Retold:
     packages: dict[Key, str] = field(default_factory=dict)
     under: dict[Key, str] = field(default_factory=dict)
     drops: dict[Key, str] = field(default_factory=dict)
+    staying: dict[str, str] = field(default_factory=dict)
+    extra: list[Binary] = field(default_factory=list)
     lines: dict[str, str] = field(default_factory=dict)
     alone: dict[Key, str] = field(default_factory=dict)
 

@@ -137,7 +137,8 @@ class Turn:
         if not asked.dry_run:
             feed.settle()
         told = Told(self.service.testing(), self.service.hints())
-        ways = Ways(self.day.isoformat(), self.arrivals(feed), asked.rebuilds, asked.back)
+        ways = Ways(self.day.isoformat(), self.arrivals(feed), asked.rebuilds, asked.smooth,
+                    asked.back)
         found, gone = news(unstable, feed.box, told, ways)
         brakes.Gone(gone, len(feed.box.known.live), unstable.binaries, unstable.sources, told.testing).check(
             feed.box, asked.gone)

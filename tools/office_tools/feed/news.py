@@ -13,6 +13,7 @@ from office_tools.feed.brakes import binaries_in
 from office_tools.feed.known import Known, first_of
 from office_tools.feed.mailbox import REFUSED, Mailbox
 from office_tools.feed.rebuilds import Rebuilds, rebuilds
+from office_tools.feed.smooth import left_behind, stay
 from office_tools.feed.told import Weight, tell
 from office_tools.from_packages import mail
 from office_tools.from_packages.binaries import Binary, Key
@@ -84,6 +85,7 @@ class Ways:
     day: str
     known: Arrivals = field(default_factory=dict)
     with_rebuilds: bool = False
+    is_smooth: bool = False
     back: Sequence[str] = ()
 
 
@@ -93,20 +95,25 @@ def news(unstable: Unstable, box: Mailbox, told: Told, ways: Ways) -> tuple[News
     archive = Archive(unstable.sources, unstable.binaries, box.known, told.testing)
     retold = came_back(archive, ways.back)
     again = rebuilds(archive, box, retold) if ways.with_rebuilds else Rebuilds()
+    staying = stay(archive, box, retold, again) if ways.is_smooth else set()
     without_strange(archive, retold)
     retold.tell()
     found = News()
     found.uploads = list(uploads(archive, box, retold, ways))
-    gone = dict(gone_from(archive))
-    dropped = sorted({**gone, **retold.drops}.items())
+    gone = {key: version for key, version in gone_from(archive) if key not in staying}
+    removals = list(standing(box.known))
+    done = [removal.source for removal in removals if removal.is_own and marks.is_made_up(removal.source)
+            and removal.source not in told.testing.sources]
+    dropped = sorted({**gone, **retold.drops, **left_behind(box, done)}.items())
     found.drops = [messages.drop(Label(UPLOADS, number), name, architecture, version)
                    for number, ((name, architecture), version)
                    in enumerate(dropped, box.known.taken.get(UPLOADS, 0) + len(found.uploads) + 1)]
     found.builds = [*again.builds(box, retold),
-                    *mail.builds_of(list(packages(archive, retold, again.keys)), box.known.taken.get(BUILDS, 0))]
-    removals = list(standing(box.known))
+                    *mail.builds_of([*packages(archive, retold, again.keys), *retold.extra],
+                                    box.known.taken.get(BUILDS, 0))]
     number = box.known.taken.get(HINTS, 0)
-    found.hints = list(removal_hints(leaving(unstable, told.testing, box), told.testing, removals, number))
+    left = leaving(unstable, told.testing, box, ways.is_smooth)
+    found.hints = list(removal_hints(left, told.testing, removals, number))
     back = [*taken_back(unstable, told.testing, removals, box.known.versions), *spent(box.known, told.hints)]
     found.unhints = [messages.unhint(Label(HINTS, after), hint)
                      for after, hint in enumerate(back, number + len(found.hints) + 1)]
@@ -144,6 +151,10 @@ def uploads(archive: Archive, box: Mailbox, retold: Retold, ways: Ways) -> Itera
             number += 1
             yield messages.upload(Label(UPLOADS, number), name, retold.sources.get(name, version), arrival.urgency,
                                   arrival.day)
+    for name, version in sorted(retold.staying.items()):
+        if archive.known.versions.get(name) != version:
+            number += 1
+            yield messages.upload(Label(UPLOADS, number), name, version, Urgency.CRITICAL, ways.day)
 
 
 def arrival_of(name: str, version: str, ways: Ways) -> Arrival:
@@ -215,13 +226,17 @@ def removal_hints(sources: Sequence[str], testing: reports.Testing, removals: Se
                                      ("Hint", f"remove {source}/{version}"), (GONE, f"{source} {version}")])
 
 
-def leaving(unstable: Unstable, testing: reports.Testing, box: Mailbox) -> Sequence[str]:
+def leaving(unstable: Unstable, testing: reports.Testing, box: Mailbox, is_smooth: bool) -> Sequence[str]:
     """The sources that are in testing and gone from unstable, those first that no other one of them needs.
+
+    Sources of packages that stay are among them, if this command takes care of them: the office refuses to remove one
+    as long as something needs it.
 
     A run takes each hint to remove a source once, by number. Sources that need each other stand in order of names.
     """
     left = sorted(source for source, version in testing.sources.items() if source not in unstable.sources
-                  and not marks.is_made_up(source) and not leaves_later(box.known.versions, source, version))
+                  and (is_smooth or not marks.is_made_up(source))
+                  and not leaves_later(box.known.versions, source, version))
     needs = needs_among(left, testing, box) if len(left) > 1 else {}
     found: list[str] = []
     while left:

@@ -32,8 +32,9 @@ class Rebuilds:
         """What the spare senders tell again, in as many messages as it needs."""
         for sender, binaries in self.again.items():
             number = box.kept[sender].unbroken
-            parts = [retold.told(binary, retold.sources[binary.source]).paragraph() for binary in binaries
-                     if binary.source in retold.sources]
+            told = {**retold.sources, **retold.staying}
+            parts = [retold.told(binary, told[binary.source]).paragraph() for binary in binaries
+                     if binary.source in told]
             while parts:
                 number += 1
                 count = fitting(parts)

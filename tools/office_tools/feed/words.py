@@ -25,6 +25,8 @@ def parser() -> argparse.ArgumentParser:
                        help="order a run in any case, or never")
     words.add_argument("--rebuilds", action="store_true",
                        help="tell rebuilds of sources in testing so that they move, by the spare senders again1 ..")
+    words.add_argument("--smooth", action="store_true",
+                       help="let old packages stay that testing needs and a newer version of their source lacks")
     words.add_argument("--propose", action="store_true",
                        help="behind the run mail hints for the groups that the office proposes, and order a run again")
     words.add_argument("--proposals", metavar="FILE",
