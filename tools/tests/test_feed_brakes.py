@@ -2,16 +2,20 @@
 import datetime
 import os
 import unittest
+from unittest import mock
 
 from helpers import SETUP, Serving, needs_office, tool
 from office_tools import bags, messages
 from office_tools.faults import Fault
 from office_tools.feed import brakes
 from office_tools.feed.archive import Release
+from office_tools.feed.command import Feed
 from office_tools.feed.mailbox import Outgoing
+from office_tools.feed.memory import ChangesRead
 from office_tools.feed.sending import Sending
+from office_tools.from_packages import told
 from office_tools.messages import Label, Urgency, paragraphs
-from office_tools.service import Service
+from office_tools.service import Service, Status
 from test_feed import CHANGES, FIRST, Feeding, Folder, package
 
 BOTH = ("amd64", "arm64")
@@ -194,6 +198,42 @@ class Standing(Feeding):
         self.file("changes/new.changes", CHANGES.replace("Source: lib", "Source: new"))
         self.feed(FIRST + on_both("new", "1"), "2025-03-09", "--changes", self.path("changes"))
         self.assertIn("new - 1\n age 0 of 2\n", self.service.good_text("/excuses/2"))
+
+
+class CutOff(unittest.TestCase):
+    """A run that was cut off when the office was killed is finished first, which is told once."""
+
+    def settled(self, *after):
+        service = mock.Mock()
+        service.status.side_effect = [Status(2, 1), *after]
+        lines = []
+        with mock.patch.object(told, "listener", lambda what, weight: lines.append(what)):
+            Feed(service, mock.Mock(), mock.Mock()).settle()
+        return service.post.mock_calls, lines
+
+    def test_settle(self):
+        self.assertEqual(self.settled(Status(2, 2)), ([mock.call("/settle")],
+                                                      ["run 2 was cut off, and is finished now"]))
+        self.assertEqual(self.settled(Status(2, 1)), ([mock.call("/settle")], []))
+
+
+class Changes(Folder):
+    """A file .changes is read once, and again when it changes or couldn't be read."""
+
+    def test_once(self):
+        path = self.file("one.changes", CHANGES)
+        first = ChangesRead({})
+        stated = first.read(path)
+        self.assertEqual((stated.source, stated.version, stated.urgency), ("lib", "1", "high"))
+        with mock.patch("office_tools.feed.memory.read_changes", side_effect=Fault("read again")):
+            later = ChangesRead(first.now)
+            self.assertEqual(later.read(path), stated)
+            self.assertEqual(later.now, first.now)
+            self.file("one.changes", CHANGES + "More: x\n")
+            with self.assertRaisesRegex(Fault, "read again"):
+                later.read(path)
+            with self.assertRaisesRegex(Fault, "No such file"):
+                later.read(self.path("none.changes"))
 
 
 class Restoring(Folder):

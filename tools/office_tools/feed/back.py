@@ -35,6 +35,11 @@ class Archive:
         told = self.told_version(source)
         return told is not None and versions.compare(self.sources[source], told) < 0
 
+    def is_above_testing(self, source: str) -> bool:
+        """Whether the archive has a newer version of a source than testing."""
+        held = self.held_version(source)
+        return source in self.sources and (held is None or versions.compare(self.sources[source], held) > 0)
+
     def held_version(self, source: str) -> Optional[str]:
         """The archive's version of a source that is in the office's testing."""
         version = self.testing.sources.get(source)

@@ -12,7 +12,7 @@ from office_tools.bags import framed
 from office_tools.faults import Fault
 from office_tools.feed import archive, brakes, mailbox, restoring
 from office_tools.feed.mailbox import REFUSED, Mailbox, Outgoing
-from office_tools.feed.memory import Memory, remembered
+from office_tools.feed.memory import ChangesRead, Memory, remembered
 from office_tools.feed.news import BUILDS, HINTS, UPLOADS, News, Told, Unstable, Ways, news
 from office_tools.feed.sending import Sending, check_architectures
 from office_tools.feed.told import Lines, Weight, tell
@@ -123,6 +123,7 @@ class Turn:
     service: Service
     folder: str
     memory: Memory
+    changes: ChangesRead
     lines: Lines
 
     def run(self) -> int:
@@ -149,8 +150,8 @@ class Turn:
         self.send(feed, found)
         mailbox.fetch(self.service, self.folder)  # so that the folder is a backup of all mail
         self.lines.finish()
-        Memory(self.lines.left(), {**self.memory.releases, **brakes.remembered_releases(files.releases)}).write(
-            self.folder)
+        Memory(self.lines.left(), {**self.memory.releases, **brakes.remembered_releases(files.releases)},
+               self.changes.now).write(self.folder)
         return int(self.lines.is_standing)
 
     def feed(self, unstable: Unstable) -> Feed:
@@ -168,7 +169,7 @@ class Turn:
     def arrivals(self, feed: Feed) -> Arrivals:
         """How uploads came by the files .changes. Behind the first order all came on the day of this feed."""
         arrived = Arrival(Urgency.MEDIUM, self.day.isoformat())
-        found = read_arrivals(self.asked.changes, arrived)
+        found = read_arrivals(self.asked.changes, arrived, self.changes.read)
         if not feed.box.known.last_day:
             return found
         return {upload: Arrival(arrival.urgency, self.day.isoformat()) for upload, arrival in found.items()}
@@ -203,6 +204,6 @@ def main(words: Sequence[str]) -> int:
     lines.take_over()
     try:
         return restoring.restore(service, folder) if asked.restore else \
-            Turn(asked, day, service, folder, memory, lines).run()
+            Turn(asked, day, service, folder, memory, ChangesRead(memory.changes), lines).run()
     except Fault as fault:
         raise Fault(fault.cause, REFUSED if fault.status == 1 else fault.status) from fault

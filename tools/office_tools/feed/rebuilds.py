@@ -65,7 +65,7 @@ def rebuilds(archive: Archive, box: Mailbox, retold: Retold) -> Rebuilds:
         older = [binary for binary in rows if not is_new(binary, known) and binary.key not in retold.packages]
         is_pending = versions.compare(told, testing.sources[source]) > 0
         is_told = len(older) == len(rows) and (is_pending or not any(is_above(binary, held) for binary in rows))
-        if is_told or source in retold.sources:
+        if is_told or source in retold.sources or archive.is_above_testing(source):
             continue
         retold.sources[source] = next_version(marks.source_version(testing.sources[source]), told)
         retold.urgent.add(source)

@@ -2,7 +2,7 @@
 import email.utils
 import os
 from dataclasses import dataclass
-from typing import Mapping, Optional, Sequence, TypeVar
+from typing import Callable, Mapping, Optional, Sequence, TypeVar
 
 from office_tools import relations, versions
 from office_tools.control import Changes, read_changes, sections
@@ -57,7 +57,8 @@ class Arrival:
 Arrivals = Mapping[tuple[str, str], Arrival]
 
 
-def read_arrivals(folder: Optional[str], default: Arrival) -> Arrivals:
+def read_arrivals(folder: Optional[str], default: Arrival,
+                  read: Callable[[str], Changes] = read_changes) -> Arrivals:
     """The arrival of each source and version of which the folder has a file .changes.
 
     Of several files the one that brings the source counts, else the first by its name. What a file doesn't state, or
@@ -67,7 +68,7 @@ def read_arrivals(folder: Optional[str], default: Arrival) -> Arrivals:
     of_source: set[tuple[str, str]] = set()
     for path in changes_in(folder) if folder else []:
         try:
-            changes = read_changes(path)
+            changes = read(path)
         except Fault as fault:
             tell(f"{fault.cause}: left out", Weight.ONCE)
             continue
