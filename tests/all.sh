@@ -57,6 +57,7 @@ fi
 try rows python3 "$here/rows/check.py"
 try judges python3 "$here/judges/check.py"
 try counts python3 "$here/rows/counts.py"
+try suites python3 "$here/judges/counts.py"
 try drawn python3 "$here/rows/drawn_rows.py" --check
 try again python3 "$here/rows/opened_again.py" "$office" 1001-1200
 try stopped timeout 3600 python3 "$here/stops/stopped.py" "$office" "$step"
