@@ -29,7 +29,7 @@ class Failed(Exception):
 def run(*words: str, may_fail: bool = False, given: str = "", **more: str) -> "subprocess.CompletedProcess[str]":
     """Runs a command, which has to end with status 0 where nothing else is said."""
     ran = subprocess.run(words, input=given, capture_output=True, text=True, check=False,
-                         env={**os.environ, **more}, timeout=300)
+                         env={**os.environ, **more}, timeout=1800)
     if ran.returncode and not may_fail:
         raise Failed(f"{' '.join(words)}: status {ran.returncode}\n{ran.stdout}{ran.stderr}")
     return ran

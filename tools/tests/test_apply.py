@@ -507,6 +507,20 @@ class Command(unittest.TestCase):
         told = self.apply("select", "amd64", self.file("Packages", PACKAGES.replace("5-1", "5-2")))
         self.assertEqual((told.returncode, told.stderr), (1, "office-apply: the files have no all guide-doc 5-1\n"))
 
+    def test_files_that_cannot_be_read(self):
+        """A list of files without names counts as no Release, and an index has to be UTF-8."""
+        os.makedirs(os.path.join(self.folder, "dists"))
+        for text in ("SHA256:\n abc\n", "SHA256: x\n"):
+            self.file("dists/Release", text)
+            told = self.apply("compare", os.path.join(self.folder, "dists"))
+            self.assertEqual(told.returncode, 3, told.stderr)
+            self.assertIn("its indexes aren't those that its file Release states", told.stderr)
+        path = self.file("Packages", "")
+        with open(path, "wb") as file:
+            file.write(b"Package: app\nVersion: 1\nArchitecture: amd64\nDescription: \xe5\n")
+        told = self.apply("select", "amd64", path)
+        self.assertEqual((told.returncode, told.stderr), (1, f"office-apply: {path}: it is no text in UTF-8\n"))
+
     def test_refusals(self):
         for words, status, cause in [
                 (("reprepro", self.folder, "ordered", "testing"), 3, "it is no archive of reprepro"),

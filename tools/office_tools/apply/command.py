@@ -169,11 +169,11 @@ def select(testing: reports.Testing, architecture: str, paths: Sequence[str]) ->
     want = {(row.package, marks.package_version(row.version), row.architecture) for row in testing.rows
             if row.architecture in (architecture, ALL)}
     for path in paths:
-        for paragraph in raw_sections(path):
+        for paragraph, text in raw_sections(path):
             key = tuple(paragraph.get(name, "") for name in ("Package", "Version", "Architecture"))
             if key in want:
                 want.remove((key[0], key[1], key[2]))
-                print(str(paragraph).rstrip("\n"), end="\n\n")
+                print(text.rstrip("\n"), end="\n\n")
     for name, version, own in sorted(want):
         tell(f"the files have no {own} {name} {version}")
     return int(bool(want))

@@ -38,10 +38,13 @@ def read_indexes(packages: Sequence[tuple[str, str]], sources: Sequence[str]) ->
     return Contents(frozenset(found), frozenset(built_of), built_of)
 
 
-def raw_sections(path: str) -> Iterator[Mapping[str, str]]:
-    """The paragraphs of a file as apt reads them; each one's text is what stands there."""
+def raw_sections(path: str) -> Iterator[tuple[Mapping[str, str], str]]:
+    """The paragraphs of a file as apt reads them, each with its text."""
     try:
-        yield from opened(path)
+        for section in opened(path):
+            yield section, str(section)
+    except UnicodeDecodeError as fault:
+        raise Fault(f"{path}: it is no text in UTF-8") from fault
     except OSError as fault:
         raise Fault(f"{path}: {cause_of(fault)}") from fault
     except apt_pkg.Error as fault:
@@ -108,14 +111,22 @@ def read_folder(folder: str, stated: Stated, indexes: Indexes) -> Contents:
 
 
 def read_release(folder: str) -> Optional[Stated]:
-    """The files of each index of packages that Release states, with their digests; None where there is no Release."""
+    """The files of each index of packages that Release states, with their digests.
+
+    None if there is no Release, or one that isn't control data with lists of files.
+    """
+    path = os.path.join(folder, "Release")
     try:
-        with open(os.path.join(folder, "Release"), "rb") as file:
-            entries = deb822.Release(file).get("SHA256", [])
+        with open(path, "rb") as file:
+            entries = list(deb822.Release(file.read().decode(errors="backslashreplace")).get("SHA256", []))
     except FileNotFoundError:
         return None
-    except (OSError, ValueError) as fault:
-        raise Fault(f"{folder}/Release: {cause_of(fault)}") from fault
+    except OSError as fault:
+        raise Fault(f"{path}: {cause_of(fault)}") from fault
+    except Exception:  # the library has faults of many types
+        return None
+    if not all("name" in entry and "sha256" in entry for entry in entries):
+        return None
     found: Stated = {}
     for entry in entries:
         name = entry["name"]
