@@ -48,6 +48,7 @@ try peers sh "$here/peers/store.sh" --by "$office"
 try trust python3 "$here/trust.py"
 try docs sh "$here/docs.sh" "$office"
 try tools env OFFICE="$office" /usr/bin/python3 -m unittest discover -s "$here/../tools/tests"
+try garbled /usr/bin/python3 "$here/archive/garbled.py" "$office"
 if [ -d "$here/../crates/deb_version/out/rlib" ]; then
     try edits python3 "$here/edits/trials.py"
 else
@@ -65,8 +66,9 @@ try refused timeout 36000 python3 "$here/memory/refused.py" "$office" "$step" ${
 if command -v reprepro > /dev/null && command -v aptly > /dev/null && command -v dose-debcheck > /dev/null &&
     command -v installcheck > /dev/null && command -v dpkg-buildpackage > /dev/null; then
     try archive "$here/archive/run.sh" "$office"
+    try month /usr/bin/python3 "$here/archive/month.py" "$office"
 else
-    echo "not tried: archive: reprepro, aptly, dose-distcheck, libsolv-tools or dpkg-dev isn't installed"
+    echo "not tried: archive, month: reprepro, aptly, dose-distcheck, libsolv-tools or dpkg-dev isn't installed"
 fi
 echo "what each printed: $told"
 echo "$passed passed, $failed failed"

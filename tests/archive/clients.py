@@ -2,7 +2,7 @@
 import os
 import re
 import shutil
-from typing import Iterator, Mapping, Sequence
+from typing import Iterator, Mapping, Optional, Sequence
 
 from packages import BOTH
 from stage import Archive, Failed, run
@@ -10,18 +10,23 @@ from stage import Archive, Failed, run
 INDEX = re.compile(r"^Package: (.*)$", re.MULTILINE)
 
 
-def look(archive: Archive, folder: str) -> int:
-    """Checks testing on each architecture, and gives how many packages could be installed."""
-    return sum(look_on(archive, folder, architecture) for architecture in BOTH)
+def look(archive: Archive, folder: str, only: Optional[set[str]] = None) -> int:
+    """Checks testing on each architecture, and gives how many packages could be installed.
+
+    dose and libsolv look at all of it, and apt at `only` these packages, where some are named.
+    """
+    return sum(look_on(archive, folder, architecture, only) for architecture in BOTH)
 
 
-def look_on(archive: Archive, folder: str, architecture: str) -> int:
+def look_on(archive: Archive, folder: str, architecture: str, only: Optional[set[str]] = None) -> int:
     """Checks it on one architecture."""
     index = os.path.join(archive.published("testing"), "main", f"binary-{architecture}", "Packages")
     with open(index, encoding="utf-8") as file:
         names = INDEX.findall(file.read())
     if not names:
         return 0
+    if only is not None:
+        names = [name for name in names if name in only]
     options = apt_options(archive, os.path.join(folder, "client"), architecture)
     run("apt-get", *options, "--error-on=any", "update")
     for name in names:

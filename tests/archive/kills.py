@@ -1,18 +1,24 @@
-"""Ends office-feed and office-apply by SIGKILL within their work, and runs them again.
+"""Ends office-feed, office-apply and office-day by SIGKILL within their work, and runs them again.
 
-Usage: kills.py OFFICE FOLDER [feeds|reprepro|aptly..]
+Usage: kills.py OFFICE FOLDER [feeds|days|reprepro|aptly..]
 
 The feed is ended at each fourth message, by turns before the office got it and behind that. Before it runs again, more
 comes to unstable, so that what is left to send isn't what was left before. No number may be sent with two texts. The
 apply is ended behind each command of the manager. What clients see then is the old testing or the new one,
-and a second apply makes it the new one.
+and a second apply makes it the new one. A day is ended with its steps at moments of a seed; the next one that isn't
+ended makes testing the office's.
 """
 import os
+import random
 import shutil
+import signal
 import subprocess
 import sys
+import time
 from typing import Sequence
 
+import clients
+import ways
 from days import DAYS
 from loop import MANAGERS, archived, due, expect, live
 from packages import TWELVE, Package, Upload, build_all
@@ -20,6 +26,7 @@ from spy import Spy
 from stage import COMMANDS, Failed, Office, Stage, command, run
 
 STEP = 4
+KILLS = 4  # of one day
 PAUSED = 5  # the day of DAYS whose apply is ended: packages come and go
 LATER = [Upload(f"aa{number}", "1-1", "2025-03-05", [Package(f"aa{number}")], "critical") for number in range(12)]
 DAY = "2025-03-06"
@@ -137,15 +144,52 @@ def ends(stage: Stage, manager: str) -> int:
         expect("the indexes", "", told.stderr)
 
 
+def whole_days(program: str, folder: str) -> str:
+    """Ends days, each several times, before one comes to its end."""
+    moments = random.Random(7)
+    days = ways.Unattended(program, folder)
+    days.office.start()
+    try:
+        days.stage.takes([ways.CALM, *ways.DUET])
+        began = time.monotonic()
+        days.day(ways.FIRST, 0)
+        whole = time.monotonic() - began
+        for day, uploads in ((ways.NEXT, ways.RIVALS), (ways.LAST, ways.MENDED)):
+            days.stage.takes(uploads)
+            for _ in range(KILLS):
+                end_day(days, day, moments.random() * whole)
+            days.day(day, 1)
+            expect(f"testing on {day}", sorted(days.office.rows()), sorted(archived(days.archive)))
+            clients.look(days.archive, folder)
+    finally:
+        days.office.stop()
+    return f"{2 * KILLS} days ended"
+
+
+def end_day(days: "ways.Unattended", day: str, seconds: float) -> None:
+    """Ends a day with all its steps after this time. A lock that reprepro leaves is removed, as office-apply says."""
+    words = [os.path.join(COMMANDS, "office-day"), "--conf", os.path.join(days.folder, "day.conf"), "--day", day]
+    with subprocess.Popen(words, stdout=subprocess.DEVNULL, stderr=subprocess.DEVNULL, start_new_session=True,
+                          env={**os.environ, "OFFICE": days.office.program}) as process:
+        time.sleep(seconds)
+        if process.poll() is None:
+            os.killpg(process.pid, signal.SIGKILL)
+    time.sleep(1)  # until the steps have ended, too
+    lock = os.path.join(days.archive.base, "db", "lockfile")
+    if os.path.exists(lock):
+        os.unlink(lock)
+
+
 def main(words: Sequence[str]) -> None:
-    """Builds what comes later, and ends feeds and applies."""
+    """Builds what comes later, and ends feeds, days and applies."""
     program, folder, *parts = words
-    build_all([*LATER, *(upload for day in DAYS for upload in day.uploads)], os.path.join(folder, "built"))
+    build_all([*LATER, *ways.ALL, *(upload for day in DAYS for upload in day.uploads)], os.path.join(folder, "built"))
     told = []
-    for name in parts or ("feeds", *MANAGERS):
+    others = {"feeds": feeds, "days": whole_days}
+    for name in parts or (*others, *MANAGERS):
         part = os.path.join(folder, name)
         os.makedirs(part)
-        told.append(feeds(program, part) if name == "feeds" else applies(program, part, name))
+        told.append(others[name](program, part) if name in others else applies(program, part, name))
     print("\n".join(told))
 
 

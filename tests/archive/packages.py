@@ -59,7 +59,8 @@ class Upload:
     """A version of a source: when and how urgently it came, and what is built of it on which architectures.
 
     `rebuild` is the number of a rebuild that changes no source (binNMU). If it `lags`, its packages of `all` come to
-    the indexes of these architectures alone, where the archive has some for each.
+    the indexes of these architectures alone, where the archive has some for each. What `is_later` was built on these
+    architectures after the source came: only `quick.py` writes it.
     """
 
     source: str
@@ -70,11 +71,13 @@ class Upload:
     architectures: Sequence[str] = BOTH
     rebuild: Optional[int] = None
     lags: bool = False
+    is_later: bool = False
 
     @property
     def name(self) -> str:
         """A name for its folder."""
-        return f"{self.source}_{self.version.split(':')[-1]}" + (f"+b{self.rebuild}" if self.rebuild else "")
+        later = f"_{'_'.join(self.architectures)}" if self.is_later or self.rebuild else ""
+        return f"{self.source}_{self.version.split(':')[-1]}" + (f"+b{self.rebuild}" if self.rebuild else "") + later
 
     def changelog(self) -> str:
         """Its debian/changelog."""

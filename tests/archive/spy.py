@@ -39,10 +39,11 @@ class Spy:
             def do_POST(self) -> None:
                 """Sees a message, and hands it on."""
                 text = self.rfile.read(int(self.headers["Content-Length"]))
-                if spy.is_ended(text, False):
+                is_mail = self.path.startswith("/mail")
+                if is_mail and spy.is_ended(text, False):
                     return
                 answer = spy.ask(self.path, text)
-                if not spy.is_ended(text, True):
+                if not is_mail or not spy.is_ended(text, True):
                     self.tell(*answer)
 
             def tell(self, status: int, body: bytes) -> None:

@@ -2,12 +2,13 @@
 import hashlib
 import json
 import os
+import shutil
 import signal
 import socket
 import subprocess
 import sys
 from dataclasses import dataclass
-from typing import Iterator, Mapping, Optional, Protocol, Sequence
+from typing import Callable, Iterator, Mapping, Optional, Protocol, Sequence
 
 HERE = os.path.dirname(os.path.realpath(__file__))
 TOP = os.path.dirname(os.path.dirname(HERE))
@@ -28,7 +29,7 @@ class Failed(Exception):
 def run(*words: str, may_fail: bool = False, given: str = "", **more: str) -> "subprocess.CompletedProcess[str]":
     """Runs a command, which has to end with status 0 where nothing else is said."""
     ran = subprocess.run(words, input=given, capture_output=True, text=True, check=False,
-                         env={**os.environ, **more}, timeout=300)
+                         env={**os.environ, **more}, timeout=1800)
     if ran.returncode and not may_fail:
         raise Failed(f"{' '.join(words)}: status {ran.returncode}\n{ran.stdout}{ran.stderr}")
     return ran
@@ -102,9 +103,17 @@ class Archive(Protocol):
 
     base: str
     has_versions: bool
+    place: str
+
+    @property
+    def line(self) -> str:
+        """A line of a sources.list for what the next order sees, without its kind."""
 
     def incoming(self, upload: Upload, built: str) -> None:
         """Takes an upload into unstable."""
+
+    def all_incoming(self, built: Sequence[str]) -> None:
+        """Takes the files of many uploads into unstable, from these folders."""
 
     def drop_source(self, source: str) -> None:
         """Takes a source with its packages out of unstable."""
@@ -112,8 +121,26 @@ class Archive(Protocol):
     def drop_package(self, package: str, architecture: Optional[str] = None) -> None:
         """Takes a binary package out of unstable."""
 
+    def withdraw(self, source: str, version: str) -> None:
+        """Takes a version of a source out of unstable, which has testing's again."""
+
+    def slip(self, prefix: str) -> None:
+        """Takes all packages out of unstable whose names begin so."""
+
+    def add(self, *paths: str) -> None:
+        """Takes binary packages into unstable without their source."""
+
+    def export(self) -> None:
+        """Publishes once more what the next order sees, as a person does."""
+
+    def ordered(self) -> str:
+        """The published folder of what the next order sees."""
+
+    def pull_words(self) -> Sequence[str]:
+        """The command by which the next order sees what unstable is."""
+
     def ready(self) -> str:
-        """Publishes unstable, and gives a line of a sources.list for what the next order sees."""
+        """Publishes unstable, and gives that line."""
 
     def copy_all(self, *but: str) -> None:
         """Publishes testing with all that unstable has, but for these packages as the manager names them."""
@@ -129,6 +156,7 @@ class Reprepro:
     """An archive of reprepro, with the suite `ordered` between both: unstable as the last order saw it."""
 
     has_versions = False
+    place = "archive"
 
     def __init__(self, folder: str) -> None:
         self.base = os.path.join(folder, "archive")
@@ -157,6 +185,17 @@ class Reprepro:
             if name.endswith(".changes"):
                 self.reprepro(*where, "include", "unstable", os.path.join(built, name))
 
+    def all_incoming(self, built: Sequence[str]) -> None:
+        """Takes the files of many uploads into unstable, from these folders."""
+        queue = os.path.join(self.base, "queue")
+        os.makedirs(queue)
+        for path in (path for folder in built for path in files_below(folder)):
+            shutil.copy(path, queue)
+        self.write("conf/incoming", f"Name: queue\nIncomingDir: {queue}\nTempDir: {self.base}\nAllow: unstable\n"
+                                    "Cleanup: on_deny on_error\n")
+        self.reprepro("processincoming", "queue")
+        shutil.rmtree(queue)
+
     def drop_source(self, source: str) -> None:
         """Takes a source with its packages out of unstable."""
         self.reprepro("removesrc", "unstable", source)
@@ -166,9 +205,39 @@ class Reprepro:
         where = ["-A", architecture] if architecture else []
         self.reprepro("-T", "deb", *where, "remove", "unstable", package)
 
+    def withdraw(self, source: str, version: str) -> None:
+        """Takes a version of a source out of unstable, which has testing's again."""
+        self.reprepro("removesrc", "unstable", source, version)
+        self.reprepro("copysrc", "unstable", "testing", source)
+
+    def slip(self, prefix: str) -> None:
+        """Takes all packages out of unstable whose names begin so."""
+        self.reprepro("removefilter", "unstable", f"Package (% {prefix}*)")
+
+    def add(self, *paths: str) -> None:
+        """Takes binary packages into unstable without their source."""
+        self.reprepro("includedeb", "unstable", *paths)
+
+    def export(self) -> None:
+        """Publishes once more what the next order sees, as a person does."""
+        self.reprepro("export", "ordered")
+
+    def ordered(self) -> str:
+        """The published folder of what the next order sees."""
+        return self.published("ordered")
+
+    def pull_words(self) -> Sequence[str]:
+        """The command by which the suite `ordered` becomes what unstable is."""
+        return ["reprepro", "--silent", "-b", self.base, "pull", "ordered"]
+
     def ready(self) -> str:
         """The suite `ordered` becomes what unstable is."""
-        self.reprepro("pull", "ordered")
+        run(*self.pull_words())
+        return self.line
+
+    @property
+    def line(self) -> str:
+        """A line of a sources.list for what the next order sees, without its kind."""
         return f"file:{self.base} ordered main"
 
     def copy_all(self, *but: str) -> None:
@@ -188,6 +257,7 @@ class Aptly:
     """An archive of aptly: repositories unstable, which keeps all versions, and testing."""
 
     has_versions = True
+    place = "aptly"
 
     def __init__(self, folder: str) -> None:
         self.base = os.path.join(folder, "aptly/public")
@@ -209,6 +279,11 @@ class Aptly:
         self.aptly("repo", "add", "unstable", *(os.path.join(built, name) for name in sorted(os.listdir(built))
                                                 if name.endswith((".deb", ".dsc"))))
 
+    def all_incoming(self, built: Sequence[str]) -> None:
+        """Takes the files of many uploads into unstable, from these folders."""
+        self.aptly("repo", "add", "unstable", *(path for folder in built for path in sorted(files_below(folder))
+                                                if path.endswith((".deb", ".dsc"))))
+
     def drop_source(self, source: str) -> None:
         """Takes a source with its packages out of unstable."""
         self.aptly("repo", "remove", "unstable", f"$Source ({source}) | Name ({source})")
@@ -218,15 +293,46 @@ class Aptly:
         where = f", $Architecture ({architecture})" if architecture else ", !$PackageType (source)"
         self.aptly("repo", "remove", "unstable", f"Name ({package}){where}")
 
+    def withdraw(self, source: str, version: str) -> None:
+        """Takes a version of a source out of unstable, which still has the one before it."""
+        self.aptly("repo", "remove", "unstable", f"$Source ({source}), $SourceVersion (= {version}) | "
+                                                 f"Name ({source}), $PackageType (source), $Version (= {version})")
+
+    def slip(self, prefix: str) -> None:
+        """Takes all packages out of unstable whose names begin so."""
+        self.aptly("repo", "remove", "unstable", f"Name (% {prefix}*)")
+
+    def add(self, *paths: str) -> None:
+        """Takes binary packages into unstable without their source."""
+        self.aptly("repo", "add", "unstable", *paths)
+
+    def export(self) -> None:
+        """Publishes once more what the next order sees, as a person does."""
+        self.ready()
+
+    def ordered(self) -> str:
+        """The published folder of what the next order sees."""
+        return self.published("unstable")
+
+    def pull_words(self) -> Sequence[str]:
+        """The command that publishes unstable."""
+        return ["aptly", f"-config={self.config}", "publish", "update", "-skip-signing", "-batch", "unstable"]
+
     def ready(self) -> str:
         """Publishes unstable."""
-        self.aptly("publish", "update", "-skip-signing", "-batch", "unstable")
+        run(*self.pull_words())
+        return self.line
+
+    @property
+    def line(self) -> str:
+        """A line of a sources.list for what the next order sees, without its kind."""
         return f"file:{self.base} unstable main"
 
     def copy_all(self, *but: str) -> None:
         """Publishes testing with all that unstable has, but for these packages."""
         self.aptly("repo", "copy", "unstable", "testing", "Name (~ .)")
-        self.aptly("repo", "remove", "testing", *but)
+        if but:
+            self.aptly("repo", "remove", "testing", *but)
         self.aptly("publish", "update", "-skip-signing", "-batch", "testing")
 
     def apply_words(self) -> Sequence[str]:
@@ -248,17 +354,29 @@ class Stage:
     built: str
     line: str = ""
     url: str = ""
+    maker: Callable[[Upload, str], str] = build
 
     def takes(self, uploads: Sequence[Upload]) -> None:
         """Uploads come to unstable, and their files .changes are kept."""
+        for upload in uploads:
+            built = self.maker(upload, self.built)
+            self.archive.incoming(upload, built)
+            self.keep_changes(built)
+
+    def begins(self, uploads: Sequence[Upload]) -> None:
+        """Many uploads come to unstable at once."""
+        built = [self.maker(upload, self.built) for upload in uploads]
+        self.archive.all_incoming(built)
+        for folder in built:
+            self.keep_changes(folder)
+
+    def keep_changes(self, built: str) -> None:
+        """Keeps the files .changes of an upload."""
         changes = os.path.join(self.folder, "changes")
         os.makedirs(changes, exist_ok=True)
-        for upload in uploads:
-            built = build(upload, self.built)
-            self.archive.incoming(upload, built)
-            for name in os.listdir(built):
-                if name.endswith(".changes") and not os.path.lexists(os.path.join(changes, name)):
-                    os.symlink(os.path.join(built, name), os.path.join(changes, name))
+        for name in os.listdir(built):
+            if name.endswith(".changes") and not os.path.lexists(os.path.join(changes, name)):
+                os.symlink(os.path.join(built, name), os.path.join(changes, name))
 
     def feed_words(self, day: str, *more: str) -> Sequence[str]:
         """The words of office-feed on a day."""

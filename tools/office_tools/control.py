@@ -2,6 +2,10 @@
 
 `Packages` and `Sources` are read by apt, which takes them compressed in each way that it knows.
 """
+import io
+import os
+import re
+import stat
 import sys
 from dataclasses import dataclass
 from typing import Iterator, Mapping, Optional, Sequence, Union
@@ -10,6 +14,12 @@ import apt_pkg
 from debian import deb822
 
 from office_tools.faults import Fault, cause_of
+from office_tools.messages import BLANKS, WHITE
+
+STRANGE_LINE = re.compile(r"^(?![ \t]|\r?$|[!-9;-~]+:).+", re.MULTILINE)
+"""A line that neither continues a field nor begins with the name of one."""
+
+LONGEST_CHANGES = 16_000_000  # bytes of a file .changes that is read
 
 
 def sections(path: str, names: Sequence[str]) -> Iterator[Mapping[str, str]]:
@@ -20,9 +30,12 @@ def sections(path: str, names: Sequence[str]) -> Iterator[Mapping[str, str]]:
     """
     try:
         for section in opened(path):
-            strange = next((name for name in section.keys() if "\n" in name or " " in name), None)
+            # apt's own list of the names ends the process if one of them isn't ASCII.
+            strange = STRANGE_LINE.search(str(section))
             if strange is not None:
-                raise Fault(f"{path}: a line has no colon: {strange.splitlines()[0][:60]}")
+                name, colon, _ = strange[0].partition(":")
+                cause = "a field's name isn't ASCII" if colon and " " not in name else "a line has no colon"
+                raise Fault(f"{path}: {cause}: {shown(strange[0])}")
             values = ((name, section.get(name)) for name in names)
             yield {name: joined(value) for name, value in values if value is not None}
     except UnicodeDecodeError as fault:
@@ -45,7 +58,12 @@ def opened(path: str) -> Iterator[Mapping[str, str]]:
 
 def joined(value: str) -> str:
     """A value in one line."""
-    return " ".join(line.strip() for line in value.split("\n")) if "\n" in value else value
+    return " ".join(line.strip(BLANKS) for line in value.split("\n")) if "\n" in value else value
+
+
+def shown(text: str) -> str:
+    """The first 60 characters of a foreign text, those that can't be printed by their numbers."""
+    return text[:60] if text[:60].isprintable() else ascii(text[:60])[1:-1]
 
 
 @dataclass(frozen=True)
@@ -63,15 +81,40 @@ class Changes:
 
 
 def read_changes(path: str) -> Changes:
-    """The upload that a file `.changes` tells, signed or not. The signature isn't looked at."""
+    """The upload that a file `.changes` states, signed or not. The signature isn't checked.
+
+    A byte that isn't UTF-8 is read as its number. Whatever else is wrong with the file is the `Fault`.
+    """
     try:
-        with open(path, "rb") as file:
-            fields = deb822.Changes(file)
-    except (OSError, EOFError, ValueError) as fault:
-        raise Fault(f"{path}: {cause_of(fault)}") from fault
-    source, version = fields.get("Source", "").split(" ", 1)[0], fields.get("Version", "")
-    if not source or not version:
+        fields = deb822.Changes(io.BytesIO(read_regular(path).decode(errors="backslashreplace").encode()))
+        found = {name: str(fields.get(name, "")) for name in ("Source", "Version", "Architecture", "Urgency", "Date")}
+    except Fault:
+        raise
+    except Exception as fault:  # the library has faults of many types, and no file may end the command
+        raise Fault(f"{path}: {shown(cause_of(fault))}") from fault
+    words = {name: split_at_white(value) for name, value in found.items()}
+    if not words["Source"] or not words["Version"]:
         raise Fault(f"{path}: it states no source and version")
-    urgency = fields.get("Urgency", "").split()
-    return Changes(source, version, "source" in fields.get("Architecture", "").split(),
-                   urgency[0].lower() if urgency else None, fields.get("Date"))
+    urgency = words["Urgency"]
+    return Changes(words["Source"][0], found["Version"], "source" in words["Architecture"],
+                   urgency[0].lower() if urgency else None, found["Date"] or None)
+
+
+def split_at_white(value: str) -> Sequence[str]:
+    """The words of a value, which the office's white separates."""
+    return [word for word in re.split(f"[{WHITE}]+", value) if word]
+
+
+def read_regular(path: str) -> bytes:
+    """What a plain file holds. A pipe, which might never end, a device and a very long file are refused."""
+    try:
+        number = os.open(path, os.O_RDONLY | os.O_NONBLOCK)
+        with os.fdopen(number, "rb") as file:
+            kept = os.fstat(number)
+            if not stat.S_ISREG(kept.st_mode):
+                raise Fault(f"{path}: it is no plain file")
+            if kept.st_size > LONGEST_CHANGES:
+                raise Fault(f"{path}: it has {kept.st_size} bytes, and at most {LONGEST_CHANGES} are read")
+            return file.read(LONGEST_CHANGES)
+    except OSError as fault:
+        raise Fault(f"{path}: {cause_of(fault)}") from fault

@@ -1,11 +1,16 @@
 """office-order: the next order of a running office, over all mail that it keeps without a gap."""
 import argparse
+import datetime
 import sys
-from typing import Sequence
+from typing import Iterator, Mapping, Sequence
 
+from office_tools import reports
 from office_tools.accounts import service_at
 from office_tools.days import day, today
+from office_tools.faults import Fault
 from office_tools.mailing import is_held, mailed
+from office_tools.messages import label_of, paragraphs
+from office_tools.service import Kept, Service
 
 URL = "http://127.0.0.1:8080"
 REFUSED = 3
@@ -16,12 +21,16 @@ def parser() -> argparse.ArgumentParser:
     words = argparse.ArgumentParser(
         prog="office-order",
         description="Prints the next order of a running office, over all mail that it keeps without a gap.",
-        epilog="Status 0: it was printed, or with --send held. 2: the words are wrong. 3: the office refused it. "
-               "4: no office answers.")
+        epilog="Status 0: it was printed, or with --send held. 2: the words are wrong. 3: refused, by the office or "
+               "since the day or a gap isn't allowed. 4: no office answers.")
     words.add_argument("day", nargs="?", type=day, default=today(), metavar="DAY",
                        help="the day of the run, as 2025-03-20 (today by the system's clock, in UTC)")
     words.add_argument("--url", metavar="URL", default=URL, help=f"the service ({URL})")
     words.add_argument("--send", action="store_true", help="mails the order, and prints the reply in its place")
+    words.add_argument("--force", action="store_true",
+                       help="send an order of a day after today, or before the last order's")
+    words.add_argument("--gap", action="append", default=[], metavar="SENDER",
+                       help="send an order although mail of this sender is missing; may be repeated")
     return words
 
 
@@ -33,6 +42,44 @@ def main(words: Sequence[str]) -> int:
     if not asked.send:
         sys.stdout.write(text.decode())
         return 0
+    check_gaps(service.kept(), asked.gap)
+    if not asked.force:
+        check_day(service, text, asked.day)
     reply = mailed(service, text)
     print(reply)
     return 0 if is_held(reply) else REFUSED
+
+
+def check_gaps(kept: Mapping[str, Kept], allowed: Sequence[str]) -> None:
+    """Refuses an order over a gap: mail of a sender that is kept behind mail that is missing."""
+    unknown = [sender for sender in allowed if sender not in kept]
+    if unknown:
+        raise Fault(f"--gap {unknown[0]}: the office has no such sender", 2)
+    for sender, count in kept.items():
+        if count.greatest != count.unbroken and sender not in allowed:
+            raise Fault(f"{sender} {count.unbroken + 1} is missing, and {sender} {count.greatest} is kept: send what "
+                        f"is missing, or allow the gap by --gap {sender}", REFUSED)
+
+
+def check_day(service: Service, text: bytes, asked: datetime.date) -> None:
+    """Refuses a day after today, or before the last order's."""
+    if asked > today():
+        raise Fault(f"{asked} is after today, and no later run could have an earlier day: --force sends it", REFUSED)
+    last = max(ordered(service, text), default=asked)
+    if asked < last:
+        raise Fault(f"{asked} is before {last}, the day of the last order: the run would have that day. --force sends "
+                    "it", REFUSED)
+
+
+def ordered(service: Service, text: bytes) -> Iterator[datetime.date]:
+    """The date of the last finished run, and the days of the orders that wait."""
+    runs = reports.read_runs(service.good_text("/runs"), service.url + "/runs")
+    if runs:
+        yield runs[-1].date
+    label = label_of(text)
+    if label is None:
+        raise service.strange("/order")
+    for number in range(len(runs) + 1, label.number):
+        order = service.kept_text(label.sender, number)
+        if order is not None:
+            yield datetime.date.fromisoformat(next(paragraphs(order)).value("Day") or "")

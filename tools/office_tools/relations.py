@@ -10,11 +10,15 @@ from dataclasses import dataclass
 from typing import Optional, Sequence
 
 from office_tools import versions
+from office_tools.messages import WHITE
 
 NAME = re.compile(r"[a-z0-9][a-z0-9+.-]+")
 ARCHITECTURE = re.compile(r"[a-z0-9][a-z0-9-]{0,31}")
-ALTERNATIVE = re.compile(r"([a-z0-9][a-z0-9+.-]+)(?::[a-z0-9-]+)?\s*(?:\(\s*(<<|<=|=|>=|>>|<|>)\s*([^\s()]+)\s*\))?")
-SOURCE = re.compile(r"(\S+?)\s*(?:\(\s*(\S+?)\s*\))?")
+BLANK = r"[ \t\r\n]*"  # the office's white: Python's `\s` has more
+WORD = r"[^ \t\r\n]+?"
+ALTERNATIVE = re.compile(rf"([a-z0-9][a-z0-9+.-]+)(?::[a-z0-9-]+)?{BLANK}"
+                         rf"(?:\({BLANK}(<<|<=|=|>=|>>|<|>){BLANK}([^ \t\r\n()]+){BLANK}\))?")
+SOURCE = re.compile(rf"({WORD}){BLANK}(?:\({BLANK}({WORD}){BLANK}\))?")
 
 
 class Bad(Exception):
@@ -49,7 +53,7 @@ def written(clause: Clause) -> str:
 
 def items(value: str) -> Sequence[str]:
     """The items of a list by commas."""
-    return [item.strip() for item in value.split(",") if item.strip()]
+    return [item.strip(WHITE) for item in value.split(",") if item.strip(WHITE)]
 
 
 def checked_name(name: str, field: str) -> str:
@@ -77,9 +81,9 @@ def checked_version(version: str) -> str:
 @functools.lru_cache(maxsize=None)
 def alternative(text: str, field: str) -> Alternative:
     """One alternative of a relation."""
-    found = ALTERNATIVE.fullmatch(text.strip())
+    found = ALTERNATIVE.fullmatch(text.strip(WHITE))
     if not found:
-        raise Bad(f"bad {field} {text.strip()[:60]!r}")
+        raise Bad(f"bad {field} {text.strip(WHITE)[:60]!r}")
     if found[3] is not None:
         checked_version(found[3])
     return Alternative(found[1], found[2], found[3])

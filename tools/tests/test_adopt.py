@@ -142,7 +142,7 @@ class Adopt(unittest.TestCase):
             self.assertIn(cause, told.stderr)
         with open(self.path("Packages"), "w", encoding="utf-8"):
             pass
-        self.assertIn("the files name 0 architectures", self.adopt().stderr)
+        self.assertIn("begin with the indexes of unstable by office-from-packages", self.adopt().stderr)
 
 
 if __name__ == "__main__":

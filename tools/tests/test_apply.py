@@ -9,10 +9,14 @@ import unittest.mock
 from helpers import tool
 from office_tools import reports
 from office_tools.apply import marks
+from office_tools.apply.brakes import Terms
+from office_tools.apply.command import groups_of
 from office_tools.apply.contents import Contents, Indexes, Row, Source, difference, wanted
+from office_tools.apply.holding import Evidence
 from office_tools.apply.reprepro import Reprepro
 from office_tools.apply.turn import Turn
 from office_tools.faults import Fault
+from office_tools.look.judge import Broken, Package
 
 TESTING = """testing 3
 source app 2.0-1+b1
@@ -185,6 +189,9 @@ class Manager:
         self.asked.append("remove")
         self.there = Contents(self.there.sources - go.sources, self.there.rows - go.rows, self.there.built_of)
 
+    def published_folders(self):
+        return []
+
     def is_published(self, have):
         return have == self.shown
 
@@ -218,7 +225,6 @@ class Turns(unittest.TestCase):
 
     def test_refusals_change_nothing(self):
         for manager, text, status, asked in [
-                (Manager(self.OLD, self.OLD), self.TESTING, 3, []),
                 (Manager(self.OLD, self.NEW), "testing 1\n", 3, []),
                 (Manager(self.OLD, self.NEW), "testing 0\n", 3, []),
                 (Manager(self.OLD, self.NEW), self.TESTING.replace("amd64", "all"), 3, []),
@@ -228,10 +234,216 @@ class Turns(unittest.TestCase):
             self.assertEqual((refused.exception.status, manager.asked), (status, asked))
             self.assertEqual((manager.there, manager.shown), (self.OLD, self.OLD))
 
+    def test_without_a_judge_all_is_held_back(self):
+        manager = Manager(self.OLD, self.OLD)
+        self.assertEqual((self.turn(manager).compare(), self.turn(manager).apply()), (1, 1))
+        self.assertEqual((manager.asked, manager.there, manager.shown), ([], self.OLD, self.OLD))
+
     def test_dry_run(self):
         manager = Manager(self.OLD, self.NEW)
         self.assertEqual(self.turn(manager).compare(), 1)
         self.assertEqual((manager.asked, manager.there), ([], self.OLD))
+
+
+def suite(*told):
+    """A suite of sources, each with packages of amd64, written as `NAME VERSION PACKAGE ..`."""
+    built_of = {row(package, version): Source(name, version) for name, version, *packages in map(str.split, told)
+                for package in packages}
+    return Contents(frozenset(Source(*line.split()[:2]) for line in told), frozenset(built_of), built_of)
+
+
+def testing_text(*told):
+    """The same as the office prints it."""
+    sources = "".join(f"source {' '.join(line.split()[:2])}\n" for line in sorted(told))
+    return "testing 4\n" + sources + "".join(f"binary amd64 {package} {line.split()[1]} {line.split()[0]}\n"
+                                             for line in told for package in line.split()[2:])
+
+
+class Rules:
+    """A judge by the rules that a test states: a package breaks unless one of these versions of another is there."""
+
+    def __init__(self, **needs):
+        self.needs = needs
+
+    def broken(self, architecture, packages):
+        there = {(package.name, package.version) for package in packages}
+        return [Broken(package, "its needs", frozenset({other})) for package in packages
+                for other, versions in self.needs.get(f"{package.name}_{package.version}", [])
+                if not any((other, version) in there for version in versions)]
+
+
+class HeldBack(unittest.TestCase):
+    """What the archive no longer has stays as it is in testing, and all that rests on it; all else moves."""
+
+    def turn(self, manager, *told, judge=Rules(), groups=()):
+        self.told = []
+        known = {Package(item.name, item.version, item.architecture): f"Package: {item.name}\n"
+                 for contents in (manager.there, manager.from_there) for item in contents.rows}
+        evidence = Evidence(lambda names: groups, judge, ["amd64"], lambda: known)
+        return Turn(manager, reports.read_testing(testing_text(*told)), lambda line: None, self.told.append,
+                    evidence=evidence)
+
+    OLD = ("app 1 app", "lib 1 lib", "lone 1 lone", "mta 1 mta")
+
+    def applied(self, origin, want, **more):
+        manager = Manager(suite(*self.OLD), suite(*origin))
+        status = self.turn(manager, *want, **more).apply()
+        self.assertEqual(manager.shown, manager.there)
+        self.assertEqual(self.turn(manager, *want, **more).apply(), status)
+        return status, sorted(f"{source.name} {source.version}" for source in manager.there.sources)
+
+    def test_all_else_moves(self):
+        """lone 2 was withdrawn before it was copied."""
+        found = self.applied(("lone 3 lone", "mta 2 mta"), ("app 1 app", "lib 1 lib", "lone 2 lone", "mta 2 mta"))
+        self.assertEqual(found, (1, ["app 1", "lib 1", "lone 1", "mta 2"]))
+        self.assertEqual(self.told, ["held back: lone 2: there is no source lone 2 to copy"])
+
+    def test_what_needs_it_stays(self):
+        """app 2 needs lib 2, which isn't there; app 1 works with each."""
+        judge = Rules(app_2=[("lib", ["2"])])
+        found = self.applied(("app 2 app", "lib 3 lib", "mta 2 mta"),
+                             ("app 2 app", "lib 2 lib", "lone 1 lone", "mta 2 mta"), judge=judge)
+        self.assertEqual(found, (1, ["app 1", "lib 1", "lone 1", "mta 2"]))
+        self.assertIn("held back: app 2: app couldn't be installed on amd64: its needs", self.told)
+
+    def test_what_it_needs_stays(self):
+        """app 1 needs lib 1, and app 2 isn't there: lib 1 may not leave."""
+        judge = Rules(app_1=[("lib", ["1"])], app_2=[("lib", ["2"])])
+        found = self.applied(("lib 2 lib", "mta 2 mta"), ("app 2 app", "lib 2 lib", "lone 1 lone", "mta 2 mta"),
+                             judge=judge)
+        self.assertEqual(found, (1, ["app 1", "lib 1", "lone 1", "mta 2"]))
+
+    def test_a_group_stays_together(self):
+        found = self.applied(("lone 2 lone", "mta 2 mta"), ("app 1 app", "lib 2 lib", "lone 2 lone", "mta 2 mta"),
+                             groups=[frozenset({"lib", "lone"})])
+        self.assertEqual(found, (1, ["app 1", "lib 1", "lone 1", "mta 2"]))
+        self.assertIn("held back: lone 2: it moved in one group with lib", self.told)
+
+    def test_a_package_that_changes_its_source(self):
+        """lone 2 brings the package of lib, which lib 2 no longer has."""
+        found = self.applied(("lone 2 lone lib", "mta 2 mta"), ("app 1 app", "lib 2 lib2", "lone 2 lone lib",
+                                                                "mta 2 mta"))
+        self.assertEqual(found, (1, ["app 1", "lib 1", "lone 1", "mta 2"]))
+
+    def test_what_breaks_a_package_that_stays(self):
+        """app 1 stays and can't be installed with lone 2, which the judge names; if it names nothing, all stays."""
+        class Silent(Rules):
+
+            def broken(self, architecture, packages):
+                return [broken._replace(named=frozenset()) for broken in super().broken(architecture, packages)]
+
+        for judge, mta in ((Rules, "mta 2"), (Silent, "mta 1")):
+            found = self.applied(("lone 2 lone", "mta 2 mta"), ("app 1 app", "lib 2 lib", "lone 2 lone", "mta 2 mta"),
+                                 judge=judge(app_1=[("lone", ["1"])]))
+            self.assertEqual(found, (1, ["app 1", "lib 1", "lone 1", mta]))
+
+    def test_without_a_judge(self):
+        found = self.applied(("mta 2 mta",), ("app 1 app", "lib 1 lib", "lone 2 lone", "mta 2 mta"), judge=None)
+        self.assertEqual(found, (1, ["app 1", "lib 1", "lone 1", "mta 1"]))
+
+    def test_packages_without_a_source(self):
+        """The archive has no version of the source vendor; its packages come, and that is printed."""
+        vendor = Contents(frozenset(), frozenset({row("vendor-tool", "1")}),
+                          {row("vendor-tool", "1"): Source("vendor", "1")})
+        manager = Manager(suite(*self.OLD), vendor)
+        turn = self.turn(manager, *self.OLD, "vendor 1 vendor-tool")
+        self.assertEqual((turn.apply(), turn.apply(), turn.compare()), (0, 0, 0))
+        self.assertIn(row("vendor-tool", "1"), manager.shown.rows)
+        self.assertEqual(self.told[0], "no version of these sources is in the archive, and their packages come "
+                                       "without: vendor 1")
+
+    def test_kinds_that_stay_out(self):
+        origin = suite("mta 2 mta")
+        manager = Manager(suite(*self.OLD), Contents(origin.sources, origin.rows, origin.built_of, {"udeb": 3}))
+        self.turn(manager, *self.OLD[:3], "mta 2 mta").apply()
+        self.assertEqual(self.told,
+                         ["left out: 3 packages of the kind udeb: the office decides about none of them"])
+
+    def test_groups_of_runs(self):
+        """From the last run back, until the move of each source is found."""
+        updates = {3: "easy 1 accept app 2 lib 2\n", 2: "accept mta 2\neasy 4 accept lone 2 other 1\n",
+                   1: "accept app 1\n"}
+        asked = []
+
+        class Service:
+
+            def update(self, number):
+                asked.append(number)
+                return reports.read_update(f"update {number} 2025-03-20\n" + updates[number])
+
+        find = groups_of(Service(), 3)
+        self.assertEqual(find(frozenset({"lib", "mta"})), [frozenset({"app", "lib"})])
+        self.assertEqual(asked, [3, 2])
+        self.assertEqual(groups_of(None, 3)(frozenset({"lib"})), [])
+
+
+class Brakes(unittest.TestCase):
+    """How much may leave testing, and that nothing goes back, unless it is allowed."""
+
+    def refusal(self, manager, told, **terms):
+        turn = Turn(manager, reports.read_testing(testing_text(*told)), lambda line: None, lambda line: None,
+                    Terms(**terms))
+        try:
+            return turn.apply()
+        except Fault as fault:
+            self.assertEqual((fault.status, manager.asked), (3, []))
+            return fault.cause
+
+    def much(self, count, gone):
+        """What is refused if this many of this many packages go."""
+        told = [f"p{number} 1 p{number}" for number in range(count)]
+        return lambda **terms: self.refusal(Manager(suite(*told), suite()), told[gone:], **terms)
+
+    def test_more_than_twenty_and_two_in_a_hundred(self):
+        self.assertEqual(self.much(30, 20)(), 0)
+        self.assertEqual(self.much(1050, 21)(), 0)
+        self.assertRegex(self.much(1049, 21)(), r"^21 of 1049 packages would go out of testing: p0 amd64, .* and 11 "
+                                                r"more: nothing is changed unless --gone 21 allows it$")
+
+    def test_an_allowed_number(self):
+        self.assertEqual(self.much(30, 25)(gone=25), 0)
+        self.assertRegex(self.much(30, 25)(gone=24), "unless --gone 25")
+        self.assertRegex(self.much(30, 1)(gone=0), "unless --gone 1")
+
+    def test_an_upgrade_is_no_loss(self):
+        old, new = ([f"p{number} {version} p{number}" for number in range(30)] for version in (1, 2))
+        self.assertEqual(self.refusal(Manager(suite(*old), suite(*new)), new), 0)
+
+    def test_back(self):
+        def manager():
+            return Manager(suite("lone 2 lone", "mta 1 mta"), suite("lone 1 lone"))
+        told = ("lone 1 lone", "mta 1 mta")
+        self.assertRegex(self.refusal(manager(), told), "^testing would go back to lower versions: lone 2 to 1: .* "
+                                                        "nothing is changed unless --back allows it$")
+        self.assertEqual(self.refusal(manager(), told, back=True), 0)
+
+    def test_a_mark_is_no_way_back(self):
+        """A rebuilt source has the archive's own version, which is below the told one."""
+        manager = Manager(suite("lone 2 lone", "mta 1 mta"), suite())
+        self.assertEqual(self.refusal(manager, ("lone 2+b1 lone", "mta 1 mta")), 1)
+
+
+class Locks(unittest.TestCase):
+
+    def test_a_lock_that_was_left(self):
+        """The message of a reprepro that finds a lock."""
+        folder = tempfile.mkdtemp()
+        self.addCleanup(shutil.rmtree, folder)
+        os.mkdir(os.path.join(folder, "db"))
+        lock = os.path.join(folder, "db", "lockfile")
+        told = Fault(f"reprepro: The lock file '{lock}' already exists.", 4)
+        with unittest.mock.patch("office_tools.apply.reprepro.run", side_effect=told):
+            for is_there, due in ((False, "already exists"), (True, "left by a reprepro that was ended")):
+                if is_there:
+                    with open(lock, "w", encoding="utf-8"):
+                        pass
+                with self.assertRaises(Fault) as raised:
+                    Reprepro(folder, "ordered", "testing").testing()
+                self.assertIn(due, raised.exception.cause)
+            with unittest.mock.patch("office_tools.apply.reprepro.users", return_value=iter(["17"])):
+                with self.assertRaises(Fault) as raised:
+                    Reprepro(folder, "ordered", "testing").testing()
+                self.assertIn("already exists", raised.exception.cause)
 
 
 class Command(unittest.TestCase):
@@ -294,6 +506,20 @@ class Command(unittest.TestCase):
         self.assertEqual((told.returncode, told.stdout), (0, PACKAGES + "\n"))
         told = self.apply("select", "amd64", self.file("Packages", PACKAGES.replace("5-1", "5-2")))
         self.assertEqual((told.returncode, told.stderr), (1, "office-apply: the files have no all guide-doc 5-1\n"))
+
+    def test_files_that_cannot_be_read(self):
+        """A list of files without names counts as no Release, and an index has to be UTF-8."""
+        os.makedirs(os.path.join(self.folder, "dists"))
+        for text in ("SHA256:\n abc\n", "SHA256: x\n"):
+            self.file("dists/Release", text)
+            told = self.apply("compare", os.path.join(self.folder, "dists"))
+            self.assertEqual(told.returncode, 3, told.stderr)
+            self.assertIn("its indexes aren't those that its file Release states", told.stderr)
+        path = self.file("Packages", "")
+        with open(path, "wb") as file:
+            file.write(b"Package: app\nVersion: 1\nArchitecture: amd64\nDescription: \xe5\n")
+        told = self.apply("select", "amd64", path)
+        self.assertEqual((told.returncode, told.stderr), (1, f"office-apply: {path}: it is no text in UTF-8\n"))
 
     def test_refusals(self):
         for words, status, cause in [

@@ -21,10 +21,10 @@ Urgency: high
 """
 
 
-def package(name, version, *, source="", depends="", architecture="amd64"):
+def package(name, version, *, source="", depends="", provides="", architecture="amd64"):
     """A paragraph of Packages."""
     fields = [("Package", name), ("Source", source), ("Version", version), ("Architecture", architecture),
-              ("Depends", depends)]
+              ("Depends", depends), ("Provides", provides)]
     return "".join(f"{field}: {value}\n" for field, value in fields if value) + "\n"
 
 
@@ -116,9 +116,13 @@ class Feeds(Feeding):
                          "uploads 1, drops 2, builds 1, hints 1, unhints 0, orders 1")
         self.assertEqual((self.hint(1).value("Hint"), self.hint(1).value("Gone")), ("remove app/1", "app 1"))
         self.assertEqual(self.service.good_text("/update/3"), "update 3 2025-03-09\nremove 1 accept app 1\n")
-        self.assertEqual(self.feed(without + FIRST, "2025-03-10")[0][0],
-                         "uploads 0, drops 0, builds 0, hints 0, unhints 1, orders 1")
+        # The hint is done; and the packages that were dropped are back, and are told again.
+        printed, told = self.feed(without + FIRST, "2025-03-10", status=1)
+        self.assertEqual(printed[0], "uploads 0, drops 0, builds 1, hints 0, unhints 1, orders 1")
+        self.assertEqual(told[-1], "office-feed: app arm64 1: it is back below 1, which was dropped: told as 1+back1")
         self.assertEqual(self.hint(2).value("Cancels"), "1")
+        self.assertEqual(self.service.good_text("/update/4"), "update 4 2025-03-10\naccept app 1\n")
+        self.assertIn("binary amd64 app 1+back1 app", self.service.good_text("/testing"))
 
     def test_order(self):
         self.assertEqual(self.feed(FIRST, "2025-03-03", "--no-order")[0][1], "ready 0 finished 0")
@@ -138,8 +142,9 @@ class Feeds(Feeding):
         with Serving(SETUP) as other:
             told = tool("office-feed", "--url", other.url, "--cache", self.path("cache"), "--day", "2025-03-04",
                         self.file("Packages", FIRST))
-            self.assertEqual(told.stdout.splitlines()[0], "uploads 2, drops 0, builds 2, hints 0, unhints 0, orders 1")
-        self.assertIn("it isn't what this office keeps, and is made anew", told.stderr)
+            self.assertEqual(told.returncode, 3)
+            self.assertEqual(sum(count.kept for count in Service(other.url).kept().values()), 0)
+        self.assertIn("the office lacks mail that it kept before: ftp 1 to 2, bd 1 to 2, clock 1 to 1", told.stderr)
 
     def test_a_run_that_waits(self):
         """No order is piled upon one that waits."""
@@ -252,12 +257,12 @@ Role: runs
 
 @needs_office
 class Rebuilding(Folder):
-    """A rebuild is told under a version of its own, as often as there are spare senders."""
+    """A rebuild is told under a version of its own: by the spare senders, and then under made-up versions."""
 
-    def feed(self, packages, *more, rebuilds=("--rebuilds",)):
+    def feed(self, packages, *more, rebuilds=("--rebuilds",), status=0):
         ended = tool("office-feed", "--url", self.service.url, "--cache", self.path("cache"), "--day", "2025-03-09",
                      *rebuilds, *more, self.file("Packages", packages))
-        self.assertEqual(ended.returncode, 0, ended.stderr)
+        self.assertEqual(ended.returncode, status, ended.stderr)
         return ended.stdout.splitlines()[0], ended.stderr.splitlines()
 
     BOTH = package("lib1", "1", source="lib") + package("lib-data", "1", source="lib", architecture="all") + \
@@ -274,13 +279,13 @@ class Rebuilding(Folder):
                                                                 "lib\nVersion: 1\nArchitecture: all")
             self.feed(once, rebuilds=())
             self.assertEqual(self.service.good_text("/update/2"), "update 2 2025-03-09\n")
-            self.assertEqual(self.feed(once)[0], "uploads 1, drops 0, builds 1, hints 0, unhints 0, orders 1")
+            self.assertEqual(self.feed(once, status=1)[0], "uploads 1, drops 0, builds 1, hints 0, unhints 0, orders 1")
             self.assertEqual(self.service.good_text("/update/3"), "update 3 2025-03-09\naccept lib 1+b1\n")
             self.assertEqual(self.service.good_text("/testing").splitlines()[2:], [
                 "binary amd64 lib1 1+b1 lib", "binary arm64 lib1 1+b1 lib", "binary all lib-data 1 lib"])
             self.assertEqual(self.feed(once)[0], "uploads 0, drops 0, builds 0, hints 0, unhints 0, orders 0")
 
-    def test_as_often_as_there_are_spare_senders(self):
+    def test_behind_the_last_spare_sender(self):
         self.file("changes/lib.changes", CHANGES)
         both = self.BOTH
         with Serving(self.file("setup.conf", SPARE_SETUP)) as office:
@@ -289,15 +294,20 @@ class Rebuilding(Folder):
             self.assertEqual(self.service.good_text("/update/1"), "update 1 2025-03-09\naccept lib 1\n")
             once = both.replace("Version: 1\nArchitecture: amd64", "Version: 1+b1\nArchitecture: amd64") \
                 .replace("lib\nVersion: 1+b1", "lib (1)\nVersion: 1+b1")
-            self.assertEqual(self.feed(once), ("uploads 1, drops 0, builds 2, hints 0, unhints 0, orders 1",
-                                               ["office-feed: lib: rebuilt: told as 1+b1"]))
+            self.assertEqual(self.feed(once, status=1), (
+                "uploads 1, drops 0, builds 2, hints 0, unhints 0, orders 1",
+                ["office-feed: lib: rebuilt: told as 1+b1", "office-feed: lib: its last spare sender is used: its next "
+                 "rebuild takes made-up versions of packages"]))
             self.assertEqual(self.service.good_text("/update/2"), "update 2 2025-03-09\naccept lib 1+b1\n")
             self.assertEqual(self.service.good_text("/testing").splitlines()[2:], [
                 "binary amd64 lib1 1+b1 lib", "binary arm64 lib1 1 lib", "binary all lib-data 1 lib"])
             self.assertEqual(self.feed(once)[0], "uploads 0, drops 0, builds 0, hints 0, unhints 0, orders 0")
-            told = self.feed(once.replace("1+b1", "1+b2"))[1]
-            self.assertEqual(told, ["office-feed: lib 1: rebuilt, and left out: no spare sender of builds is left for "
-                                    "lib-data"])
+            twice = once.replace("1+b1", "1+b2")
+            self.assertEqual(self.feed(twice)[1], ["office-feed: lib: rebuilt: told as 1+b2"])
+            self.assertEqual(self.service.good_text("/update/3"), "update 3 2025-03-09\naccept lib 1+b2\n")
+            self.assertEqual(self.service.good_text("/testing").splitlines()[2:], [
+                "binary amd64 lib1 1+b2 lib", "binary arm64 lib1 1+back1 lib", "binary all lib-data 1+back1 lib"])
+            self.assertEqual(self.feed(twice)[0], "uploads 0, drops 0, builds 0, hints 0, unhints 0, orders 0")
 
 
 class Fetching(Folder):

@@ -80,7 +80,10 @@ class FirstWeek(Folder):
         with open(self.path("week/setup.conf"), "rb") as file:
             setup = setups.parse(file.read())
         self.assertEqual(list(setup.architectures), ["amd64"])
-        self.assertEqual(setup.senders, setups.parse(example("setup.conf")).senders)
+        plain = setups.parse(example("setup.conf")).senders
+        self.assertEqual({name: setup.senders[name] for name in plain}, plain)
+        self.assertEqual(list(setup.senders), ["ftp", "hand", *(f"again{number}" for number in range(8, 0, -1)), "bd",
+                                               "bts", "rt", "clock"])
 
     @needs_office
     def test_next_day(self):

@@ -16,21 +16,13 @@ from office_tools.from_packages import mail, told
 from office_tools.from_packages.binaries import Binary, fitting, read_binaries
 from office_tools.from_packages.sent import Sent
 from office_tools.from_packages.sources import Arrival, read_sources
-from office_tools.messages import Label, Role, Urgency
+from office_tools.messages import Label, Urgency
 
 NAME = "office-adopt"
 LONG_AGO = 10  # days that an upload of the urgency low waits, where nothing else is said
-MOST_SPARES, MOST_ARCHITECTURES = 8, 16
+MOST_ARCHITECTURES = 16
 
 tell = functools.partial(faults.tell, NAME)
-
-
-def spares(word: str) -> int:
-    """How many spare senders of builds there are."""
-    found = int(word)
-    if not 0 <= found <= MOST_SPARES:
-        raise ValueError(word)
-    return found
 
 
 def parser() -> argparse.ArgumentParser:
@@ -42,22 +34,15 @@ def parser() -> argparse.ArgumentParser:
                "are wrong. 4: the program office didn't answer.")
     words.add_argument("--day", type=days.day, default=days.today(),
                        help="the day of the first run, as 2025-03-20 (today by the system's clock, in UTC)")
-    words.add_argument("--spare", type=spares, default=2, metavar="N",
-                       help=f"how many spare senders of builds stand before bd in the setup: 0 to {MOST_SPARES} (2)")
+    words.add_argument("--spare", type=mail.spares, default=mail.MOST_SPARES, metavar="N",
+                       help=f"how many spare senders of builds stand before bd in the setup: 0 to {mail.MOST_SPARES} "
+                            f"({mail.MOST_SPARES})")
     words.add_argument("--dry-run", action="store_true", help="tell what would be told otherwise, and write nothing")
     words.add_argument("--no-check", action="store_true", help="don't ask the program office what comes of the bag")
     words.add_argument("--sources", action="append", default=[], metavar="SOURCES", help="a file Sources of testing")
     words.add_argument("folder", metavar="FOLDER", help="where both files are written")
     words.add_argument("packages", metavar="PACKAGES", nargs="+", help="a file Packages of testing")
     return words
-
-
-def setup_of(architectures: Sequence[str], count: int) -> setups.Setup:
-    """The setup: an upload sender for what is sent by hand, and the spare senders of builds, the last one first."""
-    senders: dict[str, Role] = {"ftp": Role.UPLOAD, "hand": Role.UPLOAD}
-    senders.update({f"again{number}": Role.BUILD for number in range(count, 0, -1)})
-    senders.update(mail.SENDERS)
-    return setups.Setup(architectures, senders)
 
 
 def letters(setup: str, binaries: Sequence[Binary], sources: Mapping[str, str], day: datetime.date) -> Sequence[bytes]:
@@ -111,7 +96,9 @@ def main(words: Sequence[str]) -> int:
     asked = parser().parse_args(words)
     told.NAME = NAME
     found, architectures = read_binaries(asked.packages)
-    if not architectures or len(architectures) > MOST_ARCHITECTURES:
+    if not architectures:
+        raise Fault("testing has no package: begin with the indexes of unstable by office-from-packages")
+    if len(architectures) > MOST_ARCHITECTURES:
         raise Fault(f"the files name {len(architectures)} architectures; 1 to {MOST_ARCHITECTURES} are taken")
     fit = list(fitting(found))
     current = read_sources(asked.sources, fit)
@@ -126,7 +113,7 @@ def main(words: Sequence[str]) -> int:
     if asked.dry_run:
         return 0
     setup = os.path.join(asked.folder, "setup.conf")
-    write_whole(setup, setups.written(setup_of(architectures, asked.spare)))
+    write_whole(setup, setups.written(setups.Setup(architectures, mail.senders(asked.spare))))
     bag = b"".join(map(bags.framed, letters(setup, binaries, sources, asked.day)))
     write_whole(os.path.join(asked.folder, "bag"), bag)
     return 0 if asked.no_check else checked(setup, bag, read_indexes([("", path) for path in asked.packages],

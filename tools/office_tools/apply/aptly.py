@@ -1,4 +1,5 @@
-"""Local repositories of aptly."""
+"""Local repositories of aptly. Packages of installers (udeb) are left alone."""
+import dataclasses
 import json
 import os
 import re
@@ -13,6 +14,7 @@ from office_tools.files import read_bytes
 FORMAT = "{{.ShortKey}} {{.Source}}"
 KEY = re.compile(r"P(\S+) (\S+) (\S+) (.*)")
 NO_VALUE = "<no value>"
+INSTALLERS = "$PackageType (udeb)"
 
 
 class Aptly:
@@ -52,13 +54,22 @@ class Aptly:
         except Fault as fault:
             raise Fault(fault.cause, REFUSED) from fault
 
+    def search(self, repository: str, query: str) -> Sequence[str]:
+        """The lines by which aptly prints the packages that a query finds."""
+        try:
+            return self.aptly("repo", "search", f"-format={FORMAT}", repository, query).splitlines()
+        except Fault as fault:
+            if "no results" in fault.cause:
+                return []
+            raise
+
     def listed(self, repository: str) -> Contents:
         """What a repository has."""
         if re.search(r"^Number of packages: 0$", self.shown(repository), re.MULTILINE):
             return Contents()
         sources: set[Source] = set()
         built_of: dict[Row, Source] = {}
-        for line in self.aptly("repo", "search", f"-format={FORMAT}", repository).splitlines():
+        for line in self.search(repository, f"!{INSTALLERS}"):
             found = KEY.fullmatch(line)
             if found is None:
                 raise Fault(f"aptly: it tells a package by {line!r}", REFUSED)
@@ -76,7 +87,8 @@ class Aptly:
 
     def origin(self) -> Contents:
         """What the repository has that packages come from."""
-        return self.listed(self.origin_name)
+        others = len(self.search(self.origin_name, INSTALLERS))
+        return dataclasses.replace(self.listed(self.origin_name), other_kinds={"udeb": others} if others else {})
 
     def copy(self, come: Contents) -> None:
         """Copies these sources and rows."""
@@ -87,6 +99,10 @@ class Aptly:
         """Takes these sources and rows out."""
         for part in parts(references(go)):
             self.aptly("repo", "remove", self.testing_name, *part)
+
+    def published_folders(self) -> Sequence[str]:
+        """The folders by which both repositories are published, each under its own name."""
+        return [self.folder(), os.path.join(os.path.dirname(self.folder()), self.origin_name)]
 
     def is_published(self, have: Contents) -> bool:
         """Whether the indexes of testing are whole and have this."""

@@ -8,13 +8,18 @@ from office_tools import faults, reports
 from office_tools.accounts import service_at
 from office_tools.apply import heidi, marks
 from office_tools.apply.aptly import Aptly
+from office_tools.apply.brakes import Terms
 from office_tools.apply.contents import ALL, REFUSED, Contents, Indexes, check_taken, difference, wanted
+from office_tools.apply.holding import Evidence, Groups
 from office_tools.apply.managers import Manager, locked
-from office_tools.apply.published import is_whole, raw_sections, read_folder, read_indexes, read_release
+from office_tools.apply.published import is_whole, packages_of, raw_sections, read_folder, read_indexes, read_release
 from office_tools.apply.reprepro import Reprepro
 from office_tools.apply.turn import Turn, counts, tell_idle
 from office_tools.faults import Fault
 from office_tools.files import read_bytes
+from office_tools.look.judge import judge, read_known
+from office_tools.reports import Outcome
+from office_tools.service import Service
 
 NAME = "office-apply"
 URL = "http://127.0.0.1:8080"
@@ -27,12 +32,15 @@ def parser() -> argparse.ArgumentParser:
     """The command's words."""
     words = argparse.ArgumentParser(
         prog=NAME, description="Makes the suite testing of an archive what the office's testing says.",
-        epilog="Status 0: it is. 1: it isn't, or with --dry-run something would change; each difference is printed. "
-               "2: the words are wrong. 3: refused, and nothing was changed. 4: the office or the archive's manager "
-               "failed.")
+        epilog="Status 0: it is. 1: it isn't, since something is held back, or with --dry-run something would change; "
+               "each difference is printed. 2: the words are wrong. 3: refused, and nothing was changed. 4: the office "
+               "or the archive's manager failed.")
     words.add_argument("--url", help=f"the service ({URL})")
     words.add_argument("--testing", metavar="FILE", help="the text of testing, in place of a service's")
     words.add_argument("--dry-run", action="store_true", help="print what would change, and change nothing")
+    words.add_argument("--gone", type=count, metavar="N",
+                       help="how many packages may leave testing (20, or 2 %% if that is more)")
+    words.add_argument("--back", action="store_true", help="allow sources to go back to a lower version")
     managers = words.add_subparsers(dest="manager", required=True, metavar="MANAGER")
     part = managers.add_parser("reprepro", help="an archive of reprepro: copies from the suite FROM into TESTING")
     part.add_argument("base", metavar="BASE", help="the archive's folder, with conf and db")
@@ -62,6 +70,13 @@ def parser() -> argparse.ArgumentParser:
     return words
 
 
+def count(word: str) -> int:
+    """A count that a word states, from 0 on; any other word is a `ValueError`."""
+    if not word.isdecimal():
+        raise ValueError(word)
+    return int(word)
+
+
 def manager_of(asked: argparse.Namespace) -> tuple[Manager, str]:
     """The manager that the words name, and the file or the folder by which its archive is locked."""
     if asked.manager == "aptly":
@@ -79,7 +94,23 @@ def testing_of(url: Optional[str], path: Optional[str]) -> reports.Testing:
         raise Fault(f"{path}: it is no text in UTF-8") from fault
 
 
-def to_heidi(testing: reports.Testing, path: str, published: Optional[Contents], is_dry: bool) -> int:
+def groups_of(service: Optional[Service], finished: int) -> Groups:
+    """How to find the groups by which runs moved sources: from the last run back until the move of each is found."""
+    def found(names: frozenset[str]) -> Sequence[frozenset[str]]:
+        groups: list[frozenset[str]] = []
+        left = set(names)
+        number = finished if service else 0
+        while service and left and number:
+            moved = [frozenset(item.source for item in change.items) for change in service.update(number).changes
+                     if change.outcome is Outcome.ACCEPTED]
+            groups += [group for group in moved if len(group) > 1 and group & left]
+            left -= {name for group in moved for name in group}
+            number -= 1
+        return groups
+    return found
+
+
+def to_heidi(testing: reports.Testing, path: str, published: Optional[Contents], terms: Terms, is_dry: bool) -> int:
     """Writes the file where it isn't what the office wants, and prints what changes.
 
     The file sets the suite whole, so what is left alone of the published indexes stands in it, too.
@@ -87,6 +118,8 @@ def to_heidi(testing: reports.Testing, path: str, published: Optional[Contents],
     architectures = sorted({row.architecture for row in testing.rows})
     want, have = wanted(testing, architectures, Indexes.ONCE), heidi.read(path)
     check_taken(want, have)
+    there = have if published is None else published
+    terms.check(want, there, difference(want, there), testing.sources)
     if published is not None:
         if not published.sources:
             raise Fault("no file Sources is there: what is left alone would leave the suite", REFUSED)
@@ -136,11 +169,11 @@ def select(testing: reports.Testing, architecture: str, paths: Sequence[str]) ->
     want = {(row.package, marks.package_version(row.version), row.architecture) for row in testing.rows
             if row.architecture in (architecture, ALL)}
     for path in paths:
-        for paragraph in raw_sections(path):
+        for paragraph, text in raw_sections(path):
             key = tuple(paragraph.get(name, "") for name in ("Package", "Version", "Architecture"))
             if key in want:
                 want.remove((key[0], key[1], key[2]))
-                print(str(paragraph).rstrip("\n"), end="\n\n")
+                print(text.rstrip("\n"), end="\n\n")
     for name, version, own in sorted(want):
         tell(f"the files have no {own} {name} {version}")
     return int(bool(want))
@@ -155,14 +188,20 @@ def main(words: Sequence[str]) -> int:
     if asked.manager == "heidi" and asked.sources and not asked.packages:
         known.error("name files Packages, too")
     testing = testing_of(asked.url, asked.testing)
+    terms = Terms(asked.gone, asked.back)
     if asked.manager == "heidi":
         published = indexes_of(asked.packages, asked.sources) if asked.packages else None
-        return to_heidi(testing, asked.file, published, asked.dry_run)
+        return to_heidi(testing, asked.file, published, terms, asked.dry_run)
     if asked.manager == "select":
         return select(testing, asked.architecture, asked.packages)
     if asked.manager == "compare":
         return compared(testing, asked.packages, asked.sources)
     manager, place = manager_of(asked)
     locked(place)
-    turn = Turn(manager, testing, print, tell)
+    service = service_at(asked.url or URL) if asked.testing is None else None
+    architectures = list(dict.fromkeys(row.architecture for row in testing.rows if row.architecture != ALL))
+    evidence = Evidence(groups_of(service, testing.finished), judge(), architectures,
+                        lambda: read_known(
+                            [path for folder in manager.published_folders() for path in packages_of(folder)]))
+    turn = Turn(manager, testing, print, tell, terms, evidence)
     return turn.compare() if asked.dry_run else turn.apply()

@@ -32,11 +32,13 @@ class Contents:
     """The sources and the binary packages of a suite, and the source that each of these is of, where known.
 
     In an archive that is the source that it was built of, in the office's testing the one that it is told under.
+    `other_kinds` counts the packages of kinds that the office decides nothing about, as udeb.
     """
 
     sources: frozenset[Source] = frozenset()
     rows: frozenset[Row] = frozenset()
     built_of: Mapping[Row, Source] = field(default_factory=dict, compare=False)
+    other_kinds: Mapping[str, int] = field(default_factory=dict, compare=False)
 
     def without(self, other: "Contents") -> "Contents":
         """What is here and not there."""

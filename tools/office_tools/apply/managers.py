@@ -32,6 +32,9 @@ class Manager(Protocol):
     def remove(self, go: Contents) -> None:
         """Takes these sources and rows out of testing, the sources first."""
 
+    def published_folders(self) -> Sequence[str]:
+        """The folders dists/SUITE by which testing and the other suite are published."""
+
     def is_published(self, have: Contents) -> bool:
         """Whether clients see that testing has this, and all files of its indexes fit each other."""
 
@@ -61,11 +64,16 @@ def parts(items: Sequence[str]) -> Iterator[Sequence[str]]:
 
 def locked(path: str) -> int:
     """Locks a file or a folder of the archive against another office-apply, until this process ends."""
+    return locked_for(path, "office-apply", " on this archive")
+
+
+def locked_for(path: str, name: str, where: str = "") -> int:
+    """Locks a file or a folder against another command of this name, until this process ends."""
     try:
         number = os.open(path, os.O_RDONLY)
         fcntl.flock(number, fcntl.LOCK_EX | fcntl.LOCK_NB)
         return number
     except BlockingIOError as fault:
-        raise Fault(f"{path}: another office-apply works on this archive", REFUSED) from fault
+        raise Fault(f"{path}: another {name} works{where}", REFUSED) from fault
     except OSError as fault:
         raise Fault(f"{path}: {cause_of(fault)}", REFUSED) from fault

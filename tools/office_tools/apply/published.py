@@ -38,10 +38,13 @@ def read_indexes(packages: Sequence[tuple[str, str]], sources: Sequence[str]) ->
     return Contents(frozenset(found), frozenset(built_of), built_of)
 
 
-def raw_sections(path: str) -> Iterator[Mapping[str, str]]:
-    """The paragraphs of a file as apt reads them; each one's text is what stands there."""
+def raw_sections(path: str) -> Iterator[tuple[Mapping[str, str], str]]:
+    """The paragraphs of a file as apt reads them, each with its text."""
     try:
-        yield from opened(path)
+        for section in opened(path):
+            yield section, str(section)
+    except UnicodeDecodeError as fault:
+        raise Fault(f"{path}: it is no text in UTF-8") from fault
     except OSError as fault:
         raise Fault(f"{path}: {cause_of(fault)}") from fault
     except apt_pkg.Error as fault:
@@ -84,6 +87,15 @@ def is_whole(folder: str, stated: Stated) -> bool:
     return True
 
 
+def packages_of(folder: str) -> Sequence[str]:
+    """The files Packages of a suite's folder that Release states; none where there is no such folder."""
+    stated = read_release(folder) or {}
+    paths = [[os.path.join(folder, name) for name in sorted(files)] for stem, files in sorted(stated.items())
+             if os.path.basename(stem) == "Packages"]
+    there = [[path for path in part if os.path.exists(path)] for part in paths]
+    return [part[0] for part in there if part]
+
+
 def read_folder(folder: str, stated: Stated, indexes: Indexes) -> Contents:
     """What the indexes have that Release states."""
     packages: list[tuple[str, str]] = []
@@ -99,14 +111,22 @@ def read_folder(folder: str, stated: Stated, indexes: Indexes) -> Contents:
 
 
 def read_release(folder: str) -> Optional[Stated]:
-    """The files of each index of packages that Release states, with their digests; None where there is no Release."""
+    """The files of each index of packages that Release states, with their digests.
+
+    None if there is no Release, or one that isn't control data with lists of files.
+    """
+    path = os.path.join(folder, "Release")
     try:
-        with open(os.path.join(folder, "Release"), "rb") as file:
-            entries = deb822.Release(file).get("SHA256", [])
+        with open(path, "rb") as file:
+            entries = list(deb822.Release(file.read().decode(errors="backslashreplace")).get("SHA256", []))
     except FileNotFoundError:
         return None
-    except (OSError, ValueError) as fault:
-        raise Fault(f"{folder}/Release: {cause_of(fault)}") from fault
+    except OSError as fault:
+        raise Fault(f"{path}: {cause_of(fault)}") from fault
+    except Exception:  # the library has faults of many types
+        return None
+    if not all("name" in entry and "sha256" in entry for entry in entries):
+        return None
     found: Stated = {}
     for entry in entries:
         name = entry["name"]

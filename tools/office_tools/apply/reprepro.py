@@ -1,9 +1,10 @@
 """Suites of an archive that reprepro manages."""
 import os
-from typing import Optional, Sequence
+from collections import Counter
+from typing import Iterator, Optional, Sequence
 
 from office_tools.apply.contents import REFUSED, Contents, Indexes, Row, Source
-from office_tools.apply.managers import parts, run
+from office_tools.apply.managers import UNANSWERED, parts, run
 from office_tools.apply.published import shows
 from office_tools.faults import Fault
 
@@ -24,8 +25,16 @@ class Reprepro:
         self.dists = dists or os.path.join(base, "dists")
 
     def reprepro(self, *words: str) -> str:
-        """What a command prints."""
-        return run(["reprepro", "--waitforlock", "3", "--basedir", self.base, *words])
+        """What a command prints. A lock that an ended reprepro left is named."""
+        try:
+            return run(["reprepro", "--waitforlock", "3", "--basedir", self.base, *words])
+        except Fault as fault:
+            lock = os.path.join(self.base, "db", "lockfile")
+            if not os.path.exists(lock) or "lock file" not in fault.cause or any(users(self.base)):
+                raise
+            raise Fault(f"{lock}: it was left by a reprepro that was ended, and no reprepro runs here: remove it "
+                        "(unless another machine works on this archive), and run this command again",
+                        UNANSWERED) from fault
 
     def architectures(self) -> Sequence[str]:
         """The architectures of testing; a suite that isn't there is refused."""
@@ -45,6 +54,7 @@ class Reprepro:
         """What a suite has by reprepro's own tables."""
         sources: set[Source] = set()
         built_of: dict[Row, Source] = {}
+        others: Counter[str] = Counter()
         for line in self.reprepro("--list-format", LIST, "list", suite).splitlines():
             # A source may have several architectures, as `any all`.
             place, kind, name, version, source, source_version, architecture = line.split(" ", 6)
@@ -52,7 +62,9 @@ class Reprepro:
                 sources.add(Source(name, version))
             elif kind == "deb":
                 built_of[Row(place, architecture, name, version)] = Source(source, source_version)
-        return Contents(frozenset(sources), frozenset(built_of), built_of)
+            else:
+                others[kind] += 1
+        return Contents(frozenset(sources), frozenset(built_of), built_of, others)
 
     def testing(self) -> Contents:
         """What testing has."""
@@ -75,6 +87,10 @@ class Reprepro:
             for part in parts(formulas):
                 self.reprepro(*PUBLISH_LATER, "-T", kind, "removefilter", self.testing_name, " | ".join(part))
 
+    def published_folders(self) -> Sequence[str]:
+        """The folders by which both suites are published."""
+        return [os.path.join(self.dists, name) for name in (self.testing_name, self.origin_name)]
+
     def is_published(self, have: Contents) -> bool:
         """Whether the indexes of testing are whole and have this."""
         return shows(os.path.join(self.dists, self.testing_name), have, self.indexes)
@@ -82,6 +98,28 @@ class Reprepro:
     def publish(self) -> None:
         """Writes the indexes of testing."""
         self.reprepro("export", self.testing_name)
+
+
+def users(base: str) -> Iterator[str]:
+    """The processes that may work on an archive: each reprepro whose open files lie there, or can't be seen."""
+    base = os.path.realpath(base)
+    for process in (name for name in os.listdir("/proc") if name.isdigit()):
+        folder = f"/proc/{process}"
+        try:
+            with open(f"{folder}/comm", encoding="utf-8", errors="replace") as file:
+                if file.read().strip() != "reprepro":
+                    continue
+        except OSError:
+            continue
+        try:
+            files = [os.readlink(f"{folder}/fd/{number}") for number in os.listdir(f"{folder}/fd")]
+        except PermissionError:
+            yield process
+        except OSError:
+            continue
+        else:
+            if any(path.startswith(base + "/") for path in files):
+                yield process
 
 
 def row_formulas(contents: Contents) -> Sequence[str]:

@@ -1,21 +1,38 @@
 """The indexes of unstable: files that are named, or what apt fetches for lines of a sources.list."""
+import contextlib
+import datetime
+import email.utils
 import os
+import shutil
 import subprocess
-from dataclasses import dataclass
-from typing import Sequence
+from dataclasses import dataclass, field
+from typing import Mapping, Optional, Sequence
+
+from debian import deb822
 
 from office_tools.faults import Fault, cause_of
 from office_tools.files import write_whole
 
 UNANSWERED = 4
+RELEASES = ("_InRelease", "_Release")
+
+
+@dataclass(frozen=True)
+class Release:
+    """What a file Release says of a suite: when it was made, and what it has."""
+
+    date: Optional[datetime.datetime]
+    architectures: frozenset[str]
+    components: frozenset[str]
 
 
 @dataclass(frozen=True)
 class Files:
-    """The files Packages and Sources of a suite."""
+    """The files Packages and Sources of a suite, and what the files Release of their archives say, by their names."""
 
     packages: Sequence[str]
     sources: Sequence[str]
+    releases: Mapping[str, Release] = field(default_factory=dict)
 
 
 def fetched(sources: Sequence[str], folder: str) -> Files:
@@ -23,6 +40,9 @@ def fetched(sources: Sequence[str], folder: str) -> Files:
 
     apt keeps all of it in the folder, and nothing of the system's own lists is read or changed.
     """
+    # apt keeps a list that is newer than the archive's: of an archive that was put back it would read the old one.
+    with contextlib.suppress(FileNotFoundError):
+        shutil.rmtree(os.path.join(folder, "lists"))
     for name in ("lists/partial", "archives/partial", "sources"):
         os.makedirs(os.path.join(folder, name), exist_ok=True)
     part = os.path.join(folder, "sources")
@@ -45,7 +65,30 @@ def fetched(sources: Sequence[str], folder: str) -> Files:
     told = apt([*options, "indextargets", "--format", "$(CREATED_BY) $(FILENAME)"])
     names = [line.split(" ", 1) for line in told.splitlines()]
     return Files(sorted(name for kind, name in names if kind == "Packages"),
-                 sorted(name for kind, name in names if kind == "Sources"))
+                 sorted(name for kind, name in names if kind == "Sources"),
+                 releases_in(os.path.join(folder, "lists")))
+
+
+def releases_in(folder: str) -> Mapping[str, Release]:
+    """What the files Release say that apt fetched."""
+    return {name: release_of(os.path.join(folder, name)) for name in sorted(os.listdir(folder))
+            if name.endswith(RELEASES)}
+
+
+def release_of(path: str) -> Release:
+    """What a file Release says, signed or not. apt has checked the signature."""
+    try:
+        with open(path, "rb") as file:
+            text = file.read().decode(errors="backslashreplace")
+        found = deb822.Deb822(text, fields=["Date", "Architectures", "Components"])
+    except Exception as fault:  # the library has faults of many types
+        raise Fault(f"{path}: {cause_of(fault)}") from fault
+    date: Optional[datetime.datetime] = None
+    with contextlib.suppress(ValueError, OverflowError, TypeError, IndexError):
+        stated = email.utils.parsedate_to_datetime(str(found.get("Date", "")))
+        date = stated if stated.tzinfo else stated.replace(tzinfo=datetime.timezone.utc)
+    return Release(date, frozenset(found.get("Architectures", "").split()),
+                   frozenset(found.get("Components", "").split()))
 
 
 def apt_options(folder: str) -> Sequence[str]:

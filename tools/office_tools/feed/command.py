@@ -4,139 +4,83 @@ import datetime
 import os
 import sys
 from dataclasses import dataclass, replace
-from typing import Optional, Sequence
+from typing import Mapping, Optional, Sequence
 
 from office_tools import days
 from office_tools.accounts import service_at
 from office_tools.bags import framed
 from office_tools.faults import Fault
-from office_tools.feed import archive, mailbox
+from office_tools.feed import archive, brakes, mailbox, restoring
 from office_tools.feed.mailbox import REFUSED, Mailbox, Outgoing
-from office_tools.feed.news import HINTS, News, Told, Unstable, news
-from office_tools.feed.told import NAME, take_over, tell
+from office_tools.feed.memory import ChangesRead, Memory, remembered
+from office_tools.feed.news import BUILDS, HINTS, UPLOADS, News, Told, Unstable, Ways, news
+from office_tools.feed.sending import Sending, check_architectures
+from office_tools.feed.told import Lines, Weight, tell
+from office_tools.feed.words import parser
 from office_tools.files import write_whole
 from office_tools.from_packages import proposals
 from office_tools.from_packages.binaries import fitting, read_binaries
-from office_tools.from_packages.mail import Uploading
-from office_tools.from_packages.sources import Arrival, read_arrivals, read_sources
-from office_tools.mailing import is_held, mailed
-from office_tools.messages import Label, Urgency, label_of
+from office_tools.from_packages.sources import Arrival, Arrivals, read_arrivals, read_sources
+from office_tools.messages import Urgency
 from office_tools.senders import runs_sender
 from office_tools.service import Kept, Service
 
-URL = "http://127.0.0.1:8080"
-WAITS = 1
-
-
-def parser() -> argparse.ArgumentParser:
-    """The command's words."""
-    words = argparse.ArgumentParser(
-        prog=NAME, description="Sends a running office what is new in an archive's unstable, and orders a run where "
-                               "something is new or the day is a later one.",
-        epilog="Status 0: all is held, and the run that was ordered is finished. 1: a run waits for mail, or with "
-               "--dry-run something would be sent. 2: the words are wrong. 3: refused: nothing was sent, or the office "
-               "refused what is told. 4: the office or the archive doesn't answer.")
-    words.add_argument("--url", default=URL, help=f"the service ({URL})")
-    words.add_argument("--day", type=days.day, default=days.today(),
-                       help="the day of the run, as 2025-03-20 (today by the system's clock, in UTC)")
-    words.add_argument("--changes", metavar="DIR", help="a folder of files .changes, which tell day and urgency of "
-                       "uploads; others came on the day of the run, with the urgency medium")
-    words.add_argument("--order", action=argparse.BooleanOptionalAction, default=None,
-                       help="order a run in any case, or never")
-    words.add_argument("--rebuilds", action="store_true",
-                       help="tell rebuilds of sources in testing so that they move, by the spare senders again1 ..")
-    words.add_argument("--propose", action="store_true",
-                       help="behind the run mail hints for the groups that the office proposes, and order a run again")
-    words.add_argument("--proposals", metavar="FILE",
-                       help="write these hints into a bag that a person may look at and mail, and mail none of them")
-    words.add_argument("--dry-run", action="store_true", help="print what would be sent, as a bag, and send nothing")
-    words.add_argument("--cache", metavar="DIR", help="where fetched mail and indexes are remembered")
-    words.add_argument("--sources", action="append", default=[], metavar="SOURCES", help="a file Sources")
-    words.add_argument("--apt", action="append", default=[], metavar="LINE",
-                       help="a line of a sources.list, or a file of such lines, for which apt fetches the indexes")
-    words.add_argument("packages", metavar="PACKAGES", nargs="*", help="a file Packages")
-    return words
+OWN = (UPLOADS, BUILDS, HINTS)
 
 
 @dataclass(frozen=True)
 class Feed:
-    """A running office, all mail that it keeps, and who orders its runs."""
+    """A running office, all mail that it keeps, and how mail is sent."""
 
     service: Service
     box: Mailbox
-    runs: str
-    outgoing: Outgoing
+    sending: Sending
 
-    def send(self, texts: Sequence[bytes]) -> None:
-        """Posts messages one after the other. The first that isn't held ends it.
-
-        Before the first is posted all are written down: if this process is ended, the next one sends the same texts
-        under the same numbers.
-        """
-        self.outgoing.write(texts)
-        self.post(texts)
-        self.outgoing.clear()
-
-    def resume(self) -> int:
-        """Posts what a feed that was ended had written down and the office doesn't keep; gives how much this is."""
-        left = self.outgoing.left(self.box.kept)
-        self.post(left)
-        self.outgoing.clear()
-        return len(left)
-
-    def post(self, texts: Sequence[bytes]) -> None:
-        """Posts messages one after the other."""
-        for text in texts:
-            reply = mailed(self.service, text)
-            if not is_held(reply):
-                self.outgoing.clear()  # a text that is refused takes no number
-                raise self.fault(label_of(text), reply)
-
-    def fault(self, label: Optional[Label], reply: str) -> Fault:
-        """The fault of a message that isn't held."""
-        sender, number = (label.sender, label.number) if label else ("?", 0)
-        causes = {"refused OtherText": f"somebody else sends as {sender} too: run it again",
-                  "refused UnknownArchitecture": "the office has another setup than the archive"}
-        cause = causes.get(reply)
-        return Fault(f"{self.service.url}: {sender} {number}: {reply}{': ' + cause if cause else ''}", REFUSED)
-
-    def is_due(self, kept: dict[str, Kept], day: datetime.date) -> bool:
+    def is_due(self, kept: Mapping[str, Kept], day: datetime.date) -> bool:
         """Whether there is mail that no order covers, or the day is behind that of all orders."""
-        covered: dict[str, int] = {}
-        last = datetime.date.min
-        for _, first in self.box.of(self.runs):
-            last = max(last, datetime.date.fromisoformat(first.value("Day") or ""))
-            for item in (first.value("Covers") or "").split(","):
-                sender, number = (item.split() + ["", "0"])[:2]
-                covered[sender] = max(covered.get(sender, 0), int(number))
-        return day > last or any(count.unbroken > covered.get(sender, 0) for sender, count in kept.items()
-                                 if sender != self.runs)
+        known = self.box.known
+        return day > known.last_order or any(count.unbroken > known.covers.get(sender, 0)
+                                             for sender, count in kept.items() if sender != self.sending.runs)
 
     def waits(self) -> Sequence[str]:
         """The lines of what an ordered run waits for."""
         lines = self.service.good_text("/waiting").splitlines()
-        return [line for line in lines if " waits for " in line and f" waits for {self.runs} " not in line]
+        return [line for line in lines if " waits for " in line and f" waits for {self.sending.runs} " not in line]
 
     def order(self, day: datetime.date, is_due: bool) -> int:
         """Orders a run if one is due and no ordered one waits; gives how many orders this is."""
         orders = [self.service.order(day)] if is_due and not self.waits() else []
-        self.send(orders)
-        return len(orders)
+        return self.sending.send(orders)
 
-    def ordered(self, day: datetime.date, is_asked: Optional[bool], found: News) -> int:
-        """Orders a run where one is due or asked for, and tells how it stands."""
-        is_due = is_asked is not False and (
-            is_asked or bool(found.texts) or self.is_due(dict(self.service.kept()), day))
+    def ordered(self, day: datetime.date, is_asked: Optional[bool], found: News, sent: int) -> bool:
+        """Orders a run where one is due or asked for, and tells how it stands: whether no run waits."""
+        is_due = is_asked is not False and (is_asked or sent > 0 or self.is_due(dict(self.service.kept()), day))
         print(f"{found.summary()}, orders {self.order(day, is_due)}")
         return self.stands()
 
-    def stands(self) -> int:
-        """Tells how it stands, and what an ordered run waits for: the status."""
-        print(self.service.good_text("/status"), end="")
-        lines = self.waits()
+    def settle(self) -> None:
+        """Has a run finished that was cut off when the office was ended; before it, testing would be an older one."""
+        status = self.service.status()
+        if status.ready == status.finished:
+            return
+        self.service.post("/settle")
+        after = self.service.status()
+        if after.finished > status.finished:
+            tell(f"run {after.finished} was cut off, and is finished now", Weight.ONCE)
+
+    def stands(self) -> bool:
+        """Tells how it stands, and what an ordered run waits for: whether none waits."""
+        status = self.service.status()
+        if status.finished < status.ready:
+            self.service.post("/settle")
+            status = self.service.status()
+        print(f"ready {status.ready} finished {status.finished}")
+        lines = [*self.waits()]
+        if status.finished < status.ready:
+            lines.append(f"run {status.finished + 1} is ready, and the office doesn't finish it")
         for line in lines:
             tell(line)
-        return WAITS if lines else 0
+        return not lines
 
     def proposals(self, day: datetime.date) -> Sequence[bytes]:
         """Hints for the groups that the office proposes, but for those that stand already."""
@@ -147,12 +91,12 @@ class Feed:
         new = [wish for wish in wishes if wish not in standing.values()]
         return list(proposals.letters(new, HINTS, self.service.kept()[HINTS].unbroken, day.isoformat()))
 
-    def propose(self, day: datetime.date, is_asked: Optional[bool]) -> int:
+    def propose(self, day: datetime.date, is_asked: Optional[bool]) -> None:
         """Mails hints for the groups that the office proposes, and orders a run over them where runs are ordered."""
         hints = self.proposals(day)
-        self.send(hints)
-        print(f"proposed {len(hints)}, orders {self.order(day, bool(hints) and is_asked is not False)}")
-        return self.stands()
+        count = self.sending.send(hints)
+        print(f"proposed {count}, orders {self.order(day, count > 0 and is_asked is not False)}")
+        self.stands()
 
     def write_proposals(self, day: datetime.date, path: str) -> None:
         """Writes hints for the groups that the office proposes into a bag."""
@@ -170,37 +114,96 @@ def unstable_of(files: archive.Files) -> Unstable:
     return Unstable(read_sources(files.sources, binaries), binaries, architectures)
 
 
+@dataclass(frozen=True)
+class Turn:
+    """One feed: the words, its day, the office, the folder, and what is remembered."""
+
+    asked: argparse.Namespace
+    day: datetime.date
+    service: Service
+    folder: str
+    memory: Memory
+    changes: ChangesRead
+    lines: Lines
+
+    def run(self) -> int:
+        """Sends what is new, and orders a run: the status."""
+        asked = self.asked
+        files = archive.fetched(asked.apt, os.path.join(self.folder, "apt")) if asked.apt else \
+            archive.Files(asked.packages, asked.sources)
+        if not asked.other_release:
+            brakes.check_releases(files.releases, self.memory.releases)
+        unstable = unstable_of(files)
+        feed = self.feed(unstable)
+        if not asked.dry_run:
+            feed.settle()
+        told = Told(self.service.testing(), self.service.hints())
+        ways = Ways(self.day.isoformat(), self.arrivals(feed), asked.rebuilds, asked.smooth,
+                    asked.back)
+        found, gone = news(unstable, feed.box, told, ways)
+        brakes.Gone(gone, len(feed.box.known.live), unstable.binaries, unstable.sources, told.testing).check(
+            feed.box, asked.gone)
+        if asked.dry_run:
+            sys.stdout.buffer.write(found.bag())
+            tell(found.summary(), Weight.NOTE)
+            return int(bool(found.texts))
+        self.send(feed, found)
+        mailbox.fetch(self.service, self.folder)  # so that the folder is a backup of all mail
+        self.lines.finish()
+        Memory(self.lines.left(), {**self.memory.releases, **brakes.remembered_releases(files.releases)},
+               self.changes.now).write(self.folder)
+        return int(self.lines.is_standing)
+
+    def feed(self, unstable: Unstable) -> Feed:
+        """The office, with all mail that it keeps, once nothing keeps this feed from being sent."""
+        asked = self.asked
+        box = mailbox.fetch(self.service, self.folder)
+        brakes.check_gaps(box.kept, OWN, asked.gap)
+        brakes.check_day(asked.day, self.day, box.known.last_order)
+        check_architectures(self.service, UPLOADS, box.kept, unstable.architectures)
+        feed = Feed(self.service, box, Sending(self.service, runs_sender(self.service), Outgoing(self.folder)))
+        if not asked.dry_run and feed.sending.resume(box.kept):
+            feed = replace(feed, box=mailbox.fetch(self.service, self.folder))
+        return feed
+
+    def arrivals(self, feed: Feed) -> Arrivals:
+        """How uploads came by the files .changes. Behind the first order all came on the day of this feed."""
+        arrived = Arrival(Urgency.MEDIUM, self.day.isoformat())
+        found = read_arrivals(self.asked.changes, arrived, self.changes.read)
+        if not feed.box.known.last_day:
+            return found
+        return {upload: Arrival(arrival.urgency, self.day.isoformat()) for upload, arrival in found.items()}
+
+    def send(self, feed: Feed, found: News) -> None:
+        """Sends what is new, and orders the runs."""
+        asked = self.asked
+        sent = feed.sending.send(found.texts)
+        is_settled = feed.ordered(self.day, asked.order, found, sent)
+        if is_settled and asked.propose:
+            feed.propose(self.day, asked.order)
+        if is_settled and asked.proposals:
+            feed.write_proposals(self.day, asked.proposals)
+
+
 def main(words: Sequence[str]) -> int:
     """Sends what is new, and orders a run."""
     known = parser()
     asked = known.parse_args(words)
-    if bool(asked.packages) == bool(asked.apt):
+    if asked.restore and (asked.packages or asked.apt):
+        known.error("--restore sends no other mail: name neither files nor lines for apt")
+    if not asked.restore and bool(asked.packages) == bool(asked.apt):
         known.error("name files Packages, or lines for apt by --apt")
     if asked.propose and asked.proposals:
         known.error("name one of --propose and --proposals")
-    take_over()
+    day = asked.day or days.today()
     service = service_at(asked.url)
     folder = mailbox.folder_for(asked.cache, service)
     mailbox.locked(folder)
-    files = archive.fetched(asked.apt, os.path.join(folder, "apt")) if asked.apt else \
-        archive.Files(asked.packages, asked.sources)
-    unstable = unstable_of(files)
-    box = mailbox.fetch(service, folder)
-    feed = Feed(service, box, runs_sender(service), Outgoing(folder))
-    if not asked.dry_run and feed.resume():
-        box = mailbox.fetch(service, folder)
-        feed = replace(feed, box=box)
-    arrived = Arrival(Urgency.MEDIUM, asked.day.isoformat())
-    arrivals = Uploading(read_arrivals(asked.changes, arrived), arrived)
-    found = news(unstable, box, Told(service.testing(), service.hints()), arrivals, asked.rebuilds)
-    if asked.dry_run:
-        sys.stdout.buffer.write(found.bag())
-        tell(found.summary())
-        return int(bool(found.texts))
-    feed.send(found.texts)
-    status = feed.ordered(asked.day, asked.order, found)
-    if status == 0 and asked.propose:
-        status = feed.propose(asked.day, asked.order)
-    if status == 0 and asked.proposals:
-        feed.write_proposals(asked.day, asked.proposals)
-    return status
+    memory = remembered(folder)
+    lines = Lines(day, memory.lines, asked.all_lines)
+    lines.take_over()
+    try:
+        return restoring.restore(service, folder) if asked.restore else \
+            Turn(asked, day, service, folder, memory, ChangesRead(memory.changes), lines).run()
+    except Fault as fault:
+        raise Fault(fault.cause, REFUSED if fault.status == 1 else fault.status) from fault

@@ -1,22 +1,31 @@
-"""All mail that the office keeps without a gap, fetched, and remembered in a folder that may be lost at any time."""
+"""All mail that the office keeps, fetched, and remembered in a folder.
+
+The folder's bag is a backup of the office's mail, too. It only grows: a message is put behind the others once.
+"""
 import contextlib
 import fcntl
+import hashlib
 import os
+import re
 import urllib.parse
 from dataclasses import dataclass, field
-from typing import Mapping, Optional, Sequence
+from typing import Iterator, Mapping, Optional, Sequence
 
 from office_tools import bags
 from office_tools.faults import Fault, cause_of
-from office_tools.feed.told import tell
+from office_tools.feed import known
+from office_tools.feed.known import Known
+from office_tools.feed.told import Weight, tell
 from office_tools.files import read_bytes, write_whole
 from office_tools.letters import letters
-from office_tools.messages import Label, Paragraph, label_of, paragraphs
-from office_tools.service import UNANSWERED, Kept, Service
+from office_tools.messages import label_of
+from office_tools.service import Kept, Service
 
 REFUSED = 3
-BAG = "bag"
-OUTGOING = "outgoing"
+BAG, OUTGOING, KNOWN = "bag", "outgoing", "known.json"
+HINTS = "rt"
+SPARE = re.compile(r"again[1-9][0-9]*")
+SHOWN = 5  # senders that a fault names
 
 
 def folder_for(asked: Optional[str], service: Service) -> str:
@@ -43,18 +52,17 @@ def locked(folder: str) -> int:
 
 @dataclass
 class Mailbox:
-    """The kept mail: each message under its sender and number. `path` is the bag that has all of it."""
+    """The kept mail. `path` is the bag that has all of it; `known` is what its part without a gap says."""
 
     path: str
     kept: Mapping[str, Kept]
-    texts: dict[Label, bytes] = field(default_factory=dict)
+    known: Known = field(default_factory=Known)
 
-    def of(self, sender: str) -> Sequence[tuple[int, Paragraph]]:
-        """The first paragraphs of a sender's messages, by number."""
-        found = []
-        for number in range(1, self.kept[sender].unbroken + 1):
-            found.append((number, next(paragraphs(self.texts[Label(sender, number)]))))
-        return found
+    def texts(self, part: bytes) -> Iterator[bytes]:
+        """The messages that have these bytes."""
+        for text in bags.messages_in(read_bytes(self.path)):
+            if part in text:
+                yield text
 
 
 @dataclass(frozen=True)
@@ -80,68 +88,156 @@ class Outgoing:
 
     def left(self, kept: Mapping[str, Kept]) -> Sequence[bytes]:
         """What a feed wrote down that was ended before it had sent it. What doesn't follow the kept mail is left out:
-        its number is taken, or another office's.
+        its number is taken, or another office's. A file that is no bag counts as none.
         """
         if not os.path.exists(self.path):
             return []
         found: list[bytes] = []
         last = {sender: count.unbroken for sender, count in kept.items()}
-        for text in bags.messages_in(read_bytes(self.path)):
-            label = label_of(text)
-            if label is not None and last.get(label.sender) == label.number - 1:
-                last[label.sender] = label.number
-                found.append(text)
+        with contextlib.suppress(bags.BagFault):
+            for text in bags.messages_in(read_bytes(self.path)):
+                label = label_of(text)
+                if label is not None and last.get(label.sender) == label.number - 1:
+                    last[label.sender] = label.number
+                    found.append(text)
         return found
 
 
+@dataclass(frozen=True)
+class Folder:
+    """The bag of a folder, and what is known of it."""
+
+    path: str
+
+    @property
+    def bag(self) -> str:
+        """The file of the bag."""
+        return os.path.join(self.path, BAG)
+
+    def read(self) -> Known:
+        """What the mail in the folder says. Only what was put into the bag since the last time is read.
+
+        A bag whose end is cut off, as a full disk leaves it, loses that end. One that is no bag is kept under another
+        name, and counts as none.
+        """
+        data = read_bytes(self.bag) if os.path.exists(self.bag) else b""
+        found, start = self.known_of(data)
+        good = start
+        try:
+            for text in bags.messages_in(data[start:]):
+                take(found, text)
+                good += len(bags.framed(text))
+        except bags.BagFault as fault:
+            if fault.refusal is not bags.BagRefusal.TRUNCATED or not good:
+                return self.put_away()
+            os.truncate(self.bag, good)
+        except (Fault, ValueError):
+            return self.put_away()
+        return found
+
+    def known_of(self, data: bytes) -> tuple[Known, int]:
+        """What the last turn knew, and of how many of the bag's bytes, if these are as they were."""
+        path = os.path.join(self.path, KNOWN)
+        with contextlib.suppress(Fault):
+            kept = known.read(read_bytes(path)) if os.path.exists(path) else None
+            if kept and kept.size <= len(data) and kept.digest == digest(data[:kept.size]):
+                return kept.known, kept.size
+        return Known(), 0
+
+    def put_away(self) -> Known:
+        """Keeps a bag that can't be read under another name."""
+        number = 1
+        while os.path.exists(f"{self.bag}.bad{number}"):
+            number += 1
+        os.rename(self.bag, f"{self.bag}.bad{number}")
+        tell(f"{self.bag}: it is no whole bag; it is kept as {BAG}.bad{number}, and the mail is fetched again",
+             Weight.ONCE)
+        return Known()
+
+    def add(self, texts: Sequence[bytes]) -> None:
+        """Puts messages behind those of the bag."""
+        try:
+            with open(self.bag, "ab") as file:
+                for text in texts:
+                    file.write(bags.framed(text))
+                file.flush()
+                os.fsync(file.fileno())
+        except OSError as fault:
+            raise Fault(f"{self.bag}: {cause_of(fault)}", 4) from fault
+
+    def write(self, found: Known) -> None:
+        """Writes down what is known of the bag."""
+        data = read_bytes(self.bag)
+        write_whole(os.path.join(self.path, KNOWN), found.written(len(data), digest(data)))
+
+
+def digest(data: bytes) -> str:
+    """The digest of a part of a bag."""
+    return hashlib.sha256(data).hexdigest()
+
+
+def take(found: Known, text: bytes) -> None:
+    """Takes a message of the bag on, if it is its sender's next one; one behind a gap only stays in the bag."""
+    label = label_of(text)
+    if label is None:
+        raise Fault("it has a text that is no message")
+    if label.number == found.taken.get(label.sender, 0) + 1:
+        found.take(label, text, bool(SPARE.fullmatch(label.sender)), label.sender == HINTS)
+
+
 def fetch(service: Service, folder: str) -> Mailbox:
-    """All mail that the service keeps without a gap. What the folder has isn't asked for again."""
+    """All mail that the service keeps. What the folder has isn't asked for again.
+
+    A folder that belongs to another office, or has mail that this one lacks, is refused and stays as it is.
+    """
+    place = Folder(folder)
     kept = service.kept()
-    box = Mailbox(os.path.join(folder, BAG), kept)
-    found = remembered(box.path, kept)
-    is_anew = found is None or not is_of(service, found)
-    if found is None or is_anew:
-        if os.path.exists(box.path):
-            tell(f"{box.path}: it isn't what this office keeps, and is made anew")
-        Outgoing(folder).clear()
-        found = {}
-    known = dict(found)
-    wanted = [Label(sender, number) for sender, count in kept.items() for number in range(1, count.unbroken + 1)]
-    lacking = {label.sender: label.number for label in reversed(wanted) if label not in known}
-    for sender, first in lacking.items():
-        for label, text in letters(service, sender, first):
-            if label.number > kept[sender].unbroken:
-                break  # it came meanwhile
-            known[label] = text
-    gone = next((label for label in wanted if label not in known), None)
-    if gone is not None:
-        raise Fault(f"{service.url}: {gone.sender} {gone.number} isn't kept any more", UNANSWERED)
-    box.texts = {label: known[label] for label in wanted}
-    if lacking or is_anew or len(known) != len(wanted):
-        write_whole(box.path, b"".join(map(bags.framed, box.texts.values())))
-    return box
+    found = place.read()
+    check_office(service, kept, found, folder)
+    before = dict(found.taken)
+    new: list[bytes] = []
+    for sender, count in kept.items():
+        for label, text in letters(service, sender, found.taken.get(sender, 0) + 1) if is_more(found, count, sender) \
+                else ():
+            if label.number <= count.unbroken:
+                new.append(text)
+                take(found, text)
+        if found.taken.get(sender, 0) < count.unbroken:
+            raise Fault(f"{service.url}: {sender} {found.taken.get(sender, 0) + 1} isn't kept any more", 4)
+    if new:
+        place.add(new)
+    if new or not before and not os.path.exists(place.bag):
+        place.add([])
+        place.write(found)
+    return Mailbox(place.bag, kept, found)
 
 
-def remembered(path: str, kept: Mapping[str, Kept]) -> Optional[Mapping[Label, bytes]]:
-    """What the folder has of the kept mail; None where it has no whole bag, or mail that the office doesn't keep."""
-    if not os.path.exists(path):
-        return None
-    found: dict[Label, bytes] = {}
-    try:
-        for text in bags.messages_in(read_bytes(path)):
-            label = label_of(text)
-            if label is None or label.sender not in kept or label.number > kept[label.sender].unbroken:
-                return None
-            found[label] = text
-    except bags.BagFault:
-        return None
-    return found
+def is_more(found: Known, count: Kept, sender: str) -> bool:
+    """Whether the office keeps mail of a sender that the folder lacks."""
+    return count.unbroken > found.taken.get(sender, 0)
 
 
-def is_of(service: Service, known: Mapping[Label, bytes]) -> bool:
-    """Whether the first and the last message of each sender are those that the service keeps."""
-    ends: set[Label] = set()
-    for sender in {label.sender for label in known}:
-        numbers = [label.number for label in known if label.sender == sender]
-        ends |= {Label(sender, min(numbers)), Label(sender, max(numbers))}
-    return all(service.kept_text(label.sender, label.number) == known[label] for label in ends)
+def check_office(service: Service, kept: Mapping[str, Kept], found: Known, folder: str) -> None:
+    """Refuses a folder of another office, and one that has mail which the office lacks or has otherwise."""
+    other = f"{folder} belongs to another office than {service.url}"
+    ways = "name another folder by --cache, or remove this one if it isn't needed"
+    strange = sorted(set(found.taken) - set(kept))
+    if strange:
+        raise Fault(f"{other}, which has no sender {', '.join(strange)}: {ways}", REFUSED)
+    lacking: list[str] = []
+    for sender, (first, *last) in found.ends.items():
+        number = found.taken[sender]
+        if service.kept_text(sender, 1) not in (None, first.encode()):
+            raise Fault(f"{other}, which keeps another text as {sender} 1: {ways}", REFUSED)
+        if kept[sender].unbroken < number:
+            lacking.append(f"{sender} {kept[sender].unbroken + 1} to {number}")
+        elif service.kept_text(sender, number) != (last or [first])[-1].encode():
+            raise Fault(f"the office keeps another text as {sender} {number} than {folder}/{BAG}: its store was "
+                        "restored, and went on; that bag has the mail of before: compare both, and make the office "
+                        "again from the right mail", REFUSED)
+    if lacking:
+        more = f" and {len(lacking) - SHOWN} more senders" if len(lacking) > SHOWN else ""
+        shown = ", ".join(lacking[:SHOWN]) + more
+        raise Fault(f"the office lacks mail that it kept before: {shown}: its store was restored, or is new; "
+                    f"'office-feed --restore --url {service.url} --cache {folder}' sends it again; if this is meant "
+                    f"to be another office, {ways}", REFUSED)

@@ -2,19 +2,24 @@
 import dataclasses
 from collections import Counter
 from dataclasses import dataclass, field
-from typing import Iterator, Mapping, Sequence
+from typing import Iterator, Mapping, Optional, Sequence
 
 from office_tools import messages, reports, versions
 from office_tools.apply import marks
 from office_tools.bags import framed
 from office_tools.faults import Fault
+from office_tools.feed.back import Archive, Retold, came_back, without_strange
+from office_tools.feed.brakes import binaries_in
+from office_tools.feed.known import Known, first_of
 from office_tools.feed.mailbox import REFUSED, Mailbox
 from office_tools.feed.rebuilds import Rebuilds, rebuilds
+from office_tools.feed.smooth import left_behind, stay
+from office_tools.feed.told import Weight, tell
 from office_tools.from_packages import mail
 from office_tools.from_packages.binaries import Binary, Key
 from office_tools.from_packages.proposals import PROPOSED
-from office_tools.from_packages.sent import Sent, read_sent
-from office_tools.messages import Kind, Label, Paragraph, kind_of, paragraphs
+from office_tools.from_packages.sources import Arrival, Arrivals
+from office_tools.messages import Kind, Label, Paragraph, Urgency, kind_of
 from office_tools.reports import ItemStanding
 
 UPLOADS, BUILDS, HINTS = "ftp", "bd", "rt"
@@ -73,65 +78,127 @@ class Told:
     hints: reports.Hints
 
 
-def news(unstable: Unstable, box: Mailbox, told: Told, arrivals: mail.Uploading, with_rebuilds: bool) -> News:
-    """What the archive has and the mail doesn't tell. A rebuild of a source is told so that it moves, if asked for."""
-    testing = told.testing
-    sent = read_sent(box.path)
-    look_at(unstable, box, sent)
-    made_up = sent.versions
-    known = dataclasses.replace(
-        sent, versions={name: marks.source_version(version) for name, version in sent.versions.items()
-                        if name in unstable.sources},
-        binaries={key: version for key, version in sent.binaries.items() if not version.endswith(marks.LEAVING)})
+@dataclass(frozen=True)
+class Ways:
+    """The day of the feed, how uploads came, and what it may do: tell rebuilds, and let these sources go back."""
+
+    day: str
+    known: Arrivals = field(default_factory=dict)
+    with_rebuilds: bool = False
+    is_smooth: bool = False
+    back: Sequence[str] = ()
+
+
+def news(unstable: Unstable, box: Mailbox, told: Told, ways: Ways) -> tuple[News, Mapping[Key, str]]:
+    """What the archive has and the mail doesn't tell; and the packages that are gone, for the brakes."""
+    look_at(unstable, box)
+    archive = Archive(unstable.sources, unstable.binaries, box.known, told.testing)
+    retold = came_back(archive, ways.back)
+    again = rebuilds(archive, box, retold) if ways.with_rebuilds else Rebuilds()
+    staying = stay(archive, box, retold, again) if ways.is_smooth else set()
+    without_strange(archive, retold)
+    retold.tell()
     found = News()
-    found.uploads = list(mail.uploads(unstable.sources, known, arrivals))
-    again = rebuilds(unstable.binaries, box, testing, sent) if with_rebuilds else Rebuilds()
-    found.uploads += again.uploads(UPLOADS, sent.last[UPLOADS] + len(found.uploads), arrivals.others.day)
-    staying = kept_beside(box)
-    droppable = dataclasses.replace(known, binaries={key: version for key, version in known.binaries.items()
-                                                     if (key, version) not in staying})
-    found.drops = list(mail.drops(unstable.binaries, droppable, sent.last[UPLOADS] + len(found.uploads)))
-    found.builds = [*again.builds(box), *mail.builds([again.told(binary) for binary in unstable.binaries], known)]
-    removals = list(standing(box))
-    number = sent.last[HINTS]
-    found.hints = list(removal_hints(unstable, testing, removals, made_up, number))
-    back = [*taken_back(unstable, removals, made_up), *spent(box, told.hints)]
+    found.uploads = list(uploads(archive, box, retold, ways))
+    gone = {key: version for key, version in gone_from(archive) if key not in staying}
+    removals = list(standing(box.known))
+    done = [removal.source for removal in removals if removal.is_own and marks.is_made_up(removal.source)
+            and removal.source not in told.testing.sources]
+    dropped = sorted({**gone, **retold.drops, **left_behind(box, done)}.items())
+    found.drops = [messages.drop(Label(UPLOADS, number), name, architecture, version)
+                   for number, ((name, architecture), version)
+                   in enumerate(dropped, box.known.taken.get(UPLOADS, 0) + len(found.uploads) + 1)]
+    found.builds = [*again.builds(box, retold),
+                    *mail.builds_of([*packages(archive, retold, again.keys), *retold.extra],
+                                    box.known.taken.get(BUILDS, 0))]
+    number = box.known.taken.get(HINTS, 0)
+    left = leaving(unstable, told.testing, box, ways.is_smooth)
+    found.hints = list(removal_hints(left, told.testing, removals, number))
+    back = [*taken_back(unstable, told.testing, removals, box.known.versions), *spent(box.known, told.hints)]
     found.unhints = [messages.unhint(Label(HINTS, after), hint)
                      for after, hint in enumerate(back, number + len(found.hints) + 1)]
-    return found
+    return found, gone
 
 
-def look_at(unstable: Unstable, box: Mailbox, sent: Sent) -> None:
-    """Refuses to work where a sender that this command needs isn't there, or indexes that the mail tells of lack."""
+def look_at(unstable: Unstable, box: Mailbox) -> None:
+    """Refuses to work where a sender that this command needs is missing, or indexes that the mail tells of."""
     for sender in (UPLOADS, BUILDS, HINTS):
-        count = box.kept.get(sender)
-        if count is None:
+        if sender not in box.kept:
             raise Fault(f"the office has another setup: it has no sender {sender}", REFUSED)
-        if count.greatest != count.unbroken:
-            raise Fault(f"{sender} {count.unbroken + 1} isn't kept, and {sender} {count.greatest} is: send what lacks "
-                        "first, or a message of the kind none in its place", REFUSED)
-    counted = Counter(architecture for _, architecture in sent.binaries)
+    counted = Counter(architecture for _, architecture in box.known.live)
     lacking = sorted(set(counted) - set(unstable.architectures) - {"all"})
     if lacking:
         raise Fault(f"the indexes have no package of {', '.join(lacking)}, and the office was told "
                     f"{counted[lacking[0]]} of {lacking[0]}: all would be dropped", REFUSED)
 
 
-def kept_beside(box: Mailbox) -> set[tuple[Key, str]]:
-    """The packages that were told under a made-up source, since they stay beside newer ones; with their versions."""
-    found: set[tuple[Key, str]] = set()
-    for text in box.texts.values():
-        if marks.STAYING.encode() in text:
-            for paragraph in list(paragraphs(text))[1:]:
-                if marks.is_made_up(paragraph.value("Source") or ""):
-                    key = paragraph.value("Package") or "", paragraph.value("Architecture") or ""
-                    found.add((key, paragraph.value("Version") or ""))
-    return found
+def uploads(archive: Archive, box: Mailbox, retold: Retold, ways: Ways) -> Iterator[bytes]:
+    """An upload of each source that is new, or that is told again under another version."""
+    for name in sorted(set(box.known.versions) - set(archive.sources)):
+        if not marks.is_made_up(name):
+            tell(f"source {name} {box.known.versions[name]}: it is gone, and nothing takes an upload back", Weight.NOTE)
+    number = box.known.taken.get(UPLOADS, 0)
+    for name, version in sorted(archive.sources.items()):
+        told = archive.told_version(name)
+        if name not in retold.sources and (told is None or versions.compare(version, told) > 0):
+            arrival: Optional[Arrival] = arrival_of(name, version, ways)
+        elif name in retold.urgent:
+            arrival = Arrival(Urgency.CRITICAL, ways.day)
+        else:
+            first = None if name in retold.again else first_arrival(box, name, version)
+            arrival = first or arrival_of(name, version, ways) if name in retold.sources else None
+        if arrival is not None:
+            number += 1
+            yield messages.upload(Label(UPLOADS, number), name, retold.sources.get(name, version), arrival.urgency,
+                                  arrival.day)
+    for name, version in sorted(retold.staying.items()):
+        if archive.known.versions.get(name) != version:
+            number += 1
+            yield messages.upload(Label(UPLOADS, number), name, version, Urgency.CRITICAL, ways.day)
 
 
-def standing(box: Mailbox) -> Iterator[Removal]:
+def arrival_of(name: str, version: str, ways: Ways) -> Arrival:
+    """How a source came that the feed sees for the first time."""
+    return ways.known.get((name, version), Arrival(Urgency.MEDIUM, ways.day))
+
+
+def first_arrival(box: Mailbox, name: str, version: str) -> Optional[Arrival]:
+    """How a version of a source came by the upload that told it first."""
+    for text in box.texts(f"Source: {name}\n".encode()):
+        first = first_of(text)
+        if kind_of(first) is Kind.UPLOAD and first.value("Source") == name and \
+                is_same(marks.source_version(first.value("Version") or ""), version):
+            word = (first.value("Urgency") or "").split(" ")[0].lower()
+            if word in [urgency.value for urgency in Urgency]:
+                return Arrival(Urgency(word), first.value("Day") or "")
+    return None
+
+
+def gone_from(archive: Archive) -> Iterator[tuple[Key, str]]:
+    """The packages that were told and are gone from the archive, but for those that leave or stay by a mark."""
+    there = {binary.key for binary in archive.binaries}
+    for key, version in archive.known.live.items():
+        if key not in there and not version.endswith(marks.LEAVING) and archive.known.staying.get(key) != version:
+            yield key, version
+
+
+def packages(archive: Archive, retold: Retold, others: set[Key]) -> Iterator[Binary]:
+    """The packages that are new, or told again, as they are told; without those that other senders tell."""
+    for binary in archive.binaries:
+        source = retold.sources.get(binary.source)
+        last = archive.known.versions.get(binary.source, "")
+        is_current = versions.compare(binary.source_version, archive.sources[binary.source]) == 0
+        if source is None and marks.is_back(last) and is_same(marks.source_version(last), binary.source_version):
+            source = last
+        bound = archive.known.bound(binary.key)
+        is_new = not bound or versions.compare(binary.version, bound) > 0
+        if binary.key not in others and (binary.key in retold.packages or is_new):
+            yield retold.told(binary, retold.under.get(binary.key) or (source if is_current else None))
+
+
+def standing(known: Known) -> Iterator[Removal]:
     """The hints that stand and take sources out of testing."""
-    letters = box.of(HINTS)
+    letters = known.letters()
     cancelled = {int(first.value("Cancels") or 0) for _, first in letters if kind_of(first) is Kind.UNHINT}
     for number, first in letters:
         if kind_of(first) is Kind.HINT and number not in cancelled:
@@ -147,31 +214,69 @@ def removals_of(number: int, first: Paragraph) -> Iterator[Removal]:
             yield Removal(number, source, version, first.value(GONE) is not None)
 
 
-def removal_hints(unstable: Unstable, testing: reports.Testing, removals: Sequence[Removal],
-                  told: Mapping[str, str], after: int) -> Iterator[bytes]:
-    """A hint for each source that is in testing and gone from unstable, if none stands that takes it out."""
+def removal_hints(sources: Sequence[str], testing: reports.Testing, removals: Sequence[Removal],
+                  after: int) -> Iterator[bytes]:
+    """A hint for each of these sources, in this order, if none stands that takes it out."""
     number = after
-    for source, version in sorted(testing.sources.items()):
-        if source in unstable.sources or marks.is_made_up(source) or leaves_later(told, source, version):
-            continue
+    for source in sources:
+        version = testing.sources[source]
         if not any(removal.source == source and is_same(removal.version, version) for removal in removals):
             number += 1
             yield messages.composed([("From", HINTS), ("Number", str(number)), ("Kind", Kind.HINT.value),
                                      ("Hint", f"remove {source}/{version}"), (GONE, f"{source} {version}")])
 
 
-def taken_back(unstable: Unstable, removals: Sequence[Removal], told: Mapping[str, str]) -> Iterator[int]:
-    """This command's hints for sources that are back, or that are told without their needs first."""
+def leaving(unstable: Unstable, testing: reports.Testing, box: Mailbox, is_smooth: bool) -> Sequence[str]:
+    """The sources that are in testing and gone from unstable, those first that no other one of them needs.
+
+    Sources of packages that stay are among them, if this command takes care of them: the office refuses to remove one
+    as long as something needs it.
+
+    A run takes each hint to remove a source once, by number. Sources that need each other stand in order of names.
+    """
+    left = sorted(source for source, version in testing.sources.items() if source not in unstable.sources
+                  and (is_smooth or not marks.is_made_up(source))
+                  and not leaves_later(box.known.versions, source, version))
+    needs = needs_among(left, testing, box) if len(left) > 1 else {}
+    found: list[str] = []
+    while left:
+        free = [source for source in left
+                if not any(source in needs.get(other, ()) for other in left if other != source)]
+        found += free or left[:1]
+        left = [source for source in left if source not in found]
+    return found
+
+
+def needs_among(sources: Sequence[str], testing: reports.Testing, box: Mailbox) -> Mapping[str, set[str]]:
+    """For each of these sources the others whose packages its packages in testing name in their relations."""
+    rows = {(row.package, row.architecture, row.version): row.source for row in testing.rows if row.source in sources}
+    owners = {row.package: row.source for row in testing.rows if row.source in sources}
+    named: list[tuple[str, Binary]] = []
+    for name in owners:
+        for text in box.texts(f"Package: {name}\n".encode()):
+            named += [(rows[(*binary.key, binary.version)], binary) for binary in binaries_in(text)
+                      if (*binary.key, binary.version) in rows]
+    owners.update({part.name: source for source, binary in named for part in binary.provisions})
+    found: dict[str, set[str]] = {source: set() for source in sources}
+    for source, binary in named:
+        found[source] |= {owners[part.name] for clause in binary.clauses for part in clause if part.name in owners}
+    return found
+
+
+def taken_back(unstable: Unstable, testing: reports.Testing, removals: Sequence[Removal],
+               told: Mapping[str, str]) -> Iterator[int]:
+    """This command's hints for sources that have left testing, are back, or are told without their needs first."""
     for removal in removals:
-        version = unstable.sources.get(removal.source)
-        is_back = version is not None and is_same(version, removal.version)
-        if removal.is_own and (is_back or leaves_later(told, removal.source, removal.version)):
+        held = testing.sources.get(removal.source)
+        is_done = held is None or not is_same(held, removal.version)
+        is_over = removal.source in unstable.sources or leaves_later(told, removal.source, removal.version)
+        if removal.is_own and (is_done or is_over):
             yield removal.number
 
 
-def spent(box: Mailbox, hints: reports.Hints) -> Iterator[int]:
+def spent(known: Known, hints: reports.Hints) -> Iterator[int]:
     """The hints that were mailed for the office's proposals whose groups have moved, or can't move as told any more."""
-    for number, first in box.of(HINTS):
+    for number, first in known.letters():
         if kind_of(first) is Kind.HINT and first.value(PROPOSED) is not None:
             standings = [item.standing for item in hints.items if item.number == number]
             is_done = all(standing is ItemStanding.MOVED for standing in standings)

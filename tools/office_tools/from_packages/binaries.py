@@ -7,7 +7,7 @@ from typing import Iterator, Mapping, Optional, Sequence
 from office_tools import messages, relations, versions
 from office_tools.bags import LONGEST
 from office_tools.control import sections
-from office_tools.from_packages.told import tell
+from office_tools.from_packages.told import Weight, tell
 from office_tools.relations import Alternative, Bad, Clause
 
 Key = tuple[str, str]  # a package's name and its architecture
@@ -71,7 +71,7 @@ def newest(binaries: Sequence[Binary]) -> Binary:
     if len(binaries) > 1:
         for version in sorted({binary.version for binary in binaries}, key=versions.key):
             if version != kept.version:
-                tell(f"{kept.name} {kept.architecture} {version}: left out: {kept.version} is newer")
+                tell(f"{kept.name} {kept.architecture} {version}: left out: {kept.version} is newer", Weight.NOTE)
     return kept
 
 
@@ -93,7 +93,7 @@ def fitting(binaries: Sequence[Binary]) -> Iterator[Binary]:
             continue
         without = len(binary.provisions) - len(short.provisions)
         tell(f"{where}: it has {size} bytes, and a message at most {LONGEST}: left out are {without} of its "
-             f"{len(binary.provisions)} provisions, which nothing here needs")
+             f"{len(binary.provisions)} provisions, which nothing here needs", Weight.NOTE)
         yield short
 
 

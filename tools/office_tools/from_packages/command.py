@@ -28,13 +28,16 @@ def words() -> argparse.ArgumentParser:
     parser.add_argument("--run", required=True, type=day, metavar="DAY", help="the day of the order")
     parser.add_argument("--urgency", default="medium", choices=[urgency.value for urgency in Urgency],
                         help="the urgency of all uploads")
-    parser.add_argument("--changes", metavar="DIR", help="a folder of files .changes, which tell day and urgency of "
-                        "the uploads that they are of")
+    parser.add_argument("--changes", metavar="DIR", help="a folder of files .changes, which tell the urgency of "
+                        "the uploads that they are of, and without --after their day")
     parser.add_argument("--sources", action="append", default=[], metavar="SOURCES", help="a file Sources")
     parser.add_argument("--after", metavar="BAG", help="all mail that was sent before: only what is new is sent")
     parser.add_argument("--with-uninstallable", action="store_true", help="send what can't be installed, too")
     parser.add_argument("--no-hints", action="store_true",
                         help="don't ask the program office for groups that move as one")
+    parser.add_argument("--spare", type=mail.spares, default=mail.MOST_SPARES, metavar="N",
+                        help=f"how many spare senders of builds stand before bd in the setup: 0 to {mail.MOST_SPARES} "
+                             f"({mail.MOST_SPARES})")
     parser.add_argument("folder", metavar="FOLDER", help="where both files are written")
     parser.add_argument("packages", metavar="PACKAGES", nargs="+", help="a file Packages of one architecture")
     return parser
@@ -50,7 +53,10 @@ def main(given: Sequence[str]) -> int:
     current = read_sources(asked.sources, binaries)
     sent = read_sent(asked.after)
     arrived = Arrival(Urgency(asked.urgency), str(asked.uploaded))
-    arrivals = mail.Uploading(read_arrivals(asked.changes, arrived), arrived)
+    known = read_arrivals(asked.changes, arrived)
+    if asked.after:  # what is new came since the mail before, whatever its uploader wrote
+        known = {upload: Arrival(arrival.urgency, arrived.day) for upload, arrival in known.items()}
+    arrivals = mail.Uploading(known, arrived)
     suites = Suites(current_of(binaries, current), architectures)
     if not asked.with_uninstallable:
         suites.leave_out(sent)
@@ -59,7 +65,7 @@ def main(given: Sequence[str]) -> int:
     gone = list(mail.drops(binaries, sent, sent.last["ftp"] + len(came)))
     made = list(mail.builds(binaries, sent))
     setup = os.path.join(asked.folder, "setup.conf")
-    write_whole(setup, setups.written(setups.Setup(architectures, mail.SENDERS)))
+    write_whole(setup, setups.written(setups.Setup(architectures, mail.senders(asked.spare))))
     wishes = [] if asked.no_hints else list(mail.hints(setup, sent, [*came, *gone, *made], str(asked.run)))
     order = mail.order(str(asked.run), sent, {"ftp": len(came) + len(gone), "bd": len(made), "rt": len(wishes)})
     texts = [*came, *gone, *made, *wishes, order]

@@ -8,11 +8,32 @@ from office_tools.from_packages import proposals
 from office_tools.from_packages.binaries import Binary
 from office_tools.from_packages.sent import Sent
 from office_tools.from_packages.sources import Arrival, Arrivals
-from office_tools.from_packages.told import tell
+from office_tools.from_packages.told import Weight, tell
 from office_tools.messages import Label, Role
 
 SENDERS: Mapping[str, Role] = {
     "ftp": Role.UPLOAD, "bd": Role.BUILD, "bts": Role.BUGS, "rt": Role.RELEASE, "clock": Role.RUNS}
+
+
+MOST_SPARES = 8  # of the 16 senders of a setup, beside those above and `hand`
+
+
+def spares(word: str) -> int:
+    """How many spare senders of builds there are, as a word of a command."""
+    found = int(word)
+    if not 0 <= found <= MOST_SPARES:
+        raise ValueError(word)
+    return found
+
+
+def senders(count: int) -> Mapping[str, Role]:
+    """The senders of a setup: one for uploads that are sent by hand, this many spare senders of builds, the last one
+    first, and the others behind them.
+    """
+    found: dict[str, Role] = {"ftp": Role.UPLOAD, "hand": Role.UPLOAD}
+    found.update({f"again{number}": Role.BUILD for number in range(count, 0, -1)})
+    found.update(SENDERS)
+    return found
 
 
 def is_new(said: str, version: str, sent: Optional[str], dropped: Optional[str] = None) -> bool:
@@ -37,7 +58,8 @@ class Uploading:
 def uploads(current: Mapping[str, str], sent: Sent, arrivals: Uploading) -> Iterator[bytes]:
     """An upload of each source that is new."""
     for name in sorted(set(sent.versions) - set(current)):
-        tell(f"source {name} {sent.versions[name]}: it is gone, and nothing takes an upload back")
+        tell(f"source {name} {sent.versions[name]}: it is gone, and nothing takes an upload back",
+             Weight.NOTE)
     new = [name for name in sorted(current) if is_new("source " + name, current[name], sent.versions.get(name))]
     for number, name in enumerate(new, sent.last["ftp"] + 1):
         arrival = arrivals.known.get((name, current[name]), arrivals.others)
@@ -52,13 +74,18 @@ def drops(binaries: Sequence[Binary], sent: Sent, after: int) -> Iterator[bytes]
 
 
 def builds(binaries: Sequence[Binary], sent: Sent) -> Iterator[bytes]:
-    """The builds of each source, in as many messages as they need."""
+    """The builds of each source that are new, in as many messages as they need."""
     new = [binary for binary in binaries
            if is_new(f"{binary.name} {binary.architecture}", binary.version, sent.binaries.get(binary.key),
                      sent.dropped.get(binary.key))]
-    number, size, source = sent.last["bd"], 0, ""
+    return builds_of(new, sent.last["bd"])
+
+
+def builds_of(binaries: Sequence[Binary], after: int) -> Iterator[bytes]:
+    """The builds of each source, in as many messages as they need, from a number on."""
+    number, size, source = after, 0, ""
     parts: list[bytes] = []
-    for binary in sorted(new, key=lambda binary: binary.source):
+    for binary in sorted(binaries, key=lambda binary: binary.source):
         part = binary.paragraph()
         if parts and (binary.source != source or len(parts) == messages.MOST_BINARIES or
                       size + 1 + len(part) > LONGEST):

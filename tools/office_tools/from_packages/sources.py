@@ -2,13 +2,13 @@
 import email.utils
 import os
 from dataclasses import dataclass
-from typing import Mapping, Optional, Sequence, TypeVar
+from typing import Callable, Mapping, Optional, Sequence, TypeVar
 
 from office_tools import relations, versions
 from office_tools.control import Changes, read_changes, sections
 from office_tools.faults import Fault, cause_of
 from office_tools.from_packages.binaries import Binary
-from office_tools.from_packages.told import tell
+from office_tools.from_packages.told import Weight, tell
 from office_tools.messages import Urgency
 from office_tools.relations import Bad
 
@@ -32,13 +32,17 @@ def read_sources(paths: Sequence[str], binaries: Sequence[Binary]) -> dict[str, 
             try:
                 relations.checked_name(name, "Package")
                 relations.checked_version(version)
-                if fields.get("Extra-Source-Only", "no") == "yes":
-                    raise Bad("it is kept for packages that were built with it alone")
-                if name in known and versions.compare(version, known[name]) < 0:
-                    raise Bad(f"{known[name]} is newer")
-                known[name] = version
             except Bad as bad:
                 tell(f"source {name or '?'} {version or '?'}: left out: {bad}")
+                continue
+            newer = known.get(name)
+            if fields.get("Extra-Source-Only", "no") == "yes":
+                tell(f"source {name} {version}: left out: it is kept for packages that were built with it alone",
+                     Weight.NOTE)
+            elif newer is not None and versions.compare(version, newer) < 0:
+                tell(f"source {name} {version}: left out: {newer} is newer", Weight.NOTE)
+            else:
+                known[name] = version
     return known
 
 
@@ -53,7 +57,8 @@ class Arrival:
 Arrivals = Mapping[tuple[str, str], Arrival]
 
 
-def read_arrivals(folder: Optional[str], default: Arrival) -> Arrivals:
+def read_arrivals(folder: Optional[str], default: Arrival,
+                  read: Callable[[str], Changes] = read_changes) -> Arrivals:
     """The arrival of each source and version of which the folder has a file .changes.
 
     Of several files the one that brings the source counts, else the first by its name. What a file doesn't state, or
@@ -63,9 +68,9 @@ def read_arrivals(folder: Optional[str], default: Arrival) -> Arrivals:
     of_source: set[tuple[str, str]] = set()
     for path in changes_in(folder) if folder else []:
         try:
-            changes = read_changes(path)
+            changes = read(path)
         except Fault as fault:
-            tell(f"{fault.cause}: left out")
+            tell(f"{fault.cause}: left out", Weight.ONCE)
             continue
         upload = changes.source, changes.version
         if upload not in found or changes.has_source and upload not in of_source:
@@ -89,9 +94,9 @@ def arrival_of(path: str, changes: Changes, default: Arrival) -> Arrival:
     try:
         urgency = Urgency(changes.urgency)
     except ValueError:
-        tell(f"{path}: its urgency is taken as {urgency.value}: it states {changes.urgency or 'none'}")
+        tell(f"{path}: its urgency is taken as {urgency.value}: it states {changes.urgency or 'none'}", Weight.NOTE)
     if day is None:
-        tell(f"{path}: its day is taken as {default.day}: its date is {changes.date or 'not there'}")
+        tell(f"{path}: its day is taken as {default.day}: its date is {changes.date or 'missing'}", Weight.NOTE)
     return Arrival(urgency, day or default.day)
 
 
@@ -99,6 +104,6 @@ def day_of(date: str) -> Optional[str]:
     """The day that a date of mail states, in the zone that it states, or None where it is no date from 1970 on."""
     try:
         day = email.utils.parsedate_to_datetime(date).date()
-    except ValueError:
+    except (ValueError, OverflowError, TypeError, IndexError):  # what the library raises for some texts
         return None
     return day.isoformat() if day.year >= 1970 else None

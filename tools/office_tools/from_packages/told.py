@@ -1,9 +1,45 @@
-"""What the command tells of things that it leaves out."""
+"""What the commands tell of things that they leave out, and how much each line weighs."""
+import enum
+from typing import Callable
+
 from office_tools import faults
 
 NAME = "office-from-packages"
 
 
-def tell(what: str) -> None:
-    """Tells a line on standard error."""
-    faults.tell(NAME, what)
+class Weight(enum.Enum):
+    """Whether a person should see a line."""
+
+    NOTE = "note"
+    """No: nothing is lost."""
+    ONCE = "once"
+    """On the day on which it is new."""
+    STANDS = "stands"
+    """As long as it is so: something stands still."""
+
+
+Listener = Callable[[str, Weight], None]
+
+
+def printed(what: str, _weight: Weight) -> None:
+    """Prints a line on standard error."""
+    faults.tell(NAME, escaped(what))
+
+
+def escaped(what: str) -> str:
+    """A line, its control characters by their numbers."""
+    return what if what.isprintable() else "".join(map(visible, what))
+
+
+def visible(character: str) -> str:
+    """A character, or its number where it can't be printed."""
+    return character if character.isprintable() else ascii(character)[1:-1]
+
+
+listener: Listener = printed
+"""Who takes the lines: standard error, unless a command that shares these modules has another way."""
+
+
+def tell(what: str, weight: Weight = Weight.STANDS) -> None:
+    """Tells a line."""
+    listener(what, weight)

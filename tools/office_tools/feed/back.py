@@ -1,0 +1,222 @@
+"""What the archive has once more, or at a lower version than the office was told: as what it is told, if it is.
+
+The office takes the greatest version of a source, and a package above all that was dropped. So what came back is told
+under a version above both, which ends in `+backN` and stands for the archive's (apply/marks.py). Such a package also
+provides its own name at the archive's version, which other packages may need.
+"""
+import dataclasses
+from collections import defaultdict
+from dataclasses import dataclass, field
+from typing import Iterable, Iterator, Mapping, Optional, Sequence
+
+from office_tools import reports, versions
+from office_tools.apply import marks
+from office_tools.feed.known import Known
+from office_tools.feed.told import Weight, tell
+from office_tools.from_packages.binaries import Binary, Key
+
+
+@dataclass(frozen=True)
+class Archive:
+    """What the archive has in unstable, what the mail says, and what the office's testing has."""
+
+    sources: Mapping[str, str]
+    binaries: Sequence[Binary]
+    known: Known
+    testing: reports.Testing
+
+    def told_version(self, source: str) -> Optional[str]:
+        """The archive's version that a source was told at last, without marks."""
+        version = self.known.versions.get(source)
+        return None if version is None else marks.source_version(version)
+
+    def is_lower(self, source: str) -> bool:
+        """Whether the archive has less of a source than was told."""
+        told = self.told_version(source)
+        return told is not None and versions.compare(self.sources[source], told) < 0
+
+    def is_above_testing(self, source: str) -> bool:
+        """Whether the archive has a newer version of a source than testing."""
+        held = self.held_version(source)
+        return source in self.sources and (held is None or versions.compare(self.sources[source], held) > 0)
+
+    def held_version(self, source: str) -> Optional[str]:
+        """The archive's version of a source that is in the office's testing."""
+        version = self.testing.sources.get(source)
+        return None if version is None else marks.source_version(version)
+
+
+@dataclass
+class Retold:
+    """The versions under which sources and packages are told that came back, and the packages that are dropped.
+
+    `urgent` are the sources that wait no days, `again` those whose age begins once more; `under` has the source's
+    version of packages that are told under another one than they were built of. `lines` and `alone` are what is told of
+    sources and of packages alone. `staying` are the made-up sources of packages that stay, `extra` such packages.
+    """
+
+    sources: dict[str, str] = field(default_factory=dict)
+    urgent: set[str] = field(default_factory=set)
+    again: set[str] = field(default_factory=set)
+    packages: dict[Key, str] = field(default_factory=dict)
+    under: dict[Key, str] = field(default_factory=dict)
+    drops: dict[Key, str] = field(default_factory=dict)
+    staying: dict[str, str] = field(default_factory=dict)
+    extra: list[Binary] = field(default_factory=list)
+    lines: dict[str, str] = field(default_factory=dict)
+    alone: dict[Key, str] = field(default_factory=dict)
+
+    def tell(self) -> None:
+        """Tells what is told again: a line for each source, or for a package alone."""
+        for source, line in self.lines.items():
+            if source in self.sources:
+                tell(line, Weight.ONCE)
+        for key, line in self.alone.items():
+            if key in self.packages:
+                tell(line, Weight.ONCE)
+
+    def told(self, binary: Binary, source_version: Optional[str]) -> Binary:
+        """A package as it is told: under its own version or a made-up one, of its source at this version."""
+        version = self.packages.get(binary.key, binary.version)
+        fields = dict(binary.fields)
+        if version != binary.version:
+            own = f"{binary.name} (= {binary.version})"
+            provided = fields.get("Provides", "")
+            fields.update({"Version": version, "Provides": f"{provided}, {own}" if provided else own})
+        if version != binary.version or source_version is not None:
+            fields["Source"] = f"{binary.source} ({source_version or binary.source_version})"
+        return dataclasses.replace(binary, version=version, fields=fields,
+                                   source_version=source_version or binary.source_version)
+
+
+def came_back(archive: Archive, allowed: Sequence[str]) -> Retold:
+    """What is told again, and what is dropped since the archive has less of it. `allowed` are the sources that may go
+    back in testing.
+    """
+    found = Retold()
+    rows = by_source(archive.binaries)
+    live = archive.known.live
+    for source, version in sorted(archive.sources.items()):
+        told = archive.told_version(source)
+        if told is None or marks.is_made_up(source):
+            continue
+        order = versions.compare(version, told)
+        own = rows.get(source, [])
+        if order < 0:
+            withdrawn(archive, found, Withdrawal(source, version, told, own, live), allowed)
+        elif order > 0 and versions.compare(version, archive.known.versions[source]) <= 0:
+            found.sources[source] = marks.back(archive.known.versions[source], version)
+            found.again.add(source)
+            retell(archive, found, source, own)
+    alone(archive, found, live)
+    return found
+
+
+@dataclass(frozen=True)
+class Withdrawal:
+    """A source of which the archive has less than was told, its packages there, and what is told and not dropped."""
+
+    source: str
+    version: str
+    told: str
+    own: Sequence[Binary]
+    live: Mapping[Key, str]
+
+    @property
+    def lower(self) -> Mapping[Key, str]:
+        """The packages that the archive has at a lower version than they were told, with what they were told at."""
+        return {binary.key: self.live[binary.key] for binary in self.own if binary.key in self.live
+                and versions.compare(binary.version, marks.package_version(self.live[binary.key])) < 0}
+
+
+def withdrawn(archive: Archive, found: Retold, gone: Withdrawal, allowed: Sequence[str]) -> None:
+    """Drops what was withdrawn, and tells the older version if testing is to have it."""
+    source, version, told = gone.source, gone.version, gone.told
+    held = archive.held_version(source)
+    is_ahead = held is not None and versions.compare(held, version) > 0
+    if is_ahead and source not in allowed:
+        tell(f"source {source}: testing has {held}, and unstable has {version} only: office-feed --back {source} lets "
+             "testing go back", Weight.STANDS)
+    if held is not None and versions.compare(held, version) == 0 or is_ahead and source not in allowed:
+        found.drops.update(gone.lower)
+        if gone.lower:
+            tell(f"source {source} {told}: it was withdrawn, and is dropped; unstable has {version}", Weight.ONCE)
+        return
+    found.sources[source] = marks.back(archive.known.versions[source], version)
+    if is_ahead:
+        found.urgent.add(source)
+    retell(archive, found, source, gone.own)
+    found.drops.update({key: version for key, version in gone.lower.items() if key not in found.packages})
+    found.lines[source] = f"source {source} {told}: it was withdrawn: {version} is told as {found.sources[source]}"
+
+
+def retell(archive: Archive, found: Retold, source: str, own: Iterable[Binary]) -> None:
+    """Tells all packages of a source again that are built of its version in the archive."""
+    for binary in own:
+        if versions.compare(binary.source_version, archive.sources[source]) == 0:
+            bound = archive.known.bound(binary.key)
+            if bound and versions.compare(binary.version, bound) <= 0:
+                found.packages[binary.key] = marks.back(bound, binary.version)
+
+
+def alone(archive: Archive, found: Retold, live: Mapping[Key, str]) -> None:
+    """Packages that were dropped and are back, or of which the archive has less, though not of their source.
+
+    They are told again, unless testing has them all the same; what was told above them is dropped then.
+    """
+    held = {(row.package, row.architecture): marks.package_version(row.version) for row in archive.testing.rows}
+    for binary in archive.binaries:
+        key, bound = binary.key, archive.known.bound(binary.key)
+        if not bound or key in found.packages or key in found.drops or archive.known.staying.get(key) == bound:
+            continue
+        if key in live:
+            is_less = versions.compare(binary.version, marks.package_version(bound)) < 0
+        else:
+            is_less = versions.compare(binary.version, bound) <= 0
+        if not is_less or archive.is_lower(binary.source):
+            continue
+        if held.get(key) == binary.version:
+            found.drops.update({key: bound} if key in live else {})
+            continue
+        found.packages[key] = marks.back(bound, binary.version)
+        found.alone[key] = f"{binary.name} {binary.architecture} {binary.version}: it is back below {bound}, which " \
+            f"was {'told' if key in live else 'dropped'}: told as {found.packages[key]}"
+
+
+def without_strange(archive: Archive, found: Retold) -> None:
+    """Leaves out what would meet a relation of a package of the archive that the archive's own version doesn't meet."""
+    live = archive.known.live
+    strange = dict(strange_needs(archive.binaries, found.packages))
+    sources = {binary.source for binary in archive.binaries if binary.key in strange}
+    for source in sources:
+        found.sources.pop(source, None)
+    for binary in archive.binaries if strange else ():
+        if binary.source not in sources or found.packages.pop(binary.key, None) is None:
+            continue
+        if binary.key in live:
+            found.drops[binary.key] = live[binary.key]
+        if binary.key in strange:
+            tell(f"{binary.name} {binary.architecture} {binary.version}: left out: {strange[binary.key]}, which the "
+                 "version that it would be told as meets", Weight.STANDS)
+
+
+def strange_needs(binaries: Sequence[Binary], packages: Mapping[Key, str]) -> Iterator[tuple[Key, str]]:
+    """The packages whose made-up version meets a relation that their own doesn't meet, and the relation."""
+    names: dict[str, list[Key]] = defaultdict(list)
+    for key in packages:
+        names[key[0]].append(key)
+    own = {binary.key: binary.version for binary in binaries if binary.key in packages} if packages else {}
+    for binary in binaries if packages else ():
+        for clause in binary.clauses:
+            for part in clause:
+                for key in names.get(part.name, ()):
+                    if part.is_met_by(packages[key]) and not part.is_met_by(own[key]):
+                        yield key, f"{binary.name} {binary.version} needs {part}"
+
+
+def by_source(binaries: Sequence[Binary]) -> Mapping[str, list[Binary]]:
+    """The packages of each source."""
+    found: dict[str, list[Binary]] = defaultdict(list)
+    for binary in binaries:
+        found[binary.source].append(binary)
+    return found

@@ -1,0 +1,136 @@
+"""What the office's mail says, as far as the feed needs it: read once, and kept in the folder for the next turn."""
+import contextlib
+import datetime
+import json
+from dataclasses import dataclass, field
+from typing import Any, Mapping, Sequence
+
+from office_tools import days, messages, versions
+from office_tools.apply import marks
+from office_tools.faults import Fault
+from office_tools.from_packages.binaries import Key
+from office_tools.from_packages.sent import key_of, needed
+from office_tools.from_packages.sources import put_newer
+from office_tools.messages import Kind, Label, Paragraph, kind_of, paragraphs
+
+FORM = 1
+"""The number of the form in which it is kept. A file of another form is read no more."""
+
+
+@dataclass
+class Known:
+    """What the mail says up to a number of each sender, all of which was taken in order.
+
+    `versions` has each source's greatest version, `packages` each package's greatest one, dropped or not, and `dropped`
+    up to which version it was dropped. `staying` are the packages told under a made-up source, `retold` which senders
+    told a version of a package under a spare name. `hints` are the texts of the release team's messages. `covers` and
+    `last_day` are those of the orders together. `ends` has the first and the last text of each sender.
+    """
+
+    taken: dict[str, int] = field(default_factory=dict)
+    versions: dict[str, str] = field(default_factory=dict)
+    packages: dict[Key, str] = field(default_factory=dict)
+    dropped: dict[Key, str] = field(default_factory=dict)
+    staying: dict[Key, str] = field(default_factory=dict)
+    retold: dict[tuple[Key, str], set[str]] = field(default_factory=dict)
+    hints: dict[int, str] = field(default_factory=dict)
+    covers: dict[str, int] = field(default_factory=dict)
+    last_day: str = ""
+    ends: dict[str, list[str]] = field(default_factory=dict)
+
+    @property
+    def live(self) -> Mapping[Key, str]:
+        """The greatest version of each package that isn't dropped."""
+        return {key: version for key, version in self.packages.items()
+                if key not in self.dropped or versions.compare(version, self.dropped[key]) > 0}
+
+    @property
+    def last_order(self) -> datetime.date:
+        """The latest day of all orders; the first day there is if there are none."""
+        return datetime.date.fromisoformat(self.last_day) if self.last_day else datetime.date.min
+
+    def bound(self, key: Key) -> str:
+        """The version above which a package has to be told so that it counts; an empty text if there is none."""
+        told, dropped = self.packages.get(key, ""), self.dropped.get(key, "")
+        return told if told and (not dropped or versions.compare(told, dropped) > 0) else dropped
+
+    def letters(self) -> Sequence[tuple[int, Paragraph]]:
+        """The first paragraphs of the release team's messages, by number."""
+        return [(number, next(paragraphs(text.encode()))) for number, text in sorted(self.hints.items())]
+
+    def take(self, label: Label, text: bytes, is_spare: bool, is_hint: bool) -> None:
+        """Takes the next message of a sender on. A text that no office keeps is a `Fault` or a `ValueError`."""
+        first, *others = paragraphs(text)
+        kind = kind_of(first)
+        if kind is Kind.UPLOAD:
+            put_newer(self.versions, needed(first, "Source"), needed(first, "Version"))
+        elif kind is Kind.BUILD:
+            for paragraph in others:
+                self.take_package(label, paragraph, is_spare)
+        elif kind is Kind.DROP:
+            put_newer(self.dropped, key_of(first), needed(first, "Version"))
+        elif kind is Kind.RUN:
+            self.last_day = max(self.last_day, days.day(needed(first, "Day")).isoformat())
+            for item in needed(first, "Covers").split(","):
+                sender, number = (item.split() + ["", "0"])[:2]
+                self.covers[sender] = max(self.covers.get(sender, 0), int(number))
+        elif kind is Kind.UNHINT:
+            int(needed(first, "Cancels"))
+        if is_hint:
+            self.hints[label.number] = text.decode()
+        self.taken[label.sender] = label.number
+        self.ends.setdefault(label.sender, [text.decode()])[1:] = [text.decode()]
+
+    def take_package(self, label: Label, paragraph: Paragraph, is_spare: bool) -> None:
+        """Takes a package of a build on."""
+        key, version = key_of(paragraph), needed(paragraph, "Version")
+        put_newer(self.packages, key, version)
+        if is_spare:
+            self.retold.setdefault((key, version), set()).add(label.sender)
+        if marks.is_made_up((paragraph.value("Source") or "").split(" ", 1)[0]):
+            put_newer(self.staying, key, version)
+
+    def written(self, size: int, digest: str) -> bytes:
+        """It as a text, with the size and the digest of the part of the bag that it is of."""
+        keyed = {name: {" ".join(key): version for key, version in getattr(self, name).items()}
+                 for name in ("packages", "dropped", "staying")}
+        retold = {" ".join((*key, version)): sorted(senders) for (key, version), senders in self.retold.items()}
+        return json.dumps({"form": FORM, "size": size, "digest": digest, "taken": self.taken, "ends": self.ends,
+                           "versions": self.versions, **keyed, "retold": retold, "hints": self.hints,
+                           "covers": self.covers, "last_day": self.last_day}).encode()
+
+
+@dataclass(frozen=True)
+class Kept:
+    """What a file keeps: what is known, and the size and the digest of the part of the bag that it is of."""
+
+    known: Known
+    size: int
+    digest: str
+
+
+def read(data: bytes) -> Kept:
+    """What such a text says. One of another form is a `Fault`."""
+    with contextlib.suppress(ValueError, KeyError, TypeError, AttributeError, RecursionError):
+        found: Any = json.loads(data.decode())
+        if found["form"] == FORM:
+            known = Known(found["taken"], found["versions"], last_day=found["last_day"], covers=found["covers"],
+                          ends=found["ends"], hints={int(number): text for number, text in found["hints"].items()})
+            for name in ("packages", "dropped", "staying"):
+                getattr(known, name).update({pair_of(key): version for key, version in found[name].items()})
+            for words, senders in found["retold"].items():
+                name, architecture, version = words.split(" ")
+                known.retold[(name, architecture), version] = set(senders)
+            return Kept(known, int(found["size"]), str(found["digest"]))
+    raise Fault("it isn't of the form that this version writes")
+
+
+def pair_of(words: str) -> Key:
+    """The name and the architecture of a key."""
+    name, architecture = words.split(" ")
+    return name, architecture
+
+
+def first_of(text: bytes) -> Paragraph:
+    """The first paragraph of a message; an empty one if there is none."""
+    return next(paragraphs(text), messages.Paragraph(1, ()))

@@ -1,0 +1,140 @@
+"""A copy of a running office's store, which follows it by its mail, and in which runs are tried."""
+import hashlib
+import json
+import os
+import shutil
+import tempfile
+from dataclasses import dataclass
+from typing import Mapping, Optional, Sequence
+
+from office_tools import bags, program, reports
+from office_tools.faults import Fault
+from office_tools.files import read_bytes, write_whole
+from office_tools.letters import letters
+from office_tools.messages import Label
+from office_tools.service import KEPT_LINE, Kept, Service
+
+UNANSWERED = 4
+STORE, ENDS = "store.db", "ends"
+PARTS = ("", "-wal", "-shm", "-journal")
+
+
+@dataclass(frozen=True)
+class Trial:
+    """What a run that is tried would decide: its update, and the testing that it leaves."""
+
+    update: reports.Update
+    testing: reports.Testing
+
+
+@dataclass(frozen=True)
+class Copy:
+    """The store in a folder that may be lost at any time."""
+
+    service: Service
+    setup: str
+    folder: str
+
+    @property
+    def store(self) -> str:
+        """The store's file."""
+        return os.path.join(self.folder, STORE)
+
+    def words(self, store: str) -> Sequence[str]:
+        """The options that name the setup and a store."""
+        return ["--conf", self.setup, "--db", store]
+
+    def follow(self) -> None:
+        """Brings over the mail that the office keeps. A copy that isn't the office's is made from nothing."""
+        if not self.is_same():
+            self.clear()
+        self.bring()
+        if self.differs():
+            self.clear()
+            self.bring()
+            if self.differs():
+                raise Fault(f"{self.service.url}: its testing isn't what its mail gives for {self.setup}", UNANSWERED)
+
+    def clear(self) -> None:
+        """Removes the copy."""
+        for path in (*(self.store + part for part in PARTS), os.path.join(self.folder, ENDS)):
+            if os.path.exists(path):
+                os.unlink(path)
+
+    def is_same(self) -> bool:
+        """Whether the last message of each sender in the copy is one that the office keeps."""
+        try:
+            ends = json.loads(read_bytes(os.path.join(self.folder, ENDS)))
+            return all(digest(self.service.kept_text(sender, number)) == due for sender, (number, due) in ends.items())
+        except (Fault, ValueError, TypeError, AttributeError):
+            return False
+
+    def own(self) -> Mapping[str, Kept]:
+        """What the copy keeps of each sender."""
+        if not os.path.exists(self.store):
+            return {}
+        found = {}
+        for line in program.output(["mail", *self.words(self.store)]).decode().splitlines():
+            parts = KEPT_LINE.fullmatch(line)
+            if parts is not None:
+                found[parts[1]] = Kept(int(parts[2]), int(parts[3] or 0), int(parts[4] or 0))
+        return found
+
+    def bring(self) -> None:
+        """Brings over the mail behind what the copy keeps without a gap, and writes down where it ends."""
+        own, lacking, ends = self.own(), [], {}
+        for sender in self.service.kept():
+            for label, text in letters(self.service, sender, own[sender].unbroken + 1 if sender in own else 1):
+                lacking.append(bags.framed(text))
+                ends[sender] = label.number, digest(text)
+        program.output(["replay", *self.words(self.store)], b"".join(lacking))
+        path = os.path.join(self.folder, ENDS)
+        known = json.loads(read_bytes(path)) if os.path.exists(path) else {}
+        write_whole(path, json.dumps({**known, **ends}).encode())
+
+    def differs(self) -> bool:
+        """Whether the copy has another testing than the office behind the same runs."""
+        theirs, own = self.service.testing(), self.testing()
+        return theirs.finished == own.finished and theirs != own
+
+    def testing(self) -> reports.Testing:
+        """What is in testing in the copy."""
+        return program.testing(self.setup, self.store)
+
+    def order(self, day: str) -> bytes:
+        """The text of the next order over the mail of the copy."""
+        return program.output(["order", "--day", day, *self.words(self.store)])
+
+    def tried(self, texts: Sequence[bytes], run: Label) -> Trial:
+        """What the run of this order decides behind these messages, of which the order is the last."""
+        with tempfile.TemporaryDirectory(dir=self.folder) as folder:
+            store = os.path.join(folder, STORE)
+            for part in PARTS:
+                if os.path.exists(self.store + part):
+                    shutil.copyfile(self.store + part, store + part)
+            told = program.output(["replay", *self.words(store)], b"".join(map(bags.framed, texts))).decode()
+        refused = next((line for line in told.splitlines()[:len(texts)] if not line.startswith("held ")), None)
+        if refused is not None:
+            raise Fault(f"the copy of the office's store answers {refused}: somebody else sends mail: run it again", 3)
+        return trial(told, run)
+
+
+def trial(told: str, run: Label) -> Trial:
+    """The last run that a replay prints, and testing."""
+    lines = told.splitlines(keepends=True)
+    start = last(lines, f"update {run.number} ")
+    testing = last(lines, "testing ")
+    if start is None or testing is None:
+        raise Fault(f"run {run.number} can't be tried: an ordered run waits for mail", 3)
+    return Trial(reports.read_update("".join(lines[start:testing])),
+                 reports.read_testing("".join(lines[testing:])))
+
+
+def last(lines: Sequence[str], head: str) -> Optional[int]:
+    """The place of the last line that begins so."""
+    return next((place for place in range(len(lines) - 1, -1, -1) if lines[place].startswith(head)), None)
+
+
+def digest(text: Optional[bytes]) -> str:
+    """A digest of a message."""
+    return hashlib.sha256(text or b"").hexdigest()

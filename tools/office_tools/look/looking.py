@@ -1,0 +1,160 @@
+"""A look at the run that would be ordered: what can't be installed after it is blocked, until that no longer holds."""
+import datetime
+import re
+from dataclasses import dataclass
+from typing import Iterator, Mapping, Optional, Sequence
+
+from office_tools import messages
+from office_tools.faults import Fault
+from office_tools.from_packages import proposals
+from office_tools.letters import letters
+from office_tools.look.blame import Eye, Step
+from office_tools.look.copy import Copy, Trial
+from office_tools.mailing import is_held, mailed
+from office_tools.messages import Kind, Label, label_of, paragraphs
+from office_tools.service import Service
+
+REFUSED = 3
+TURNS = 20
+LOOKED = "Looked"
+"""A field that the office doesn't read: it marks the blocks of this command, with the version that was looked at."""
+COVER = re.compile(rb"^Covers:.*$", re.MULTILINE)
+
+
+@dataclass(frozen=True)
+class Block:
+    """A standing hint of this command: its number, the source, and the version that was looked at."""
+
+    number: int
+    source: str
+    version: str
+
+
+@dataclass(frozen=True)
+class Found:
+    """What a look came to: the mail to send, the order behind it, and what the run does.
+
+    `blocked` are the sources that are held back and `loose` those that should be, each with a sentence.
+    """
+
+    texts: Sequence[bytes]
+    order: bytes
+    step: Step
+    blocked: Mapping[str, str]
+    loose: Mapping[str, str]
+
+
+@dataclass
+class Look:
+    """A running office, a copy of it, a judge, and where a line is told."""
+
+    service: Service
+    copy: Copy
+    eye: Optional[Eye]
+    day: datetime.date
+    hints: str = "rt"
+    last: int = 0
+    standing: Sequence[Block] = ()
+
+    def begin(self) -> None:
+        """Brings the copy up to date, and reads which blocks of this command stand."""
+        self.copy.follow()
+        hints = self.service.hints()
+        self.hints = hints.sender or self.hints
+        self.last = self.copy.own()[self.hints].unbroken
+        self.standing = list(blocks(self.service, self.hints,
+                                    [item.number for item in hints.items if item.words == "block"]))
+
+    def look(self, more: Sequence[str] = ()) -> Found:
+        """What the next run does with these hints, and what has to be blocked first."""
+        before = self.copy.testing()
+        order = self.copy.order(self.day.isoformat())
+        proposed = list(proposals.letters(more, self.hints, self.last, self.day.isoformat()))
+        blocked: dict[str, str] = {}
+        for _ in range(TURNS):
+            texts = [*proposed, *self.letters(blocked, len(proposed))]
+            covered = self.covering(order, len(texts))
+            step = Step(before, self.tried(texts, covered).testing)
+            parts = self.eye.culprits(step) if self.eye is not None else []
+            fixed = frozenset(blocked) | step.removed
+            fresh: Mapping[str, str] = next((part for part in parts if not fixed.issuperset(part)), {})
+            if not fresh:
+                loose = {name: why for part in parts for name, why in part.items()}
+                return Found(texts, covered, step, blocked, loose)
+            blocked.update((name, f"{step.after.sources[name]}: {why}") for name, why in fresh.items()
+                           if name not in fixed)
+        raise Fault(f"after {TURNS} turns packages still can't be installed: no run is ordered", REFUSED)
+
+    def tried(self, texts: Sequence[bytes], order: bytes) -> Trial:
+        """What the run of an order would do behind these messages."""
+        label = label_of(order)
+        assert label is not None
+        return self.copy.tried([*texts, order], label)
+
+    def letters(self, blocked: Mapping[str, str], after: int) -> Sequence[bytes]:
+        """The mail after which exactly these sources are blocked by this command: each with its version and the cause.
+        """
+        found: list[bytes] = []
+        number = self.last + after
+        staying = {block.source for block in self.standing
+                   if blocked.get(block.source, "").startswith(f"{block.version}: ")}
+        for block in self.standing:
+            if block.source not in staying:
+                number += 1
+                found.append(messages.unhint(Label(self.hints, number), block.number))
+        for source, why in sorted(blocked.items()):
+            if source not in staying:
+                number += 1
+                found.append(messages.composed([
+                    ("From", self.hints), ("Number", str(number)), ("Kind", Kind.HINT.value),
+                    ("Hint", f"block {source}"), (LOOKED, f"{source} {why}")]))
+        return found
+
+    def covering(self, order: bytes, count: int) -> bytes:
+        """An order that covers this many more messages of the sender of hints."""
+        if not count:
+            return order
+        numbers = {**covers(next(paragraphs(order)).value("Covers") or ""), self.hints: self.last + count}
+        told = ", ".join(f"{sender} {number}" for sender, number in numbers.items())
+        return COVER.sub(f"Covers: {told}".encode(), order)
+
+
+def blocks(service: Service, sender: str, numbers: Sequence[int]) -> Iterator[Block]:
+    """Those of these hints that this command sent."""
+    for number in dict.fromkeys(numbers):
+        text = service.kept_text(sender, number)
+        looked = next(paragraphs(text)).value(LOOKED) if text else None
+        if looked is not None:
+            source, _, rest = looked.partition(" ")
+            yield Block(number, source, rest.partition(": ")[0])
+
+
+def send(service: Service, texts: Sequence[bytes]) -> None:
+    """Posts messages one after the other; the first that isn't held ends it."""
+    for text in texts:
+        reply = mailed(service, text)
+        if not is_held(reply):
+            label = label_of(text)
+            raise Fault(f"{service.url}: {label.sender if label else '?'} {label.number if label else '?'}: {reply}: "
+                        "somebody else sends too: run it again", REFUSED)
+
+
+def is_due(service: Service, order: bytes, day: datetime.date) -> bool:
+    """Whether an order covers mail that no order covers yet, or its day is after that of all orders."""
+    label = label_of(order)
+    assert label is not None
+    covered: dict[str, int] = {}
+    latest = datetime.date.min
+    for _, text in letters(service, label.sender):
+        first = next(paragraphs(text))
+        latest = max(latest, datetime.date.fromisoformat(first.value("Day") or ""))
+        for sender, number in covers(first.value("Covers") or "").items():
+            covered[sender] = max(covered.get(sender, 0), number)
+    due = covers(next(paragraphs(order)).value("Covers") or "")
+    return day > latest or any(number > covered.get(sender, 0) for sender, number in due.items())
+
+
+def covers(value: str) -> Mapping[str, int]:
+    """The numbers that an order covers, by their senders."""
+    pairs = [part.split() for part in value.split(",") if part.strip()]
+    return {sender: int(number) for sender, number in pairs}
