@@ -222,11 +222,15 @@ class Command(unittest.TestCase):
         self.assertEqual(sorted(self.service.testing().sources), ["calm", "duet", "knot-a", "knot-b", "voice"])
 
     def test_nothing_is_sent(self):
+        """What a trial left that was ended by force is removed."""
         self.begin()
+        left = os.path.join(self.folder, "cache", "trial-x")
+        os.mkdir(left)
         self.comes(self.NEXT, "voice 1-2 Conflicts:calm")
         before = self.service.kept()
         status, _, told = self.look(self.NEXT, "--order", "--dry-run")
         self.assertEqual((status, before), (1, self.service.kept()))
+        self.assertFalse(os.path.exists(left))
         self.assertIn("Hint: block voice\n", told)
         self.assertIn("Kind: run\n", told)
 

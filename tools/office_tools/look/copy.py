@@ -16,6 +16,7 @@ from office_tools.service import KEPT_LINE, Kept, Service
 
 UNANSWERED = 4
 STORE, ENDS = "store.db", "ends"
+TRIAL = "trial-"
 PARTS = ("", "-wal", "-shm", "-journal")
 
 
@@ -45,7 +46,13 @@ class Copy:
         return ["--conf", self.setup, "--db", store]
 
     def follow(self) -> None:
-        """Brings over the mail that the office keeps. A copy that isn't the office's is made from nothing."""
+        """Brings over the mail that the office keeps. A copy that isn't the office's is made from nothing.
+
+        What a trial left that was ended by force is removed.
+        """
+        for name in os.listdir(self.folder):
+            if name.startswith(TRIAL):
+                shutil.rmtree(os.path.join(self.folder, name), ignore_errors=True)
         if not self.is_same():
             self.clear()
         self.bring()
@@ -107,7 +114,7 @@ class Copy:
 
     def tried(self, texts: Sequence[bytes], run: Label) -> Trial:
         """What the run of this order decides behind these messages, of which the order is the last."""
-        with tempfile.TemporaryDirectory(dir=self.folder) as folder:
+        with tempfile.TemporaryDirectory(dir=self.folder, prefix=TRIAL) as folder:
             store = os.path.join(folder, STORE)
             for part in PARTS:
                 if os.path.exists(self.store + part):
