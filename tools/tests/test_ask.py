@@ -1,14 +1,11 @@
 """office-ask: the same text and exit status as the program over the store of a stopped office with the same mail."""
-import contextlib
-import io
 import os
 import tempfile
 import unittest
 
-from helpers import OFFICE, SETUP, Serving, example, needs_office, office, tool
+from helpers import SETUP, Serving, example, needs_office, office, tool, tool_here
 from office_tools import bags
 from office_tools.ask import command
-from office_tools.faults import Fault
 from office_tools.service import Service
 
 # Words of the program, each of which is put to both. In the store's mail, that of examples/archive.bag and LATER,
@@ -23,7 +20,8 @@ ASKED = [
     ["try", "block greeter", "unblock greeter"], ["try", ""], ["try", "block greeter", "--all"],
     ["try", "block greeter", "--day", "2025-04-02"], ["try", "unblock libgreet/2.0-1", "--all", "--day", "2025-04-02"],
     ["try", "block\ngreeter"], ["try", "block greeter\r"],
-    ["propose"], ["propose", "libgreet"], ["propose", "greeter"], ["propose", "nosuch"], ["propose", "libgreet", "greeter"],
+    ["propose"], ["propose", "libgreet"], ["propose", "greeter"], ["propose", "nosuch"],
+    ["propose", "libgreet", "greeter"],
     ["propose", "--day", "2025-04-02", "--all"], ["propose", "No"],
     ["hints"], ["runs"], ["waiting"], ["mail"], ["mail", "--list"], ["order", "--day", "2025-04-01"],
     ["report", "testing"], ["report", "unstable"], ["report", "1", "excuses"], ["report", "2", "update"],
@@ -31,19 +29,6 @@ ASKED = [
     ["report", "1", "reports"]]
 LATER = [b"From: rt\nNumber: 3\nKind: hint\nHint: remove nothing/1\n", b"From: bts\nNumber: 3\nKind: none\n",
          b"From: clock\nNumber: 3\nKind: run\nDay: 2025-03-22\nCovers: ftp 9, bts 3\n"]
-
-
-def asked_here(*words):
-    """What the command prints, and its status, without a process of its own."""
-    printed = io.TextIOWrapper(io.BytesIO())
-    with contextlib.redirect_stdout(printed), contextlib.redirect_stderr(io.StringIO()):
-        try:
-            status = command.main(words)
-        except Fault as fault:
-            status = fault.status
-        except SystemExit as end:
-            status = end.code
-    return printed.buffer.getvalue(), status
 
 
 class Compared(unittest.TestCase):
@@ -57,22 +42,18 @@ class Compared(unittest.TestCase):
                 service = Service(serving.url)
                 for text in texts:
                     self.assertTrue(service.post("/mail", text).is_good, text)
-                told = [asked_here(*words, "--url", serving.url, "--conf", setup) for words in asked]
+                served = ["--url", serving.url, "--conf", setup]
+                told = [tool_here("office-ask", command.main, *words, *served) for words in asked]
             over = ["--conf", setup, "--db", store]
             for words, answered in zip(asked, told):
                 due = office(*words, *over)
                 with self.subTest(words=words):
-                    self.assertEqual(answered, (due.stdout, due.returncode))
-            return [status for _, status in told]
+                    self.assertEqual((answered[0], answered[2]), (due.stdout.decode(), due.returncode))
+            return [status for _, _, status in told]
 
 
 @needs_office
 class Ask(Compared):
-
-    def setUp(self):
-        before = os.environ["OFFICE"]
-        self.addCleanup(os.environ.__setitem__, "OFFICE", before)
-        os.environ["OFFICE"] = OFFICE
 
     def test_archive(self):
         texts = [*bags.messages_in(example("archive.bag")), *LATER]
@@ -136,7 +117,8 @@ class Sentences(unittest.TestCase):
                 other.write(file.read().replace("Sender: rt", "Sender: team"))
             other.flush()
             told = self.asked("why", "--hint", "1", "--conf", other.name)
-        self.assertEqual(told[1:], (f"office-ask: {other.name}: the office has other senders: ftp bd bts rt clock\n", 4))
+        due = f"office-ask: {other.name}: the office has other senders: ftp bd bts rt clock\n"
+        self.assertEqual(told[1:], (due, 4))
 
 
 class Words(unittest.TestCase):
