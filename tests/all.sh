@@ -47,6 +47,7 @@ try proxy python3 "$here/service/proxy.py" "$office"
 try peers sh "$here/peers/store.sh" --by "$office"
 try trust python3 "$here/trust.py"
 try docs sh "$here/docs.sh" "$office"
+try tenth_day /usr/bin/python3 "$here/tenth_day/run.py" "$office"
 try tools env OFFICE="$office" /usr/bin/python3 -m unittest discover -s "$here/../tools/tests"
 try garbled /usr/bin/python3 "$here/archive/garbled.py" "$office"
 if [ -d "$here/../crates/deb_version/out/rlib" ]; then

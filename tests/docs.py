@@ -3,13 +3,16 @@
 
 usage: docs.py COPY DOCUMENT     (docs.sh makes the copy, and puts the program in PATH)
 
-In Markdown a command is a line of an indented block whose first word is one of WORDS, a tool's name or a path of the
-repository; what follows it, up to the next command or the end of the block, is what it prints. In a manual page it is a
-line of a literal display behind a dollar sign. A line goes on where it ends with a backslash or a bar, where a quote is
+A document whose blocks have prompts (`$ `, and `# ` for root) has a command on each such line. In any other one a
+command is a line of an indented block whose first word is one of WORDS, a tool's name or a path of the repository. What
+follows a command, up to the next command or the end of the block, is what it prints. In a manual page it is a line of a
+literal display behind a dollar sign. A command goes on where its line ends with a backslash or a bar, where a quote is
 open, and up to the end of a text behind `<<`. What a command prints isn't compared where the document shows nothing. It
 has to end with status 0, but for those of ENDS, and for curl that prints a refusal. Each block starts at the top of the
-copy. A service runs in the background until the next one starts, a command names its store, or the document ends; it is
-ended by a signal.
+copy, with the PATH that the last one left.
+
+Only what is in the document is typed. A service that a document starts runs in a terminal of its own, until a line `^C`
+interrupts it or the document ends. So if a document starts a second one on the same port, that fails.
 """
 import os
 import re
@@ -22,10 +25,12 @@ from pathlib import Path
 WORDS = {'office', 'rt', 'cd', 'cat', 'curl', 'grep', 'sed', 'cp', 'rm', 'mkdir', 'printf', 'sqlite3', 'cmp', 'make',
          'systemctl', 'journalctl', 'apt', 'apt-get'}
 SECONDS = 600
+INTERRUPT = '^C'  # what a terminal shows where Ctrl-C is typed
 # What isn't run, in which document, and why. An empty text of the environment's APT keeps apt's commands out.
 NOT_RUN = [
     ('README.md', r'(office|\.\.) .*   ', 'it is a table of the commands'),
     ('docs/FIRST_WEEK.md', r'apt-get |/usr/lib/apt/|.*bookworm', 'it needs the network and root: APT=1 runs it'),
+    ('docs/FIRST_WEEK.md', r'cp -r /usr/share/doc/', 'the package isn\'t installed here'),
     ('share/README.md', r'office-mirror --state ', 'it needs two machines'),
     ('share/README.md', r'systemctl |apt |make |share/', 'it changes the machine, or is run by share/check.sh'),
 ]
@@ -74,10 +79,17 @@ def blocks(document, text):
             block = []
 
 
-def is_command(document, line):
-    """Whether a line starts a command."""
-    if document.endswith('.1'):
-        return line.startswith('$ ')
+def has_prompts(document, text):
+    """Whether the commands of a document stand behind prompts."""
+    return document.endswith('.1') or re.search(r'(?m)^    \$ ', text) is not None
+
+
+def is_command(line, is_prompted):
+    """Whether a line starts a command, or interrupts one."""
+    if line == INTERRUPT:
+        return True
+    if is_prompted:
+        return line.startswith(('$ ', '# '))
     if re.match(r'rt \d', line):
         # What `office mail --list` tells of the sender rt.
         return False
@@ -86,14 +98,14 @@ def is_command(document, line):
     return bool(word in WORDS or is_path or re.fullmatch(r'office-[a-z-]+', word))
 
 
-def commands(document, block):
+def commands(block, is_prompted):
     """The commands of a block."""
     found = []
     for number, line in block:
         if found and found[-1].goes_on():
             found[-1].text += '\n' + line
-        elif is_command(document, line):
-            found.append(Command(number, line.removeprefix('$ ')))
+        elif is_command(line, is_prompted):
+            found.append(Command(number, line.removeprefix('$ ').removeprefix('# ')))
         elif found:
             found[-1].shown.append(line)
     return found
@@ -103,7 +115,8 @@ class Runner:
     """Runs commands in a copy, and counts."""
 
     def __init__(self, copy, document):
-        self.copy, self.document, self.service, self.store = copy, document, None, None
+        self.copy, self.document, self.services = copy, document, []
+        self.path = os.environ['PATH']
         self.passed = self.failed = 0
 
     def reason(self, command):
@@ -123,14 +136,11 @@ class Runner:
                 print(f'not run: {self.document}:{command.line}: {command.text.strip()[:60]}: {reason}')
                 continue
             text = command.text
-            if self.document == 'share/man/office.1' and ' store.db ' in text and not text.startswith('office serve '):
-                # The page says that no service has the store open.
-                self.end()
             for form, other in INSTEAD:
                 text = re.sub(form, other, text)
-            if self.store and re.search(rf'(?<!\S){re.escape(self.store)}(?!\S)', text):
-                self.end()
-            if text.startswith('office serve '):
+            if text == INTERRUPT:
+                status, told = self.interrupt()
+            elif text.startswith('office serve '):
                 status, told = self.serve(text)
             else:
                 status, told, folder = self.run(text, folder)
@@ -139,34 +149,43 @@ class Runner:
     def run(self, text, folder):
         """Runs a command: its status, what it printed, and the folder that it leaves."""
         where = self.copy.parent / 'folder'
-        script = f'{text}\nstatus=$?\npwd > "{where}"\nexit $status\n'
+        script = f'{text}\nstatus=$?\n{{ pwd; echo "$PATH"; }} > "{where}"\nexit $status\n'
         try:
-            done = subprocess.run(['bash', '-c', script], cwd=folder, stdin=subprocess.DEVNULL, stdout=subprocess.PIPE,
-                                  stderr=subprocess.STDOUT, timeout=SECONDS)
+            done = subprocess.run(['/bin/bash', '-c', script], cwd=folder, stdin=subprocess.DEVNULL,
+                                  stdout=subprocess.PIPE, stderr=subprocess.STDOUT, timeout=SECONDS,
+                                  env={**os.environ, 'PATH': self.path})
         except subprocess.TimeoutExpired as late:
             return f'no end after {SECONDS} seconds', (late.stdout or b'').decode(errors='replace'), folder
-        return done.returncode, done.stdout.decode(errors='replace'), Path(where.read_text().strip())
+        left, self.path = where.read_text().splitlines()
+        return done.returncode, done.stdout.decode(errors='replace'), Path(left)
 
     def serve(self, text):
-        """Starts a service: 0 and its first line once it has one."""
-        self.end()
-        self.store = (re.findall(r'--db[ =](\S+)', text) or [None])[0]
-        told = self.copy.parent / 'service'
+        """Starts a service: 0 and its first line once it has one; its status if it ends before."""
+        told = self.copy.parent / f'service{len(self.services)}'
         with open(told, 'wb') as output:
-            self.service = subprocess.Popen(['bash', '-c', 'exec ' + text], cwd=self.copy, stdin=subprocess.DEVNULL,
-                                            stdout=output, stderr=subprocess.STDOUT)
+            service = subprocess.Popen(['/bin/bash', '-c', 'exec ' + text], cwd=self.copy, stdin=subprocess.DEVNULL,
+                                       stdout=output, stderr=subprocess.STDOUT, env={**os.environ, 'PATH': self.path})
+        self.services.append(service)
         for _ in range(600):
-            if told.read_text().endswith('\n') or self.service.poll() is not None:
+            if told.read_text().endswith('\n') or service.poll() is not None:
                 break
             time.sleep(0.05)
-        return self.service.poll() or 0, told.read_text()
+        return service.poll() or 0, told.read_text()
+
+    def interrupt(self):
+        """Types Ctrl-C where the last service runs: 0, or 1 if none runs."""
+        running = [service for service in self.services if service.poll() is None]
+        for service in running[-1:]:
+            service.send_signal(signal.SIGINT)
+            service.wait()
+        return (0, '') if running else (1, 'no service runs\n')
 
     def end(self):
-        """Ends the service that runs."""
-        if self.service and self.service.poll() is None:
-            self.service.send_signal(signal.SIGTERM)
-            self.service.wait()
-        self.service = self.store = None
+        """Ends the services that run."""
+        for service in self.services:
+            if service.poll() is None:
+                service.send_signal(signal.SIGTERM)
+                service.wait()
 
     def judge(self, command, status, told):
         """Counts a command, and tells what is wrong with it."""
@@ -190,9 +209,11 @@ def main():
     runner = Runner(copy, document)
     if document in GIVEN:
         subprocess.run(['sh', '-c', GIVEN[document]], cwd=copy, check=True)
+    text = (copy / document).read_text()
+    is_prompted = has_prompts(document, text)
     try:
-        for block in blocks(document, (copy / document).read_text()):
-            found = commands(document, block)
+        for block in blocks(document, text):
+            found = commands(block, is_prompted)
             if not found:
                 print(f'not run: {document}:{block[0][0]}: {block[0][1].strip()[:60]}: it is a block without a command')
             runner.block(found)

@@ -4,9 +4,10 @@
 #
 # Usage: tests/docs.sh OFFICE
 #
-# OFFICE is the built program. What can't be run here is told with its reason (tests/docs.py lists it). The service that
-# a document starts listens on 127.0.0.1:8080, and is ended. With APT=1 in the environment the commands that fetch the
+# OFFICE is the built program. What can't be run here is told with its reason (tests/docs.py lists it). The services that
+# a document starts listen on 127.0.0.1:8080, which has to be free, and are ended. With APT=1 in the environment the commands that fetch the
 # lists of a Debian release by apt, and make a report of them, are run too; they need root, the network and some minutes.
+# DOCUMENTS in the environment names some of them alone.
 # The last line is `N passed, N failed`; the exit status is 1 where one failed, and 2 where the words are wrong.
 set -eu
 if [ $# -ne 1 ] || [ ! -x "$1" ]; then
@@ -22,20 +23,28 @@ ln -s "$(realpath -e -- "$1")" "$work/bin/office"
 # At a terminal curl shows no progress; here it is told not to.
 echo silent > "$work/.curlrc"
 CURL_HOME=$work
-# The documents call the tools by their names, as they are installed.
-PATH=$work/bin:$work/copy/tools/bin:$work/copy/share:$PATH
+# The documents call the program and the tools by their names, as they are installed. FIRST_WEEK.md finds them itself.
+installed=$work/bin:$work/copy/tools/bin:$work/copy/share:$PATH
 PYTHONDONTWRITEBYTECODE=1
-export CURL_HOME PATH PYTHONDONTWRITEBYTECODE
+export CURL_HOME PYTHONDONTWRITEBYTECODE
 
 passed=0
 failed=0
-for document in README.md docs/MANUAL.md docs/FIRST_WEEK.md share/README.md share/man/office.1; do
+for document in ${DOCUMENTS:-README.md docs/MANUAL.md docs/FIRST_WEEK.md share/README.md share/man/office.1}; do
     copy=$work/copy
     rm -rf "$copy"
     mkdir "$copy"
     # A file that is removed and not yet committed is listed too: what isn't there isn't copied.
     (cd "$top" && git ls-files -z -co --exclude-standard | tar --null -T - -cf - 2> /dev/null) | tar xf - -C "$copy"
-    python3 "$top/tests/docs.py" "$copy" "$document" > "$work/told" || true
+    case $document in
+        docs/FIRST_WEEK.md)
+            mkdir -p "$copy/crates/office/out"
+            ln -s "$(realpath -e -- "$1")" "$copy/crates/office/out/office"
+            path=$PATH
+            ;;
+        *) path=$installed ;;
+    esac
+    PATH=$path python3 "$top/tests/docs.py" "$copy" "$document" > "$work/told" || true
     sed '$d' "$work/told"
     last=$(tail -n 1 "$work/told")
     case $last in

@@ -3,14 +3,17 @@ import netrc
 from typing import Optional
 
 from office_tools.faults import Fault, cause_of
-from office_tools.service import Service
+from office_tools.service import SECONDS, Service
 
 WORDS_ARE_WRONG = 2
 
 
-def service_at(url: str, user: Optional[str] = None) -> Service:
-    """The service at a URL. A user who is stated, there or here, without a password there has it in ~/.netrc."""
-    service = Service(url, user)
+def service_at(url: str, user: Optional[str] = None, seconds: float = SECONDS) -> Service:
+    """The service at a URL; a connection waits that many seconds for it.
+
+    A user who is stated, there or here, without a password there has it in ~/.netrc.
+    """
+    service = Service(url, user, seconds=seconds)
     if service.user is None or service.password is not None:
         return service
     try:
@@ -19,4 +22,4 @@ def service_at(url: str, user: Optional[str] = None) -> Service:
         raise Fault(f"the password of {service.user}: ~/.netrc: {cause_of(fault)}", WORDS_ARE_WRONG) from fault
     if known is None or known[0] != service.user:
         raise Fault(f"~/.netrc has no password of {service.user} at {service.host}", WORDS_ARE_WRONG)
-    return Service(url, service.user, known[2])
+    return Service(url, service.user, known[2], seconds)

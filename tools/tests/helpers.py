@@ -2,13 +2,15 @@
 
 The environment's OFFICE names the built program. What needs it is skipped where it isn't named.
 """
+import contextlib
+import io
 import os
 import re
 import socket
 import subprocess
 import sys
 import unittest
-from typing import Optional, Sequence
+from typing import Callable, Optional, Sequence
 
 TOOLS = os.path.dirname(os.path.dirname(os.path.realpath(__file__)))
 TOP = os.path.dirname(TOOLS)
@@ -17,6 +19,8 @@ SETUP = os.path.join(EXAMPLES, "setup.conf")
 OFFICE = os.path.realpath(os.environ["OFFICE"]) if os.environ.get("OFFICE") else ""
 
 sys.path.insert(0, TOOLS)
+if OFFICE:
+    os.environ["OFFICE"] = OFFICE  # some tests change the folder
 
 needs_office = unittest.skipUnless(OFFICE, "OFFICE names no built program")
 
@@ -31,6 +35,22 @@ def tool(name: str, *words: str, given: bytes = b"") -> "subprocess.CompletedPro
     """Runs the command of this package with this whole name, such as office-from-packages."""
     return subprocess.run([os.path.join(TOOLS, "bin", name), *words], input=given.decode(), text=True,
                           capture_output=True, timeout=600, check=False)
+
+
+def tool_here(name: str, main: Callable[[Sequence[str]], int], *words: str) -> tuple[str, str, int]:
+    """What a command prints on standard output and error, and its status, without a process of its own."""
+    from office_tools.faults import Fault, tell
+    printed, told = io.TextIOWrapper(io.BytesIO(), "utf-8"), io.StringIO()
+    with contextlib.redirect_stdout(printed), contextlib.redirect_stderr(told):
+        try:
+            status = main(words)
+        except Fault as fault:
+            tell(name, fault.cause)
+            status = fault.status
+        except SystemExit as end:
+            status = int(end.code or 0)
+    printed.flush()
+    return printed.buffer.getvalue().decode(), told.getvalue(), status  # type: ignore[attr-defined]
 
 
 def office(*words: str, given: bytes = b"") -> "subprocess.CompletedProcess[bytes]":

@@ -3,8 +3,9 @@ import os
 import tempfile
 import unittest
 
-from helpers import SETUP, Serving, example, needs_office, office, tool
+from helpers import SETUP, Serving, example, needs_office, office, tool, tool_here
 from office_tools import bags
+from office_tools.lint import command
 from office_tools.service import Service
 
 TODAY = "2025-03-22"
@@ -25,6 +26,11 @@ def upload(number, source, version, day="2025-03-14"):
 
 def build(number, *lines):
     return message("bd", number, "build", "", *lines)
+
+
+def delays(number, *days):
+    names = ["Low", "Medium", "High", "Critical"]
+    return message("rt", number, "delays", *[f"{name}: {of}" for name, of in zip(names, days)])
 
 
 def order(number, covers, day="2025-03-22"):
@@ -48,11 +54,11 @@ KEPT = [
 SLIPS = [
     ("a hint for a misspelt source", hint(10, "unblock greeeter/2.0-1"), ["4: warning: no source greeeter"]),
     ("a block of a misspelt source", hint(10, "block greeeter"), ["4: warning: no source greeeter"]),
-    ("a removal of another version", hint(10, "remove mailer/9-9"), ["4: warning: unstable has mailer 5-2"]),
+    ("a removal of another version", hint(10, "remove mailer/9-9"),
+     ["4: warning: testing has no mailer: this removes nothing"]),
     ("days for a version to come", hint(10, "age-days 99 mailer/5-3"), ["4: warning: unstable has mailer 5-2"]),
     ("a group with a misspelt source", hint(10, "easy greeter/2.0-1 nosuch/1-1"), ["4: warning: no source nosuch"]),
     ("a good hint", hint(10, "unblock greeter/2.0-1"), []),
-    ("all is blocked", hint(10, "block-all source"), []),
     ("no such hint", message("rt", 10, "unhint", "Cancels: 77"),
      ["4: warning: no hint in force has the number 77"]),
     ("a message that is no hint", message("rt", 10, "unhint", "Cancels: 8"),
@@ -76,7 +82,8 @@ SLIPS = [
     ("a good upload", upload(5, "greeter", "2.0-2"), []),
     ("a build of a misspelt source",
      build(4, "Package: mailer", "Version: 5-2", "Architecture: amd64", "Source: mailerr"),
-     ["8: warning: no source mailerr"]),
+     ["8: warning: no source mailerr",
+      "5: warning: unstable has mailer 5-2 on amd64: this build changes nothing"]),
     ("a build of a version to come", build(4, "Package: mailer", "Version: 5-3", "Architecture: amd64"),
      ["5: warning: unstable has mailer 5-2"]),
     ("a rebuild", build(4, "Package: mailer", "Version: 5-2+b1", "Architecture: amd64", "Source: mailer (5-2)"), []),
@@ -85,7 +92,8 @@ SLIPS = [
       "8: warning: the office reads no field Fixd here: is Fixed meant?"]),
     ("a misspelt list of what is needed",
      build(4, "Package: mailer", "Version: 5-2", "Architecture: amd64", "Depend: greeter", "Conflicts: exim"),
-     ["8: warning: the office reads no field Depend here: is Depends meant?"]),
+     ["8: warning: the office reads no field Depend here: is Depends meant?",
+      "5: warning: unstable has mailer 5-2 on amd64: this build changes nothing"]),
     ("an upload of ten years ago", upload(5, "greeter", "2.0-2", "2015-03-14"),
      ["7: warning: day 2015-03-14 is more than 30 days before today"]),
     ("an upload to come", upload(5, "greeter", "2.0-2", "2099-03-14"),
@@ -104,6 +112,61 @@ SLIPS = [
      ["1: refused OtherText: another text is kept under this number"]),
     ("a number that was skipped", hint(12, "block mailer"), ["2: warning: number 12 of rt: 10 is the next"]),
     ("a number that is kept", hint(9, "block chess"), []),
+]
+
+# The same office once testing has lone 1-1, and bug 6001 was told of chess.
+LATER = [*KEPT, upload(5, "lone", "1-1", "2025-03-01"),
+         build(4, "Package: lone", "Version: 1-1", "Architecture: all", "Provides: solo, aa (= 1)"),
+         message("bts", 2, "bug", "Bug: 6001", "Source: chess", "Severity: serious"),
+         order(3, "ftp 5, bd 4, rt 9, bts 2", "2025-03-20")]
+
+
+def drop(version, package="greeter"):
+    return message("ftp", 6, "drop", "Package: " + package, "Architecture: amd64", "Version: " + version)
+
+
+def about(bug, source, *lines):
+    return message("bts", 3, "bug", f"Bug: {bug}", "Source: " + source, "Severity: serious", *lines)
+
+
+# What has a greater effect than is meant, or none.
+EFFECTS = [
+    ("a drop up to a greater version", drop("99-1"),
+     ["6: warning: unstable has 2.0-1 of greeter on amd64: no build up to 99-1 will count"]),
+    ("a drop of the row", drop("2.0-1"), []),
+    ("an upload with an epoch", upload(6, "greeter", "11:2.1-1"),
+     ["5: warning: unstable has greeter 2.0-1, of a lower epoch: no version below 11:2.1-1 will count"]),
+    ("an upload that looks like a day", upload(6, "greeter", "20250322-1"),
+     ["5: warning: unstable has greeter 2.0-1: no version below 20250322-1 will count"]),
+    ("a dot too few", upload(6, "greeter", "21-1"),
+     ["5: warning: unstable has greeter 2.0-1: no version below 21-1 will count"]),
+    ("a next version", upload(6, "greeter", "10.0-1"), []),
+    ("a removal of unstable's version", hint(10, "remove mailer/5-2"),
+     ["4: warning: testing has no mailer: this removes nothing, and keeps 5-2 out"]),
+    ("a removal of testing's version", hint(10, "remove lone/1-1"), []),
+    ("a removal of another version", hint(10, "remove lone/1-2"),
+     ["4: warning: testing has lone 1-1: this removes nothing"]),
+    ("all is blocked", hint(10, "block-all source"),
+     ["4: warning: this keeps all sources out: 3 are newer in unstable"]),
+    ("a block that is in force", hint(10, "block mailer chess"), ["4: warning: rt 9 in force asks chess already"]),
+    ("an unblock of what is blocked", hint(10, "unblock chess/7-1"), []),
+    ("shorter delays", delays(10, 1, 5, 2, 0), ["4: warning: Low is 10 now", "4: warning: Low is below Medium"]),
+    ("much longer delays", delays(10, 1000, 5, 2, 0), ["4: warning: Low is 10 now"]),
+    ("twice the delays", delays(10, 20, 10, 4, 0), []),
+    ("delays in the wrong order", delays(10, 10, 2, 5, 0), ["5: warning: Medium is below High"]),
+    ("a build again", build(5, "Package: greeter", "Version: 2.0-1", "Architecture: amd64"),
+     ["5: warning: unstable has greeter 2.0-1 on amd64: this build changes nothing"]),
+    ("what it needs isn't there",
+     build(5, "Package: greeter", "Version: 2.0-1+b1", "Architecture: amd64", "Source: greeter (2.0-1)",
+           "Depends: mailer, solo (>= 1) | none,", " nosuch | none (>= 2)"),
+     ["10: warning: greeter: nothing in unstable is nosuch or none"]),
+    ("a bug that is found above unstable", about(7, "greeter", "Found: 9.9-9"),
+     ["7: warning: unstable has greeter 2.0-1: no version up to it has this bug"]),
+    ("a bug that is fixed where it was found", about(7, "greeter", "Found: 2.0-1", "Fixed: 2.0-1"),
+     ["8: warning: 2.0-1 isn't above 2.0-1, where it was found: no version has this bug"]),
+    ("a bug of another source", about(6001, "greeter"),
+     ["5: warning: bug 6001 was of chess, which no longer has it then"]),
+    ("a bug again", about(6001, "chess", "Fixed: 7-1"), []),
 ]
 
 # A name, a message, its refusal and the line, and what has to stand in the cause.
@@ -147,6 +210,10 @@ REFUSALS = [
      "8: refused BadValue Provides: aa: clause 2, 'cc | dd': "),
     ("a block with a version", hint(10, "block broken/0.9-1"),
      "4: refused BadValue Hint: 'block broken/0.9-1': `block` takes names without versions"),
+    ("a no-break space", hint(10, "unblock\u00a0greeter/2.0-1"),
+     "4: refused BadValue Hint: 'unblock\\xa0greeter/2.0-1' with NO-BREAK SPACE (U+00A0) is no hint: "),
+    ("a letter that looks like another", hint(10, "easy gre\u0435ter/2.0-1"),
+     "4: refused BadValue Hint: 'gre\u0435ter/2.0-1' with CYRILLIC SMALL LETTER IE (U+0435): NAME/VERSION is due"),
     ("another office's hint", hint(10, "urgent greeter/2.0-1"), "4: refused BadValue Hint: 'urgent' is no hint: "),
     ("an item without a version", hint(10, "easy greeter/2.0-1 mailer"),
      "4: refused BadValue Hint: 'mailer': NAME/VERSION is due"),
@@ -211,9 +278,9 @@ class Folder(unittest.TestCase):
 
     def lint(self, *words, today=TODAY):
         """What office-lint prints, and its status."""
-        told = tool("office-lint", "--conf", SETUP, "--today", today, *words)
-        self.assertEqual(told.stderr, "")
-        return told.stdout, told.returncode
+        told = tool_here("office-lint", command.main, "--conf", SETUP, "--today", today, *words)
+        self.assertEqual(told[1], "")
+        return told[0], told[2]
 
     def put(self, name, text):
         with open(name, "wb") as file:
@@ -283,6 +350,46 @@ class Slips(Folder):
         told = tool("office-lint", "--conf", SETUP, "--url", "http://127.0.0.1:1", self.put("m", b""))
         self.assertEqual((told.stdout, told.returncode), ("", 4))
         self.assertEqual(told.stderr, "office-lint: http://127.0.0.1:1/kept: Connection refused\n")
+
+
+@needs_office
+class Effects(Folder):
+
+    KEPT = b"".join(map(bags.framed, LATER))
+
+    def test_effects(self):
+        """Over a store, and over a service that isn't given the setup."""
+        words = ["--today", TODAY]
+        with Serving(store="store.db") as serving:
+            for name, text, due in EFFECTS:
+                with self.subTest(name):
+                    told = tool_here("office-lint", command.main, *words, "--url", serving.url, self.put("m", text))
+                    self.assertEqual(told, ("".join(f"m:{line}\n" for line in due), "", 1 if due else 0))
+        for name, text, due in EFFECTS:
+            with self.subTest(name):
+                told, _ = self.lint("--db", "store.db", self.put("m", text))
+                self.assertEqual(told, "".join(f"m:{line}\n" for line in due))
+
+    def test_within_a_bag(self):
+        """A bag is an archive's, in which things may be missing; and each message is judged by those before it."""
+        texts = [build(5, "Package: greeter", "Version: 2.0-1+b1", "Architecture: amd64", "Source: greeter (2.0-1)",
+                       "Depends: nosuch"),
+                 hint(10, "block mailer"), hint(11, "block mailer"), message("rt", 12, "unhint", "Cancels: 10"),
+                 delays(13, 20, 10, 4, 0), delays(14, 35, 20, 8, 0), about(7, "greeter"),
+                 message("bts", 4, "bug", "Bug: 7", "Source: mailer", "Severity: serious")]
+        self.put("bag", b"".join(map(bags.framed, texts)))
+        due = ("bag#3:4: warning: rt 10 in force asks mailer already\n"
+               "bag#8:5: warning: bug 7 was of greeter, which no longer has it then\n")
+        self.assertEqual(self.lint("--db", "store.db", "bag"), (due, 1))
+
+    def test_tried(self):
+        """What the next run makes of a hint is a warning if it refuses it, or if nothing changes."""
+        with Serving(store="store.db") as serving:
+            for wish, due in [("easy chess/7-1", "the next run would say: easy 10 refuse chess/7-1 not a candidate"),
+                              ("unblock greeter/2.0-1", "the next run would decide the same without it"),
+                              ("block greeter", None)]:
+                told = self.lint("--url", serving.url, "--try", self.put("m", hint(10, wish)))
+                self.assertEqual(told, (f"m:4: warning: {due}\n", 1) if due else ("", 0))
 
 
 @needs_office
@@ -358,7 +465,7 @@ class Sending(Folder):
         gone = message("ftp", 5, "drop", *lines, "Version: 2.0-1")
         ahead = message("rt", 10, "unhint", "Cancels: 11")
         again = build(4, *lines, "Version: 2.0-1", "Source: greeter")
-        texts = [again, message("ftp", 6, "drop", *lines, "Version: 2.0-1"), hint(11, "block chess"),
+        texts = [again, message("ftp", 6, "drop", *lines, "Version: 2.0-1"), hint(11, "block mailer"),
                  message("rt", 12, "unhint", "Cancels: 11")]
         self.put("bag", b"".join(map(bags.framed, texts)))
         due = ("bag#2:4: warning: unstable has no row of greeter on amd64: this drops nothing\n"

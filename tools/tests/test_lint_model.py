@@ -11,8 +11,9 @@ import sys
 import tempfile
 import unittest
 
-from helpers import SETUP, TOP, Serving, needs_office, office, tool
+from helpers import SETUP, TOP, Serving, needs_office, office, tool_here
 from office_tools import bags
+from office_tools.lint import command
 
 sys.dont_write_bytecode = True
 sys.path.insert(0, os.path.join(TOP, "tests", "rows"))
@@ -21,7 +22,7 @@ from model import paragraphs, vcmp  # noqa: E402
 SEEDS = int(os.environ.get("SEEDS") or 12)
 SENDERS = ["ftp", "bd", "bts", "rt", "clock"]
 SOURCES = ["aa", "bb", "cc"]
-VERSIONS = ["1", "1-0", "1.0-1", "2~rc1", "2", "1:0.1", "1:0.1-0", "1:0.01", "2+b1"]
+VERSIONS = ["1", "1-0", "1.0-1", "2~rc1", "2", "1:0.1", "1:0.1-0", "1:0.01", "2+b1", "2025"]
 ARCHS = ["amd64", "all", "all", "all"]
 TODAY = datetime.date(2025, 3, 20)
 READ = {"upload": "From Number Kind Source Version Urgency Day",
@@ -95,6 +96,26 @@ class Model:
         hints = {int(p[0]["number"]) for p in self.covered("hint")}
         return number in hints - {int(p[0]["cancels"]) for p in self.covered("unhint")}
 
+    def newer(self):
+        """How many sources are newer in unstable than in testing."""
+        names = {p[0]["source"] for p in self.covered("upload")}
+        return sum(n not in self.testing or vcmp(self.source(n), self.testing[n]) > 0 for n in names)
+
+    def last(self, kind, bug=None):
+        """The message of the greatest number of a kind, maybe on one bug."""
+        found = [p[0] for p in self.covered(kind) if bug is None or p[0]["bug"] == bug]
+        return max(found, key=lambda p: int(p["number"]), default=None)
+
+    def wishes(self):
+        """The hints in force by number, each as its words and its items."""
+        found = {}
+        for p in self.covered("hint"):
+            words, number = p[0]["hint"].split(), int(p[0]["number"])
+            cut = 2 if words[0] == "age-days" else 1
+            if self.in_force(number):
+                found[number] = " ".join(words[:cut]), words[cut:]
+        return found
+
     def orders(self):
         return [paragraphs(text)[0] for (sender, _), text in self.kept.items() if sender == "clock"]
 
@@ -105,6 +126,9 @@ class Model:
             return "no source " + name
         if word == "block" or (word == "remove" and same(version, testing)):
             return None
+        if word == "remove":
+            out = ", and keeps %s out" % version if same(version, unstable) else ""
+            return "testing has %s: this removes nothing%s" % (testing and name + " " + testing or "no " + name, out)
         if same(version, testing):
             return "%s %s is in testing already" % (name, version)
         return None if same(version, unstable) else "unstable has %s %s" % (name, unstable)
@@ -187,6 +211,69 @@ def of_kind(model, p):
         yield from of_order(model, p)
 
 
+def front(version):
+    """The epoch, and the first number behind it."""
+    epoch, colon, rest = version.rpartition(":")
+    return int(epoch or 0), int((re.findall(r"[0-9]+", rest) or ["0"])[0])
+
+
+def of_effect(model, p, binaries):
+    """What in a message has a greater effect than is meant, or none, by the paragraph and the field."""
+    kind, kept = p["kind"], (p["from"], int(p["number"])) in model.kept
+    if kind == "upload" and model.source(p["source"]) and vcmp(p["version"], model.source(p["source"])) > 0:
+        has = model.source(p["source"])
+        below = "no version below %s will count" % p["version"]
+        if front(p["version"])[0] > front(has)[0]:
+            yield 0, "Version", "unstable has %s %s, of a lower epoch: %s" % (p["source"], has, below)
+        elif front(p["version"])[1] >= max(20, 10 * front(has)[1]):
+            yield 0, "Version", "unstable has %s %s: %s" % (p["source"], has, below)
+    if kind == "drop":
+        has = model.row(p["architecture"], p["package"])
+        if has and vcmp(has, p["version"]) < 0:
+            row = "%s of %s on %s" % (has, p["package"], p["architecture"])
+            yield 0, "Version", "unstable has %s: no build up to %s will count" % (row, p["version"])
+    if kind == "hint" and p["hint"] == "block-all source":
+        yield 0, "Hint", "this keeps all sources out: %d are newer in unstable" % model.newer()
+    if kind == "delays":
+        names = ["low", "medium", "high", "critical"]
+        old = model.last("delays") or dict(zip(names, ["10", "5", "2", "0"]))
+        for n in names:
+            a, b = int(old[n]), int(p[n])
+            if (b > a + 5 and b > 2 * a) or (b < a - 5 and 2 * b < a):
+                yield 0, n.title(), "%s is %d now" % (n.title(), a)
+        for a, b in zip(names, names[1:]):
+            if int(p[a]) < int(p[b]):
+                yield 0, a.title(), "%s is below %s" % (a.title(), b.title())
+    for place, q in enumerate(binaries, 1):
+        has = model.row(q["architecture"], q["package"])
+        if has and vcmp(has, q["version"]) >= 0 and not kept:
+            yield place, "Package", "unstable has %s %s on %s: this build changes nothing" % (
+                q["package"], has, q["architecture"])
+    if kind == "bug":
+        yield from of_bug(model, p)
+    if kind == "hint" and not kept:
+        cut = 2 if p["hint"].startswith("age-days") else 1
+        words, items = " ".join(p["hint"].split()[:cut]), p["hint"].split()[cut:]
+        for number, (other, others) in sorted(model.wishes().items()):
+            both = [item for item in items if item in others]
+            if other == words and words in ("easy", "block-all") and set(items) == set(others):
+                yield 0, "Hint", "rt %d in force asks this already" % number
+            elif other == words and words not in ("easy", "block-all") and both:
+                yield 0, "Hint", "rt %d in force asks %s already" % (number, ", ".join(both))
+
+
+def of_bug(model, p):
+    """What is odd in the versions and in the source of a bug."""
+    has = model.source(p["source"])
+    if "found" in p and "fixed" in p and vcmp(p["fixed"], p["found"]) <= 0:
+        yield 0, "Fixed", "%s isn't above %s, where it was found: no version has this bug" % (p["fixed"], p["found"])
+    elif "found" in p and has and vcmp(p["found"], has) > 0:
+        yield 0, "Found", "unstable has %s %s: no version up to it has this bug" % (p["source"], has)
+    last = model.last("bug", p["bug"])
+    if last and last["source"] != p["source"]:
+        yield 0, "Source", "bug %s was of %s, which no longer has it then" % (p["bug"], last["source"])
+
+
 def due_of(model, text):
     """The warnings that are due of a message, each with its line."""
     p, *binaries = paragraphs(text)
@@ -207,6 +294,8 @@ def due_of(model, text):
             yield line, "unstable has %s %s" % (name, has)
     for field, words in of_kind(model, p):
         yield line_of(text, 0, field), words
+    for place, field, words in of_effect(model, p, binaries):
+        yield line_of(text, place, field), words
 
 
 class Drawn:
@@ -271,7 +360,8 @@ class Drawn:
             more = self.optional([("Found", self.version()), ("Fixed", self.version())])
             return ["Bug: %d" % self.draw.randint(1, 3), "Source: " + self.name(), "Severity: serious", *more]
         return {"hint": ["Hint: " + self.hint()], "unhint": ["Cancels: %d" % self.draw.randint(1, 9)],
-                "delays": ["Low: 1", "Medium: 1", "High: 1", "Critical: 0"], "none": [],
+                "delays": ["%s: %d" % (name, self.draw.choice([0, 1, 4, 9, 40]))
+                           for name in ("Low", "Medium", "High", "Critical")], "none": [],
                 "run": ["Day: " + self.day(), "Covers: " + self.covers()]}[kind]
 
     def message(self):
@@ -317,20 +407,24 @@ class AgainstTheModel(unittest.TestCase):
                 due += "".join("bag#%d:%d: warning: %s\n" % (place, *told) for told in due_of(model, text))
                 model.take(text)
             words = ["--conf", SETUP, "--today", TODAY.isoformat()]
-            told = tool("office-lint", *words, "--db", store, name)
-            self.assertEqual((told.stdout.replace(name, "bag"), told.stderr), (due, ""), seed)
-            self.assertEqual(told.returncode, 1 if due else 0)
+            told, faults, status = tool_here("office-lint", command.main, *words, "--db", store, name)
+            self.assertEqual((told.replace(name, "bag"), faults), (due, ""), seed)
+            self.assertEqual(status, 1 if due else 0)
             if seed % 3 == 0:
                 with Serving(store=store) as serving:
-                    told = tool("office-lint", *words, "--url", serving.url, name)
-                self.assertEqual((told.stdout.replace(name, "bag"), told.stderr), (due, ""), seed)
+                    told, faults, _ = tool_here("office-lint", command.main, *words, "--url", serving.url, name)
+                self.assertEqual((told.replace(name, "bag"), faults), (due, ""), seed)
         return re.findall(r"(?m)warning: (.*)$", due)
 
     def test_random_slips(self):
         told = [words for seed in range(SEEDS) for words in self.one(seed)]
         forms = ["is the next", "reads no field", "is after today", "days before today", "this upload changes nothing",
                  "no source", "this drops nothing", "is in testing already", "no hint in force", "isn't kept",
-                 "isn't covered", "an earlier order covers", "an earlier order has day", r"unstable has \S+ \S+$"]
+                 "isn't covered", "an earlier order covers", "an earlier order has day", r"unstable has \S+ \S+$",
+                 "of a lower epoch", r"has \S+ \S+: no version below", "no build up to", "keeps all sources out",
+                 "is 10 now", "is below", "this build changes nothing", "no version has this bug",
+                 "no version up to it", "which no longer has it", "in force asks this", "in force asks [a-z]+/",
+                 "this removes nothing$", "and keeps"]
         for form in forms:
             self.assertGreater(sum(bool(re.search(form, words)) for words in told), 0, form)
 

@@ -10,24 +10,26 @@ from office_tools.faults import Fault
 from office_tools.files import read_bytes
 from office_tools.lint.office import Office, ServiceOffice, StoreOffice
 from office_tools.lint.places import place_of
-from office_tools.lint.slips import Days, Look, slips
+from office_tools.lint.look import Days, Look, Warned
+from office_tools.lint.slips import slips
 from office_tools.lint.state import State
 from office_tools.mailing import is_held, mailed
-from office_tools.messages import kind_of, label_of, paragraphs
+from office_tools.messages import Kind, kind_of, label_of, paragraphs
 from office_tools.service import Service
+from office_tools.trials import trial
 
 NAME = "office-lint"
 URL = "http://127.0.0.1:8080"
-CONF = "/etc/office/setup.conf"
 WARNED, REFUSED = 1, 3
 
 
 @dataclass(frozen=True)
 class Text:
-    """A message, and what it is called: its file, and in a bag its place."""
+    """A message, and what it is called: its file, and in a bag its place. It `is_alone` if it isn't in a bag."""
 
     name: str
     text: bytes
+    is_alone: bool
 
 
 class Sender:
@@ -53,11 +55,20 @@ class Sender:
 class Lint:
     """Looks at messages one after the other."""
 
-    def __init__(self, office: Office, days: Days, sender: Sender) -> None:
+    def __init__(self, office: Office, days: Days, sender: Sender, trials: Optional[Service] = None) -> None:
         self.office = office
         self.days = days
         self.sender = sender
+        self.trials = trials
         self.state: State = office.state()
+
+    def warned(self, look: Look) -> Sequence[Warned]:
+        """What is odd in a message; of a hint that is tried, also what the next run makes of it."""
+        found = list(slips(look))
+        if self.trials and look.kind is Kind.HINT:
+            told = trial(self.trials, [look.value("Hint")], self.days.today)
+            found += [look.warned("Hint", words) for words in told.doubts]
+        return found
 
     def look_at(self, text: Text, verdict: str) -> int:
         """Tells what is wrong with a message, sends it where that is due, and takes it on: the status."""
@@ -72,7 +83,7 @@ class Lint:
         kind = kind_of(first)
         if kind is None:
             raise Fault(f"{text.name}: the office takes a kind that isn't known here")
-        warned = list(slips(Look(label, kind, first, binaries, self.state, self.days)))
+        warned = self.warned(Look(label, kind, first, binaries, self.state, self.days, text.is_alone))
         for slip in warned:
             print(f"{text.name}:{slip.line}: warning: {slip.words}", flush=True)
         status = WARNED if warned else 0
@@ -87,11 +98,11 @@ def texts_of(path: str) -> Iterator[Text]:
     """The messages of a file: it is one message, or a bag."""
     data = read_bytes(path)
     if not bags.is_bag(data):
-        yield Text(path, data)
+        yield Text(path, data, True)
         return
     try:
         for place, text in enumerate(bags.messages_in(data), 1):
-            yield Text(f"{path}#{place}", text)
+            yield Text(f"{path}#{place}", text, False)
     except bags.BagFault as fault:
         raise Fault(f"{path}: {fault.cause}", REFUSED) from fault
 
@@ -105,12 +116,14 @@ def parser() -> argparse.ArgumentParser:
     words.add_argument("--url", metavar="URL", help=f"the service ({URL}, where neither it nor --conf is stated)")
     words.add_argument("--conf", metavar="SETUP",
                        help="the setup's file; without --url the office is one in memory that keeps nothing, or that "
-                            f"of --db (with --url: {CONF})")
+                            "of --db (a service is asked for its senders)")
     words.add_argument("--db", metavar="STORE", help="the store's file, while no office has it open")
     words.add_argument("--today", metavar="DAY", type=day, default=today(),
                        help="the day that is today (by the system's clock, in UTC)")
     words.add_argument("--days", metavar="N", type=int, default=30,
                        help="how many days back an upload's day may lie (30)")
+    words.add_argument("--try", action="store_true", dest="is_tried",
+                       help="warns of a hint that the next run would refuse, or that changes nothing in it")
     words.add_argument("--send", action="store_true", help="mails, in order, what has no warning")
     words.add_argument("--force", action="store_true", help="mails what has warnings, too")
     words.add_argument("--user", metavar="USER", help="the user at a proxy; its password stands in ~/.netrc")
@@ -127,13 +140,15 @@ def main(words: Sequence[str]) -> int:
     if asked.force and not asked.send:
         known.error("--force needs --send")
     url = asked.url or (None if asked.conf else URL)
-    if (asked.send or asked.user) and not url:
-        known.error("--send and --user need --url")
+    if (asked.send or asked.user or asked.is_tried) and not url:
+        known.error("--send, --try and --user need --url")
     if asked.days < 0:
         known.error("--days needs a number from 0 on")
     service = service_at(url, asked.user) if url else None
-    office = ServiceOffice(asked.conf or CONF, service) if service else StoreOffice(asked.conf, asked.db)
+    office = ServiceOffice(asked.conf, service) if service else StoreOffice(asked.conf, asked.db)
     texts = [text for path in asked.file for text in texts_of(path)]
-    lint = Lint(office, Days(asked.today, asked.days), Sender(service if asked.send else None, asked.force))
+    lint = Lint(office, Days(asked.today, asked.days), Sender(service if asked.send else None, asked.force),
+                service if asked.is_tried else None)
+    lint.state.looking_at(text.text for text in texts)
     verdicts = office.verdicts([text.text for text in texts])
     return max((lint.look_at(text, verdict) for text, verdict in zip(texts, verdicts)), default=0)

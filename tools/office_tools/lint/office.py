@@ -13,6 +13,7 @@ from office_tools.lint.state import Kept, State
 from office_tools.mailing import verdict
 from office_tools.messages import Label, label_of
 from office_tools.reports import Testing
+from office_tools.roles import setup_of
 from office_tools.service import Kept as Count
 from office_tools.service import Service
 
@@ -53,10 +54,10 @@ class ServiceMail(Kept):
 class ServiceOffice(Office):
     """A running office, which looks at a message without keeping it."""
 
-    def __init__(self, conf: str, service: Service) -> None:
+    def __init__(self, conf: Optional[str], service: Service) -> None:
         self.service = service
-        self.setup = setups.read_setup(conf)
         self.counts = service.kept()
+        self.setup = setups.read_setup(conf) if conf else setup_of(service)
         if list(self.counts) != list(self.setup.senders):
             raise Fault(f"{conf}: the office has other senders: {' '.join(self.counts)}", program.UNANSWERED)
 

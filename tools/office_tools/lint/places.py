@@ -5,13 +5,14 @@ items each part is put into a message of its own, and the first one that the off
 one. What is said of it is a rule of docs/RULES.md.
 """
 import re
+import unicodedata
 from dataclasses import dataclass
 from typing import Iterator, Mapping, Optional, Sequence
 
 from office_tools.bags import LONGEST
 from office_tools.lint.office import Office
-from office_tools.messages import (BINARY_FIELDS, KINDS_OF, MOST_BINARIES, Field, Kind, Paragraph, ParagraphCause,
-                                   ParagraphFault, Role, kind_of, paragraphs)
+from office_tools.messages import (BINARY_FIELDS, KINDS_OF, MOST_BINARIES, WHITE, Field, Kind, Paragraph,
+                                   ParagraphCause, ParagraphFault, Role, kind_of, paragraphs)
 from office_tools.setups import Setup
 
 SHOWN = 60  # characters of a value that are told
@@ -224,19 +225,24 @@ class Faulty:
 
 def parts_of(field: Field, between: str) -> Sequence[Part]:
     """The parts of a value between these characters, without white at their ends; a space stands for all white."""
-    return list(parted(field, re.compile(r"\S+" if between == " " else f"[^{between}]+")))
+    return list(parted(field, re.compile(f"[^{WHITE if between == ' ' else between}]+")))
 
 
 def parted(field: Field, form: re.Pattern[str]) -> Iterator[Part]:
     """The parts of a value that are of this form."""
     for found in form.finditer(field.value):
-        text = found[0].strip()
-        yield Part(" ".join(text.split()), field.line_at(found.start() + found[0].find(text)))
+        text = found[0].strip(WHITE)
+        yield Part(in_one_line(text), field.line_at(found.start() + found[0].find(text)))
+
+
+def in_one_line(text: str) -> str:
+    """A text with a space for each run of white. White is what the office takes for it: of ASCII, and no other."""
+    return re.sub(f"[{WHITE}]+", " ", text.strip(WHITE))
 
 
 def fields(values: Sequence[tuple[str, str]]) -> bytes:
     """A paragraph of these fields, each in one line."""
-    return "".join(f"{name}: {' '.join(value.split())}\n" for name, value in values).encode()
+    return "".join(f"{name}: {in_one_line(value)}\n" for name, value in values).encode()
 
 
 def of_clause(clause: str, name: str) -> str:
@@ -253,5 +259,7 @@ def of_clause(clause: str, name: str) -> str:
 
 
 def shown(text: str) -> str:
-    """A text as it is told: in quotes, and not too long."""
-    return repr(text if len(text) <= SHOWN else text[:SHOWN] + "..")
+    """A text as it is told: in quotes, not too long, and with the name of its first character beyond ASCII."""
+    odd = next((character for character in text if not character.isascii()), "")
+    told = f" with {unicodedata.name(odd, 'a character')} (U+{ord(odd):04X})" if odd else ""
+    return repr(text if len(text) <= SHOWN else text[:SHOWN] + "..") + told

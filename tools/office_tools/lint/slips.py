@@ -2,69 +2,17 @@
 
 Each function here is one warning: it tells what is wrong exactly where its condition holds over the state.
 """
-import datetime
-from dataclasses import dataclass
-from typing import Callable, Iterator, Optional, Sequence
+from typing import Iterator, Optional, Sequence
 
 import Levenshtein
 
 from office_tools import versions
+from office_tools.lint.effects import EFFECTS
+from office_tools.lint.look import Check, Look, Warned, same
 from office_tools.lint.state import State, source_of, stated_covers
-from office_tools.messages import BINARY_FIELDS, FIELDS_OF, HEAD_FIELDS, Field, Kind, Label, Paragraph
+from office_tools.messages import BINARY_FIELDS, FIELDS_OF, HEAD_FIELDS, Kind, Paragraph
 
 FARTHEST = 2  # changed letters between a name that isn't read and the one that is most likely meant
-
-
-@dataclass(frozen=True)
-class Warned:
-    """A line of a message, counted from 1, and what is odd there."""
-
-    line: int
-    words: str
-
-
-@dataclass(frozen=True)
-class Days:
-    """The day of the caller, and how many days back an upload's day may lie."""
-
-    today: datetime.date
-    most: int
-
-
-@dataclass(frozen=True)
-class Look:
-    """A message that the office would take, and what it is judged by."""
-
-    label: Label
-    kind: Kind
-    first: Paragraph
-    binaries: Sequence[Paragraph]
-    state: State
-    days: Days
-
-    def warned(self, name: str, words: str) -> Warned:
-        """A warning at a field of the first paragraph."""
-        return Warned(self.field(name).line, words)
-
-    def field(self, name: str) -> Field:
-        """A field of the first paragraph, which has it."""
-        found = self.first.field(name)
-        return found or Field(name, self.first.line, "", self.first.line)
-
-    def value(self, name: str) -> str:
-        """Its value."""
-        return self.field(name).value
-
-    def day(self) -> datetime.date:
-        """The message's day."""
-        return datetime.date.fromisoformat(self.value("Day"))
-
-    def senders(self) -> Iterator[str]:
-        """Each sender whose mail an order covers."""
-        return (sender for sender in self.state.unbroken if sender != self.state.runs)
-
-
-Check = Callable[[Look], Iterator[Warned]]
 
 
 def number_behind_a_gap(look: Look) -> Iterator[Warned]:
@@ -162,6 +110,9 @@ def standing(state: State, word: str, name: str, version: str) -> Optional[str]:
         return f"no source {name}"
     if not version or (word == "remove" and same(version, moved)):
         return None
+    if word == "remove":
+        kept_out = f", and keeps {version} out" if same(version, has) else ""
+        return f"testing has {f'{name} {moved}' if moved else f'no {name}'}: this removes nothing{kept_out}"
     if same(version, moved):
         return f"{name} {version} is in testing already"
     return None if same(version, has) else f"unstable has {name} {has}"
@@ -210,11 +161,6 @@ def order_of_an_earlier_day(look: Look) -> Iterator[Warned]:
         yield look.warned("Day", f"an earlier order has day {look.state.orders.day}: this one has no effect")
 
 
-def same(version: str, other: Optional[str]) -> bool:
-    """Whether two versions are the same version; none is the same as no version."""
-    return other is not None and versions.compare(version, other) == 0
-
-
 CHECKS: Sequence[Check] = (
     number_behind_a_gap, misspelt_fields, day_after_today, day_long_ago, upload_of_nothing_new, build_of_another_source,
     bug_of_no_source, drop_of_nothing, hint_of_another_source, unhint_of_nothing, order_over_a_gap,
@@ -223,5 +169,5 @@ CHECKS: Sequence[Check] = (
 
 def slips(look: Look) -> Iterator[Warned]:
     """All warnings of a message."""
-    for check in CHECKS:
+    for check in (*CHECKS, *EFFECTS):
         yield from check(look)

@@ -2,19 +2,27 @@
 import abc
 import re
 from dataclasses import dataclass, field
-from typing import Callable, Iterable, Iterator, Mapping, Optional, TypeVar
+from typing import Callable, Iterable, Iterator, Mapping, Optional, Sequence, TypeVar
 
 from office_tools import versions
-from office_tools.messages import KINDS_OF, Kind, Label, Paragraph, Role, kind_of, label_of_first, paragraphs
+from office_tools.messages import (KINDS_OF, Kind, Label, Paragraph, ParagraphFault, Role, kind_of, label_of_first,
+                                   paragraphs)
 from office_tools.reports import Hints, Testing, Unstable
 from office_tools.service import Kept as Count
 from office_tools.setups import Setup
 
+NAME = re.compile(r"\s*([a-z0-9][a-z0-9+.-]+)")
 SOURCE = re.compile(r"([^\s(]+)\s*(?:\(\s*([^\s)]+)\s*\))?")
 
 Key = TypeVar("Key")
 Pair = tuple[str, str]
 """An architecture and the name of a package."""
+Wish = tuple[str, Sequence[str]]
+"""A hint: its words up to its items, as `age-days 3`, and its items."""
+Delays = Mapping[str, int]
+"""How many days an upload of each urgency waits, by the fields of a message on delays."""
+FIRST_DELAYS: Delays = {"Low": 10, "Medium": 5, "High": 2, "Critical": 0}
+"""Those of an office to which none were mailed."""
 
 
 @dataclass(frozen=True)
@@ -30,6 +38,24 @@ def source_of(binary: Paragraph) -> Source:
     version = binary.value("Version") or ""
     found = SOURCE.fullmatch(binary.value("Source") or binary.value("Package") or "")
     return Source(found[1], found[2] or version) if found else Source("", version)
+
+
+def wish_of(hint: str) -> Wish:
+    """The words and the items of a hint that the office takes."""
+    words = hint.split()
+    items_from = 2 if words[0] == "age-days" else 1
+    return " ".join(words[:items_from]), words[items_from:]
+
+
+def names_in(text: bytes) -> Iterator[str]:
+    """The names of the packages of a message, and those that they provide; none of a text that is no message."""
+    try:
+        binaries = list(paragraphs(text))[1:]
+    except ParagraphFault:
+        return
+    for binary in binaries:
+        yield binary.value("Package") or ""
+        yield from (found[1] for found in map(NAME.match, (binary.value("Provides") or "").split(",")) if found)
 
 
 def stated_covers(first: Paragraph) -> Mapping[str, int]:
@@ -77,6 +103,10 @@ class Seen:
     dropped: dict[Pair, Given] = field(default_factory=dict)
     hints: set[int] = field(default_factory=set)
     hinted: set[int] = field(default_factory=set)
+    wishes: dict[int, Wish] = field(default_factory=dict)
+    bugs: dict[int, tuple[int, str]] = field(default_factory=dict)
+    delayed: tuple[int, Delays] = (0, FIRST_DELAYS)
+    has_kept: set[Kind] = field(default_factory=set)
     cancelled: set[int] = field(default_factory=set)
     has_kept_drops: bool = False
 
@@ -93,8 +123,38 @@ class Seen:
             raise_to(self.dropped, pair_of(first), given(first, (sender, number, 0)))
         elif kind is Kind.HINT:
             self.hinted.add(number)
+            self.wishes[number] = wish_of(first.value("Hint") or "")
+        elif kind in (Kind.BUG, Kind.DELAYS):
+            self.take_last(number, first, kind)
         elif kind is Kind.UNHINT:
             self.cancelled.add(int(first.value("Cancels") or 0))
+
+    def take_last(self, number: int, first: Paragraph, kind: Kind) -> None:
+        """Takes a message of a kind of which the one of the greatest number counts."""
+        if kind is Kind.BUG:
+            bug = int(first.value("Bug") or 0)
+            self.bugs[bug] = max(self.bugs.get(bug, (0, "")), (number, first.value("Source") or ""))
+        else:
+            days = {name: int(first.value(name) or 0) for name in FIRST_DELAYS}
+            self.delayed = max(self.delayed, (number, days), key=lambda delayed: delayed[0])
+
+    def ask_kept(self, kind: Kind) -> None:
+        """Takes the kept messages of such a kind, once."""
+        if kind not in self.has_kept:
+            self.has_kept.add(kind)
+            for first in self.earlier(kind):
+                label = label_of_first(first)
+                self.take_last(label.number if label else 0, first, kind)
+
+    def bug_source(self, bug: int) -> Optional[str]:
+        """The source of the last message on a bug."""
+        self.ask_kept(Kind.BUG)
+        return self.bugs[bug][1] if bug in self.bugs else None
+
+    def delays(self) -> Delays:
+        """How many days an upload of each urgency waits."""
+        self.ask_kept(Kind.DELAYS)
+        return self.delayed[1]
 
     def source(self, name: str) -> Optional[str]:
         """Unstable's version of a source."""
@@ -176,6 +236,8 @@ class State:
         self.seen = Seen(self.earlier)
         self.orders = Orders()
         self.taken: dict[Label, bytes] = {}
+        self.names: set[str] = set()
+        self.has_kept_names = False
         for text in kept.mail(self.runs) if counts[self.runs].kept else ():
             self.orders.take(text)
 
@@ -184,8 +246,25 @@ class State:
         self.seen.sources.update((name, Given(version, EARLIER)) for name, version in unstable.sources.items())
         self.seen.rows.update(
             ((row.architecture, row.package), Given(row.version, EARLIER)) for row in unstable.rows)
-        self.seen.hints.update(item.number for item in hints.items)
+        for item in hints.items:
+            self.seen.hints.add(item.number)
+            words, items = self.seen.wishes.get(item.number, (item.words, ()))
+            self.seen.wishes[item.number] = words, [*items, item.item]
+        self.names.update(row.package for row in unstable.rows)
         return self
+
+    def looking_at(self, texts: Iterable[bytes]) -> "State":
+        """The same, with the names of the packages of all messages that are looked at."""
+        self.names.update(name for text in texts for name in names_in(text))
+        return self
+
+    def is_named(self, name: str) -> bool:
+        """Whether a package has or provides a name: of unstable, of what is looked at, or of a kept build."""
+        if name not in self.names and not self.has_kept_names:
+            self.has_kept_names = True
+            senders = [sender for sender in self.setup.senders_of(Role.BUILD) if self.before[sender]]
+            self.names.update(name for sender in senders for text in self.kept.mail(sender) for name in names_in(text))
+        return name in self.names
 
     def earlier(self, kind: Kind) -> Iterator[Paragraph]:
         """The first paragraphs of the messages of a kind that the office kept without a gap."""

@@ -1,0 +1,1 @@
+"""The questions of the program `office`, put to a running office."""

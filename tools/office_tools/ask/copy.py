@@ -1,0 +1,56 @@
+"""A copy of a running office: the questions that no route answers are put to the program over all mail it keeps."""
+import os
+import tempfile
+from typing import Optional, Sequence
+
+from office_tools import bags, program, setups
+from office_tools.ask.answer import Answer
+from office_tools.faults import Fault
+from office_tools.letters import letters
+from office_tools.senders import runs_sender
+from office_tools.service import UNANSWERED, Service
+
+
+class Copy:
+    """All mail of a running office, fetched once, and the setup that its file states."""
+
+    def __init__(self, service: Service, conf: str) -> None:
+        self.service = service
+        self.conf = conf
+        self.mail: Optional[bytes] = None
+
+    def bag(self) -> bytes:
+        """The mail as a bag. The orders come first, so that all mail of a run that was ready is there."""
+        if self.mail is None:
+            self.check_setup()
+            runs = runs_sender(self.service)
+            senders = sorted(self.service.kept(), key=lambda sender: sender != runs)
+            self.mail = b"".join(bags.framed(text) for sender in senders for _, text in letters(self.service, sender))
+        return self.mail
+
+    def check_setup(self) -> None:
+        """A setup that can't be read, or that has other senders than the office, is a `Fault` of status 4."""
+        try:
+            setup = setups.read_setup(self.conf)
+        except Fault as fault:
+            raise Fault(f"no route answers this: it needs the program and the office's setup (--conf): {fault.cause}",
+                        UNANSWERED) from fault
+        if list(setup.senders) != list(self.service.kept()):
+            raise Fault(f"{self.conf}: the office has other senders: {' '.join(self.service.kept())}", UNANSWERED)
+
+    def ask(self, words: Sequence[str]) -> Answer:
+        """What a command prints that reads a bag on standard input."""
+        return answer_of([*words, "--conf", self.conf], self.bag())
+
+    def ask_store(self, words: Sequence[str]) -> Answer:
+        """What a command prints that needs a store: a temporary one, of all mail."""
+        with tempfile.TemporaryDirectory() as folder:
+            over = ["--conf", self.conf, "--db", os.path.join(folder, "store.db")]
+            program.output(["replay", *over], self.bag())
+            return answer_of([*words, *over])
+
+
+def answer_of(words: Sequence[str], given: bytes = b"") -> Answer:
+    """What a command of the program prints, and its status."""
+    ran = program.run(words, given)
+    return Answer(ran.stdout, ran.returncode, ran.stderr.decode(errors="backslashreplace"))

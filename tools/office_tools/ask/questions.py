@@ -1,0 +1,183 @@
+"""The questions of the program `office`, answered by a running office.
+
+Each function returns the bytes that the command of the same name prints over a stopped store, and its exit status. A
+route answers most of them. The others are put to the program over a copy of the office's mail.
+"""
+import http.client
+import re
+from dataclasses import dataclass
+from typing import Optional, Sequence
+
+from office_tools.ask.answer import Answer
+from office_tools.ask.copy import Copy
+from office_tools.faults import Fault
+from office_tools.service import Reply, Service
+
+NO, WORDS_ARE_WRONG, REFUSED = 1, 2, 3
+LONGEST_BODY = 65536  # bytes of a request's body
+SHORTEST_CUT = 3_900_000  # an answer that the service cuts has more bytes
+CUT = re.compile(rb"\nleft out \d+ lines\n\Z")
+SOURCE = re.compile(r"[a-z0-9][a-z0-9+.-]+")
+CHANGE = re.compile(rb"^[-+](excuse|update|testing) ", re.MULTILINE)
+HINT_REFUSED = re.compile(r"'.*': refused ", re.DOTALL)
+WAITS_FOR_MAIL = re.compile(rb"^run \d+ waits for \S+ \d+ of \d+$", re.MULTILINE)
+LAST_RUNS_DAY = "1970-01-01"  # a trial takes the later of its day and the last run's
+UNDATED = "office-ask: no run is finished: name the day of the next one by --day\n"
+
+
+@dataclass(frozen=True)
+class Next:
+    """What is asked of the next run: its day, if one is stated, and whether it covers all mail."""
+
+    day: Optional[str]
+    is_all: bool
+
+    @property
+    def words(self) -> Sequence[str]:
+        """The same as words of a command."""
+        return [*(["--day", self.day] if self.day else []), *(["--all"] if self.is_all else [])]
+
+
+class Questions:
+    """A running office, and the copy of it for what no route answers."""
+
+    def __init__(self, service: Service, copy: Copy) -> None:
+        self.service = service
+        self.copy = copy
+
+    def whole(self, path: str) -> Optional[bytes]:
+        """The body of a GET, or None if the service cuts it."""
+        body = self.service.good(path)
+        return None if is_cut(body) else body
+
+    def plain(self, path: str, words: Sequence[str]) -> Answer:
+        """What a command prints that a route answers; a text that is cut comes from the copy, over a store."""
+        body = self.whole(path)
+        return self.copy.ask_store(words) if body is None else Answer(body)
+
+    def runs(self) -> Answer:
+        """Each finished run in a line."""
+        return self.plain("/runs", ["runs"])
+
+    def hints(self) -> Answer:
+        """The hints in force."""
+        return self.plain("/hints", ["hints"])
+
+    def mail(self, is_list: bool) -> Answer:
+        """How much mail is kept of each sender, or each message in a line."""
+        return self.copy.ask_store(["mail", "--list"]) if is_list else self.plain("/kept", ["mail"])
+
+    def order(self, day: str) -> Answer:
+        """The next order on a day."""
+        return Answer(self.service.good(f"/order/{day}"))
+
+    def waiting(self) -> Answer:
+        """What the first run that isn't ready waits for: status 1 if an ordered run waits for mail."""
+        body = self.service.good("/waiting")
+        return Answer(body, NO if WAITS_FOR_MAIL.search(body) else 0)
+
+    def report(self, path: str) -> Answer:
+        """A report: nothing and status 1 if its run isn't finished."""
+        reply = self.service.get(path)
+        if is_refused(reply, "NoRun"):
+            return Answer(b"", NO, self.unfinished(path.rpartition("/")[2]))
+        return Answer(self.good(path, reply))
+
+    def unfinished(self, run: str) -> str:
+        """The sentence on a run that isn't finished."""
+        return f"office-ask: run {run} isn't finished: {self.service.status().finished} are\n"
+
+    def why(self, sources: Sequence[str], run: Optional[int]) -> Answer:
+        """Why sources stand where a run left them: the last one if none is named."""
+        finished = self.service.status().finished
+        if run is not None and run < finished:
+            return self.copy.ask(["why", "--run", str(run), *sources])
+        if not finished or (run is not None and run > finished):
+            return Answer(b"", NO, self.unfinished(str(run or 1)))
+        parts = [self.why_source(source, finished) for source in sources]
+        if any(is_cut(part.text) for part in parts):
+            return self.copy.ask(["why", *sources])
+        return Answer(b"".join(part.text for part in parts), max(part.status for part in parts))
+
+    def why_source(self, source: str, finished: int) -> Answer:
+        """Why a source stands where the last run left it. No route has a word that is no name of a source."""
+        unknown = Answer(f"why {finished} {source}\nunknown {source}\n".encode(), NO)
+        if not SOURCE.fullmatch(source):
+            return unknown
+        reply = self.service.get(f"/why/{source}")
+        return unknown if is_refused(reply, "NoSource") else Answer(self.good(f"/why/{source}", reply))
+
+    def why_hints(self, numbers: Sequence[str], run: Optional[int]) -> Answer:
+        """What a run made of the hints of these numbers, by the copy: no route answers it."""
+        asked = [] if run is None else ["--run", str(run)]
+        return self.copy.ask(["why", "--hint", *asked, *numbers])
+
+    def trial(self, hints: Sequence[str], on: Next) -> Answer:
+        """What hints would change in the next run: status 1 if nothing, 3 if one of them is refused."""
+        body = "".join(hint + "\n" for hint in hints).encode()
+        has_line_ends = any("\n" in hint or hint.endswith("\r") for hint in hints)
+        if has_line_ends or len(body) > LONGEST_BODY or (on.day and not on.is_all):
+            return self.copy.ask(["try", *on.words, *hints])
+        if not on.day and not self.service.status().finished:
+            return Answer(b"", REFUSED, UNDATED)
+        path = f"/try/{on.day or LAST_RUNS_DAY}" if on.is_all else "/try"
+        reply = self.service.post(path, body)
+        if reply.status == http.client.BAD_REQUEST and HINT_REFUSED.match(reply.text):
+            return Answer(b"", REFUSED, f"office-ask: {reply.text}\n")
+        told = self.good(path, reply)
+        if is_cut(told):
+            return self.copy.ask(["try", *on.words, *hints])
+        return Answer(told, 0 if CHANGE.search(told) else NO)
+
+    def propose(self, sources: Sequence[str], on: Next) -> Answer:
+        """Hints for groups that would move: status 1 if there is none, or if the run doesn't move a named source."""
+        words = ["propose", *on.words, *sources]
+        for source in sources:
+            if not SOURCE.fullmatch(source):
+                return Answer(b"", WORDS_ARE_WRONG, f"office-ask: {source!r}: no name of a source\n")
+        if on.words or len(sources) > 1:
+            return self.copy.ask(words)
+        path = "/".join(["/propose", *sources])
+        reply = self.service.get(path)
+        if is_refused(reply, "NoRun"):
+            return Answer(b"", REFUSED, UNDATED)
+        body = self.good(path, reply)
+        status = proposal_status(body, sources)
+        return self.copy.ask(words) if is_cut(body) or status is None else Answer(body, status)
+
+    def good(self, path: str, reply: Reply) -> bytes:
+        """The body of an answer that is good; another one is a `Fault` of status 4."""
+        if not reply.is_good:
+            raise self.service.bad(path, reply)
+        return reply.body
+
+
+def is_refused(reply: Reply, name: str) -> bool:
+    """Whether an answer is the refusal of this name."""
+    return reply.status == http.client.NOT_FOUND and reply.text == f"refused {name}"
+
+
+def proposal_status(body: bytes, sources: Sequence[str]) -> Optional[int]:
+    """The exit status of a proposal; None if its text doesn't say whether the run moves the source."""
+    if not sources:
+        return 0 if body else NO
+    lines = body.decode(errors="backslashreplace").splitlines()
+    if any(line.startswith("stuck ") for line in lines):
+        return NO
+    return 0 if any(f" {sources[0]}/" in line for line in lines if line.startswith("easy ")) else None
+
+
+def is_cut(body: bytes) -> bool:
+    """Whether the service left out the end of an answer."""
+    return len(body) > SHORTEST_CUT and CUT.search(body[-100:]) is not None
+
+
+def path_of(words: Sequence[str]) -> str:
+    """The route of a report by the words that follow `report`; words that name none are a `Fault` of status 2."""
+    if list(words) in (["testing"], ["unstable"]):
+        return f"/{words[0]}"
+    found = re.fullmatch(r"\+?0*([1-9][0-9]{0,9}) (excuses|update)", " ".join(words))
+    if found is None:
+        raise Fault(f"{' '.join(words)!r}: no report: name testing or unstable, or a run and excuses or update",
+                    WORDS_ARE_WRONG)
+    return f"/{found[2]}/{found[1]}"

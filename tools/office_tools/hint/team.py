@@ -1,0 +1,105 @@
+"""The release team of a running office: its hints in force, its next number, and its mail."""
+import datetime
+from dataclasses import dataclass
+from typing import Callable, Mapping, Optional, Sequence
+
+from office_tools.faults import Fault
+from office_tools.hint.letters import Letter, Signature
+from office_tools.lint.look import Days, Look
+from office_tools.lint.office import ServiceOffice
+from office_tools.lint.places import place_of
+from office_tools.lint.slips import slips
+from office_tools.lint.state import State, Wish
+from office_tools.mailing import is_held, mailed, verdict
+from office_tools.messages import Label, Role, paragraphs
+from office_tools.reports import HintItem
+from office_tools.service import Service
+
+NOTHING_DONE, REFUSED = 1, 3
+TURNS = 20  # how often the next number is taken, if others mail at the same time
+FAR = 30  # days back from which an upload's day is odd; no hint has one
+
+
+@dataclass(frozen=True)
+class Standing:
+    """The hints in force by their numbers, each as its words and its items, and how it stands with each item."""
+
+    wishes: Mapping[int, Wish]
+    items: Mapping[int, Sequence[HintItem]]
+
+
+class Team:
+    """The release team at a service."""
+
+    def __init__(self, service: Service, tell: Callable[[str], None]) -> None:
+        self.service = service
+        self.tell = tell
+        self.office = ServiceOffice(None, service)
+        self.sender = self.office.setup.sender_of(Role.RELEASE)
+
+    def next_label(self) -> Label:
+        """The team's next number. A number that is missing is a `Fault`: nobody can know whose message it was."""
+        count = self.service.kept()[self.sender]
+        if count.unbroken < count.greatest:
+            raise Fault(f"{self.sender} {count.unbroken + 1} isn't kept, and {self.sender} {count.greatest} is: mail "
+                        "that message first, or one of the kind none", NOTHING_DONE)
+        return Label(self.sender, count.unbroken + 1)
+
+    def refusal(self, letters: Sequence[Letter]) -> Optional[str]:
+        """Why the office would refuse the first of these that it would refuse."""
+        label = self.next_label()
+        for letter in letters:
+            text = letter.text(label)
+            told = verdict(self.service, text)
+            if not is_held(told):
+                return f"{told}: {place_of(self.office, text, told).cause}"
+        return None
+
+    def slips(self, letters: Sequence[Letter], today: datetime.date) -> Sequence[str]:
+        """What is most likely a slip in messages that the office would take."""
+        self.office.counts = self.service.kept()
+        state: State = self.office.state()
+        first = self.next_label()
+        found: list[str] = []
+        for place, letter in enumerate(letters):
+            label = Label(first.sender, first.number + place)
+            text = letter.text(label)
+            head = next(paragraphs(text))
+            look = Look(label, letter.kind, head, (), state, Days(today, FAR), True)
+            found += [slip.words for slip in slips(look)]
+            state.take(label, text)
+        return found
+
+    def standing(self) -> Standing:
+        """The hints in force."""
+        items: dict[int, list[HintItem]] = {}
+        for item in self.service.hints().items:
+            items.setdefault(item.number, []).append(item)
+        return Standing({number: (of[0].words, [item.item for item in of]) for number, of in items.items()}, items)
+
+    def signature(self, number: int) -> Signature:
+        """Who asked for a hint, and why, if its message says so."""
+        text = self.service.kept_text(self.sender, number)
+        first = next(paragraphs(text), None) if text else None
+        return Signature(first.value("By"), first.value("Comment")) if first else Signature()
+
+    def mail(self, letter: Letter) -> bool:
+        """Mails a message under the next number, and prints the reply: whether it is held.
+
+        It isn't if another message was mailed under that number meanwhile. Any other refusal is a `Fault`.
+        """
+        label = self.next_label()
+        reply = mailed(self.service, letter.text(label))
+        if is_held(reply):
+            self.tell(reply)
+            return True
+        if reply != "refused OtherText":
+            raise Fault(f"{label.sender} {label.number}: {reply}", REFUSED)
+        self.tell(f"{label.sender} {label.number} is another message now: the next number is taken")
+        return False
+
+    def mail_all(self, letters: Sequence[Letter]) -> None:
+        """Mails messages one after the other, each under the first number that is free."""
+        for letter in letters:
+            if not any(self.mail(letter) for _ in range(TURNS)):
+                raise Fault(f"{TURNS} numbers in a row were taken by others", REFUSED)

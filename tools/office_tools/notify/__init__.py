@@ -1,0 +1,1 @@
+"""Mail to the maintainers of the sources that a run moved."""

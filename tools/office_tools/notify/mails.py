@@ -1,0 +1,91 @@
+"""The mail to a maintainer, and the ways that it can go."""
+import datetime
+import hashlib
+import mailbox
+import shlex
+import subprocess
+import sys
+from dataclasses import dataclass
+from email.headerregistry import Address
+from email.message import EmailMessage
+from typing import Callable, Optional, Sequence
+
+from office_tools.faults import Fault, cause_of
+from office_tools.notify.moves import Move, Moves
+
+NOT_SENT = 3
+SECONDS = 300  # how long a mailer may take for one mail
+
+Way = Callable[[EmailMessage], None]
+
+
+@dataclass(frozen=True)
+class Sender:
+    """Who the mails are from, and where the office's pages are, if they are published."""
+
+    address: str
+    pages: Optional[str]
+
+
+def mail(sender: Sender, to: Address, moves: Moves, own: Sequence[Move]) -> EmailMessage:
+    """The mail to a maintainer on the moves of its own sources in a run.
+
+    Its id follows from the run and the address, so that a mail that is sent twice is known as one.
+    """
+    found = EmailMessage()
+    place = hashlib.sha256(f"{sender.address} {moves.run} {to.addr_spec}".encode()).hexdigest()[:24]
+    found["From"] = sender.address
+    found["To"] = to
+    found["Subject"] = subject(own)
+    found["Date"] = datetime.datetime.now(datetime.timezone.utc)
+    found["Message-ID"] = f"<office.{moves.run}.{place}@{sender.address.rpartition('@')[2].rstrip('>') or 'localhost'}>"
+    found["Auto-Submitted"] = "auto-generated"
+    lines = [f"Run {moves.run} of {moves.date.isoformat()}:", ""]
+    for move in own:
+        lines += ["  " + move.told]
+        lines += [f"    {sender.pages.rstrip('/')}/source/{move.source}.html"] if sender.pages else []
+    found.set_content("\n".join(lines) + "\n")
+    return found
+
+
+def subject(own: Sequence[Move]) -> str:
+    """The subject: the move, or how many there are."""
+    if len(own) == 1:
+        return own[0].told.partition(" (")[0]
+    return f"{len(own)} of your sources migrated to testing or left it"
+
+
+def to_output(message: EmailMessage) -> None:
+    """Prints a mail."""
+    sys.stdout.write(message.as_string() + "\n")
+    sys.stdout.flush()
+
+
+def to_mbox(path: str) -> Way:
+    """Adds mails to a file of the form mbox, which is locked meanwhile."""
+    def add(message: EmailMessage) -> None:
+        try:
+            box = mailbox.mbox(path)
+            box.lock()
+            try:
+                box.add(message)
+                box.flush()
+            finally:
+                box.unlock()
+                box.close()
+        except (OSError, mailbox.Error) as fault:
+            raise Fault(f"{path}: {cause_of(fault)}", NOT_SENT) from fault
+    return add
+
+
+def to_command(command: str) -> Way:
+    """Hands mails to a command such as sendmail, on its standard input."""
+    def send(message: EmailMessage) -> None:
+        words = shlex.split(command)
+        try:
+            ran = subprocess.run(words, input=message.as_bytes(), timeout=SECONDS, check=False)
+        except (OSError, subprocess.TimeoutExpired) as fault:
+            raise Fault(f"{command}: {cause_of(fault)}", NOT_SENT) from fault
+        if ran.returncode:
+            raise Fault(f"{command}: status {ran.returncode}: the mail to {message['To']} isn't sent", NOT_SENT)
+    return send

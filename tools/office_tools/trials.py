@@ -1,0 +1,55 @@
+"""Hints that a running office tries: what they would change in a next run over all mail."""
+import datetime
+import http.client
+import re
+from dataclasses import dataclass
+from typing import Sequence
+
+from office_tools.faults import Fault
+from office_tools.messages import Label
+from office_tools.service import Service
+
+REFUSED = 3
+HEAD = re.compile(r"try (\d+) (\d{4}-\d{2}-\d{2}) (\S+) (\d+) (.*)")
+CHANGE = re.compile(r"[-+](excuse|update|testing) ")
+REFUSAL = re.compile(r"\+update ((?:easy|remove) \d+ refuse .*)")
+
+
+@dataclass(frozen=True)
+class Trial:
+    """What the office says of hints that aren't mailed.
+
+    `first` is the label that the first of them would have, `heads` the lines that name them, `lines` all others.
+    """
+
+    first: Label
+    heads: Sequence[str]
+    lines: Sequence[str]
+
+    @property
+    def changes(self) -> Sequence[str]:
+        """The lines of excuses, update and testing that come or go."""
+        return [line for line in self.lines if CHANGE.match(line)]
+
+    @property
+    def doubts(self) -> Sequence[str]:
+        """Why the hints are most likely no good: the run refuses one, or decides the same without them."""
+        refused = [found[1] for found in map(REFUSAL.fullmatch, self.lines) if found]
+        if not self.changes:
+            return ["the next run would decide the same without it"]
+        return [f"the next run would say: {line}" for line in refused]
+
+
+def trial(service: Service, hints: Sequence[str], day: datetime.date) -> Trial:
+    """Tries hints, each of one line, in the next run on a day. A hint that is refused is a `Fault` of status 3."""
+    path = f"/try/{day.isoformat()}"
+    reply = service.post(path, "".join(hint + "\n" for hint in hints).encode())
+    if reply.status == http.client.BAD_REQUEST and reply.text.startswith("'"):
+        raise Fault(reply.text, REFUSED)
+    if not reply.is_good:
+        raise service.bad(path, reply)
+    lines = reply.body.decode(errors="backslashreplace").splitlines()
+    head = HEAD.fullmatch(lines[0]) if lines else None
+    if head is None:
+        raise service.strange(path)
+    return Trial(Label(head[3], int(head[4])), lines[:len(hints)], lines[len(hints):])
