@@ -20,6 +20,13 @@ MOST_DAYS = 7
 SHOWN = 5  # names that a fault names
 
 
+def check_senders(kept: Mapping[str, Kept], own: Sequence[str]) -> None:
+    """Refuses an office that lacks a sender which this command needs."""
+    for sender in own:
+        if sender not in kept:
+            raise Fault(f"the office has another setup: it has no sender {sender}", REFUSED)
+
+
 def check_gaps(kept: Mapping[str, Kept], own: Sequence[str], allowed: Sequence[str]) -> None:
     """Refuses a gap in the mail of a sender: an order wouldn't cover what stands behind it, such as a bug.
 

@@ -121,10 +121,7 @@ def news(unstable: Unstable, box: Mailbox, told: Told, ways: Ways) -> tuple[News
 
 
 def look_at(unstable: Unstable, box: Mailbox) -> None:
-    """Refuses to work where a sender that this command needs is missing, or indexes that the mail tells of."""
-    for sender in (UPLOADS, BUILDS, HINTS):
-        if sender not in box.kept:
-            raise Fault(f"the office has another setup: it has no sender {sender}", REFUSED)
+    """Refuses indexes that lack an architecture of which the mail tells."""
     counted = Counter(architecture for _, architecture in box.known.live)
     lacking = sorted(set(counted) - set(unstable.architectures) - {"all"})
     if lacking:
