@@ -142,7 +142,8 @@ def uploads(archive: Archive, box: Mailbox, retold: Retold, ways: Ways) -> Itera
         elif name in retold.urgent:
             arrival = Arrival(Urgency.CRITICAL, ways.day)
         else:
-            first = None if name in retold.again else first_arrival(box, name, version)
+            is_once_more = name in retold.sources and name not in retold.again
+            first = first_arrival(box, name, version) if is_once_more else None
             arrival = first or arrival_of(name, version, ways) if name in retold.sources else None
         if arrival is not None:
             number += 1
