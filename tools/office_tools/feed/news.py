@@ -9,7 +9,7 @@ from office_tools.apply import marks
 from office_tools.bags import framed
 from office_tools.faults import Fault
 from office_tools.feed.back import Archive, Retold, came_back, without_strange
-from office_tools.feed.brakes import binaries_in
+from office_tools.feed.brakes import packages_named
 from office_tools.feed.known import Known, first_of
 from office_tools.feed.mailbox import REFUSED, Mailbox
 from office_tools.feed.rebuilds import Rebuilds, rebuilds
@@ -249,11 +249,8 @@ def needs_among(sources: Sequence[str], testing: reports.Testing, box: Mailbox) 
     """For each of these sources the others whose packages its packages in testing name in their relations."""
     rows = {(row.package, row.architecture, row.version): row.source for row in testing.rows if row.source in sources}
     owners = {row.package: row.source for row in testing.rows if row.source in sources}
-    named: list[tuple[str, Binary]] = []
-    for name in owners:
-        for text in box.texts(f"Package: {name}\n".encode()):
-            named += [(rows[(*binary.key, binary.version)], binary) for binary in binaries_in(text)
-                      if (*binary.key, binary.version) in rows]
+    named = [(rows[(*binary.key, binary.version)], binary) for binary in packages_named(box, owners)
+             if (*binary.key, binary.version) in rows]
     owners.update({part.name: source for source, binary in named for part in binary.provisions})
     found: dict[str, set[str]] = {source: set() for source in sources}
     for source, binary in named:
