@@ -92,8 +92,8 @@ class Withdrawn(Feeding):
         """What testing has already goes back only if this is allowed, and then at once."""
         self.moved("2")
         told = self.feed(self.lone("1.5"), "2025-03-04", status=1)[1]
-        self.assertIn("office-feed: source lone: testing has 2, and unstable has 1.5 only: office-feed --back lone "
-                      "lets testing go back", told)
+        self.assertIn("office-feed: source lone: testing has 2, and unstable has 1.5 only: if testing is to go back, "
+                      "allow it by --back lone", told)
         told = self.feed(self.lone("1.5"), "2025-03-06", status=1)[1]
         self.assertIn("office-feed: for 2 days: source lone: testing has 2, ", told[0])
         self.feed(self.lone("1.5"), "2025-03-06", "--back", "lone", status=1)

@@ -132,6 +132,14 @@ class Offices(Feeding):
             self.assertIn("which keeps another text as ftp 1: name another folder", told.stderr)
             self.assertEqual(tool("office-feed", *words, "--restore").returncode, 3)
 
+    def test_another_setup(self):
+        with open(SETUP, encoding="utf-8") as file:
+            setup = self.file("other.conf", file.read().replace("Sender: ftp", "Sender: dak"))
+        with Serving(setup) as other:
+            told = tool("office-feed", "--url", other.url, "--cache", self.path("other"), self.file("Packages", FIRST))
+        self.assertEqual((told.returncode, told.stderr),
+                         (3, "office-feed: the office has another setup: it has no sender ftp\n"))
+
     def test_a_cut_bag(self):
         """A folder whose bag was cut off or garbled is mended by the office's mail; the garbled one is kept."""
         self.feed(FIRST, "2025-03-03")

@@ -135,8 +135,8 @@ def withdrawn(archive: Archive, found: Retold, gone: Withdrawal, allowed: Sequen
     held = archive.held_version(source)
     is_ahead = held is not None and versions.compare(held, version) > 0
     if is_ahead and source not in allowed:
-        tell(f"source {source}: testing has {held}, and unstable has {version} only: office-feed --back {source} lets "
-             "testing go back", Weight.STANDS)
+        tell(f"source {source}: testing has {held}, and unstable has {version} only: if testing is to go back, allow "
+             f"it by --back {source}", Weight.STANDS)
     if held is not None and versions.compare(held, version) == 0 or is_ahead and source not in allowed:
         found.drops.update(gone.lower)
         if gone.lower:

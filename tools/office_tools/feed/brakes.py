@@ -2,8 +2,9 @@
 that releases it.
 """
 import datetime
+import re
 from dataclasses import dataclass
-from typing import Iterator, Mapping, Optional, Sequence
+from typing import Collection, Iterator, Mapping, Optional, Sequence
 
 from office_tools import relations, reports, versions
 from office_tools.apply import marks
@@ -15,9 +16,18 @@ from office_tools.from_packages.suites import Suite
 from office_tools.messages import BINARY_FIELDS, paragraphs
 from office_tools.service import Kept
 
+PACKAGE = re.compile(rb"^Package: (.*)$", re.MULTILINE)
+
 MOST_GONE, MOST_PERCENT = 20, 2
 MOST_DAYS = 7
 SHOWN = 5  # names that a fault names
+
+
+def check_senders(kept: Mapping[str, Kept], own: Sequence[str]) -> None:
+    """Refuses an office that lacks a sender which this command needs."""
+    for sender in own:
+        if sender not in kept:
+            raise Fault(f"the office has another setup: it has no sender {sender}", REFUSED)
 
 
 def check_gaps(kept: Mapping[str, Kept], own: Sequence[str], allowed: Sequence[str]) -> None:
@@ -126,19 +136,22 @@ class Gone:
         """The packages that are gone, are in testing, and are of no source that has a newer version in the archive."""
         sources = {(row.package, row.architecture): row.source for row in self.testing.rows}
         keys = {key for key in self.dropped if key in sources and not self.is_newer(sources[key])}
-        found: dict[Key, Binary] = {}
-        for name in sorted({name for name, _ in keys}):
-            for text in box.texts(f"Package: {name}\n".encode()):
-                for binary in binaries_in(text):
-                    if binary.key in keys and binary.version == self.dropped[binary.key]:
-                        found[binary.key] = binary
-        return list(found.values())
+        return list({binary.key: binary for binary in packages_named(box, {name for name, _ in keys})
+                     if binary.key in keys and binary.version == self.dropped[binary.key]}.values())
 
     def is_newer(self, source: str) -> bool:
         """Whether the archive has a newer version of a source than testing."""
         version, held = self.sources.get(source), self.testing.sources.get(source)
         return version is not None and (
             held is None or versions.compare(version, marks.source_version(held)) > 0)
+
+
+def packages_named(box: Mailbox, names: Collection[str]) -> Iterator[Binary]:
+    """All that the mail tells of packages of these names, and of others of the same messages."""
+    asked = {name.encode() for name in names}
+    for text in box.texts(b"\nKind: build\n") if asked else ():
+        if not asked.isdisjoint(PACKAGE.findall(text)):
+            yield from binaries_in(text)
 
 
 def binaries_in(text: bytes) -> Iterator[Binary]:

@@ -158,6 +158,7 @@ class Turn:
         """The office, with all mail that it keeps, once nothing keeps this feed from being sent."""
         asked = self.asked
         box = mailbox.fetch(self.service, self.folder)
+        brakes.check_senders(box.kept, OWN)
         brakes.check_gaps(box.kept, OWN, asked.gap)
         brakes.check_day(asked.day, self.day, box.known.last_order)
         check_architectures(self.service, UPLOADS, box.kept, unstable.architectures)

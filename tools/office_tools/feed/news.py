@@ -9,7 +9,7 @@ from office_tools.apply import marks
 from office_tools.bags import framed
 from office_tools.faults import Fault
 from office_tools.feed.back import Archive, Retold, came_back, without_strange
-from office_tools.feed.brakes import binaries_in
+from office_tools.feed.brakes import packages_named
 from office_tools.feed.known import Known, first_of
 from office_tools.feed.mailbox import REFUSED, Mailbox
 from office_tools.feed.rebuilds import Rebuilds, rebuilds
@@ -121,10 +121,7 @@ def news(unstable: Unstable, box: Mailbox, told: Told, ways: Ways) -> tuple[News
 
 
 def look_at(unstable: Unstable, box: Mailbox) -> None:
-    """Refuses to work where a sender that this command needs is missing, or indexes that the mail tells of."""
-    for sender in (UPLOADS, BUILDS, HINTS):
-        if sender not in box.kept:
-            raise Fault(f"the office has another setup: it has no sender {sender}", REFUSED)
+    """Refuses indexes that lack an architecture of which the mail tells."""
     counted = Counter(architecture for _, architecture in box.known.live)
     lacking = sorted(set(counted) - set(unstable.architectures) - {"all"})
     if lacking:
@@ -145,7 +142,8 @@ def uploads(archive: Archive, box: Mailbox, retold: Retold, ways: Ways) -> Itera
         elif name in retold.urgent:
             arrival = Arrival(Urgency.CRITICAL, ways.day)
         else:
-            first = None if name in retold.again else first_arrival(box, name, version)
+            is_once_more = name in retold.sources and name not in retold.again
+            first = first_arrival(box, name, version) if is_once_more else None
             arrival = first or arrival_of(name, version, ways) if name in retold.sources else None
         if arrival is not None:
             number += 1
@@ -251,11 +249,8 @@ def needs_among(sources: Sequence[str], testing: reports.Testing, box: Mailbox) 
     """For each of these sources the others whose packages its packages in testing name in their relations."""
     rows = {(row.package, row.architecture, row.version): row.source for row in testing.rows if row.source in sources}
     owners = {row.package: row.source for row in testing.rows if row.source in sources}
-    named: list[tuple[str, Binary]] = []
-    for name in owners:
-        for text in box.texts(f"Package: {name}\n".encode()):
-            named += [(rows[(*binary.key, binary.version)], binary) for binary in binaries_in(text)
-                      if (*binary.key, binary.version) in rows]
+    named = [(rows[(*binary.key, binary.version)], binary) for binary in packages_named(box, owners)
+             if (*binary.key, binary.version) in rows]
     owners.update({part.name: source for source, binary in named for part in binary.provisions})
     found: dict[str, set[str]] = {source: set() for source in sources}
     for source, binary in named:

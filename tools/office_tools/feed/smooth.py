@@ -5,21 +5,18 @@ testing need, is told under a source of its own, `smooth-NAME`, before the sourc
 which is refused as long as something needs it.
 """
 import dataclasses
-import re
 from typing import Iterator, Mapping, Sequence
 
 from office_tools import versions
 from office_tools.apply import marks
 from office_tools.feed.back import Archive, Retold
-from office_tools.feed.brakes import binaries_in
+from office_tools.feed.brakes import binaries_in, packages_named
 from office_tools.feed.mailbox import Mailbox
 from office_tools.feed.rebuilds import Rebuilds, spares_for
 from office_tools.feed.told import Weight, tell
 from office_tools.from_packages.binaries import Binary, Key
 from office_tools.from_packages.suites import Suite
 from office_tools.relations import Clause
-
-PACKAGE = re.compile(rb"^Package: (.*)$", re.MULTILINE)
 
 
 def stay(archive: Archive, box: Mailbox, retold: Retold, again: Rebuilds) -> set[Key]:
@@ -81,14 +78,10 @@ def held_by(archive: Archive, box: Mailbox) -> Sequence[Binary]:
     rows = {(row.package, row.architecture): row for row in archive.testing.rows}
     found = {binary.key: dataclasses.replace(binary, source=rows[binary.key].source) for binary in archive.binaries
              if binary.key in rows and binary.version == rows[binary.key].version}
-    lacking = {name.encode() for name, architecture in rows if (name, architecture) not in found}
-    for text in box.texts(b"\nKind: build\n") if lacking else ():
-        if lacking.isdisjoint(PACKAGE.findall(text)):
-            continue
-        for binary in binaries_in(text):
-            row = rows.get(binary.key)
-            if row is not None and row.version == binary.version:
-                found.setdefault(binary.key, dataclasses.replace(binary, source=row.source))
+    for binary in packages_named(box, {name for name, architecture in rows if (name, architecture) not in found}):
+        row = rows.get(binary.key)
+        if row is not None and row.version == binary.version:
+            found.setdefault(binary.key, dataclasses.replace(binary, source=row.source))
     return [found[key] for key in sorted(found)]
 
 
