@@ -55,7 +55,7 @@ FIRST = [
     ('the office', [f'office_core::Office::{call}' for call in (
         'new', 'into_keeper', 'deliver', 'settle', 'status', 'testing_text', 'excuses_text', 'update_text')]),
     ('a connection', [f'office_http::{call}' for call in (
-        'serve_one', 'requests_are_steps', 'old_requests_stay@others')]),
+        'serve_one', 'serve_with_routes', 'requests_are_steps', 'old_requests_stay@others', 'pages_post_nothing')]),
     ('a life', [f'office_http::{law}' for law in ('life', 'calls_are_events', 'life_finishes')]),
     ('the words', ['office_cli_words::read_words@first', 'office_cli_words::compare_status']),
 ]
@@ -63,7 +63,8 @@ FIRST = [
 LATER = [
     ('more calls of the office', ['office_core::Office']),
     ('every route', [f'office_http::{call}' for call in (
-        'serve_one', 'requests_are_steps', 'requests_have_one_answer', 'bound_mail', 'lint_is_mail', 'old_requests_stay')]),
+        'serve_one', 'requests_are_steps', 'requests_have_one_answer', 'bound_mail', 'lint_is_mail', 'old_requests_stay',
+        'pages_post_nothing')]),
     ('every command', ['office_cli_words::read_words']),
     ('certificates', ['testing_install_why::certificate', 'testing_install_why::is_shown']),
     ('what no group frees', ['testing_rules_refusals::no_group_frees']),

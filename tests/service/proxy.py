@@ -169,6 +169,15 @@ def requests():
     want("a wrong password", 401, ask("POST", "/mail/ftp", good, "ftp", password="other")[0])
     want("no user's name", OTHER, ask("POST", "/mail/ftp", good, headers=[("Authorization", "Basic ftp")]))
     want("an expectation", (200, b"held ftp 4\n"), ask("POST", "/mail/ftp", good, "ftp", [("Expect", "100-continue")]))
+    # what a browser sends for a page, also for a user who is logged in
+    for fields in ([("Origin", "https://evil.example")], [("Origin", "null")], [("Sec-Fetch-Site", "cross-site")],
+                   [("Sec-Fetch-Site", "same-site")]):
+        for path in ("/mail/ftp", "/lint", "/try/2025-03-20"):
+            want("a page's POST %s, %s" % (path, fields), (403, b"refused OtherOrigin\n"),
+                 ask("POST", path, NONE % (b"ftp", 5), "ftp", fields))
+        want("a page's POST without a login", OTHER, ask("POST", "/mail/ftp", NONE % (b"ftp", 5), headers=fields))
+    want("a page looks", (200, b"ready 0 finished 0\n"), ask("GET", "/status", user="ftp", headers=[("Origin", "x")]))
+    want("a proposal for a source", (404, b"refused NoRun\n"), ask("GET", "/propose/lib+x.y", user="bts"))
     want("what is kept", b"mail ftp 4 kept, 1 to 4, greatest 4\nmail bd 1 kept, 1 to 1, greatest 1\n"
          b"mail bts 1 kept, 1 to 1, greatest 1\nmail rt 1 kept, 1 to 1, greatest 1\nmail clock 0 kept\n",
          ask("GET", "/kept", user="op")[1])

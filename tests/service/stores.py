@@ -119,6 +119,24 @@ def ended_by_force(folder, conf):
     service.kill()
 
 
+def refused_setups(folder, conf):
+    """The sentence on a setup that is refused names the line at which its paragraph begins, if the fault is of one."""
+    with open(conf, encoding="utf-8") as good:
+        text = good.read()
+    bad = os.path.join(folder, "bad.conf")
+    for what, old, new, due in [
+            ("a name with a blank", "Sender: bts", "Sender: b ts", "a bad sender: see the paragraph at line 9"),
+            ("a comment", "Sender: rt", "# the team\nSender: rt", "a paragraph can't be read: see the paragraph at line 12"),
+            ("no role", "Role: runs\n", "", "the field Role is missing: see the paragraph at line 15"),
+            ("an architecture", "amd64", "AMD64", "a bad architecture: see the paragraph at line 1"),
+            ("a role", "Role: release", "Role: releases",
+             "an unknown role, or too few or too many senders of a role")]:
+        assert text.count(old) == 1, old
+        with open(bad, "w", encoding="utf-8") as file:
+            file.write(text.replace(old, new))
+        want(what, (b"", 3, "office: %s: the setup is refused: %s\n" % (bad, due)), replay(bad, None, b""))
+
+
 def beside_others(folder, conf):
     """Tables of other names don't count: a store goes on, a database without a store gets one, and they stay."""
     whole, _, _ = replay(conf, None, bag_of(MESSAGES))
@@ -205,6 +223,7 @@ def main():
     with tempfile.TemporaryDirectory() as folder:
         parts(folder, conf)
         ended_by_force(folder, conf)
+        refused_setups(folder, conf)
         beside_others(folder, conf)
         refused(folder, conf)
     for fault in faults:

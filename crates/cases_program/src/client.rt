@@ -1,12 +1,13 @@
 //! A client of the service on loopback.
 
 use cases_faults::{Met, close, due, new_office};
+use mio::net::TcpListener;
 use office_cli::{listen, serve_next};
-use office_http::Office;
+use office_http::{Office, routes};
 use office_store::Keeper;
 use std::io;
 use std::io::Write;
-use std::net::{TcpListener, TcpStream};
+use std::net::TcpStream;
 
 const STATUS: &[u8] = b"GET /status HTTP/1.1\r\nHost: x\r\n\r\n";
 
@@ -16,12 +17,15 @@ const NOTHING_READY: &str =
 /// A client connects and asks, the service takes the connection and replies, and the client reads the reply to its end.
 fn ask<K: Keeper>(
     rt: &HostRuntime,
-    listener: &TcpListener,
+    listener: &mut TcpListener,
     office: &mut Office<K>,
 ) -> io::Result<String> {
     let mut client = TcpStream::connect(rt, listener.local_addr()?)?;
     client.write_all(STATUS)?;
-    if serve_next(rt, listener, office).is_err() {
+    let Ok(table) = routes(rt.alloc()) else {
+        return Err(io::ErrorKind::OutOfMemory.into());
+    };
+    if serve_next(rt, listener, office, &table).is_err() {
         return Err(io::ErrorKind::Other.into());
     }
     io::read_to_string(rt.alloc(), client)
@@ -29,10 +33,10 @@ fn ask<K: Keeper>(
 
 /// What an office replies to a client that asks for its status.
 fn judge_reply<K: Keeper>(rt: &HostRuntime, office: &mut Office<K>) -> Result<(), Met> {
-    let Ok(listener) = listen(rt, 0) else {
+    let Ok(mut listener) = listen(rt, 0) else {
         return Err(Met::Wrong("no port is listened on"));
     };
-    match ask(rt, &listener, office) {
+    match ask(rt, &mut listener, office) {
         Ok(reply) => due(reply.as_str() == NOTHING_READY, "another reply"),
         Err(_) => Err(Met::Wrong("no reply")),
     }

@@ -22,7 +22,7 @@ pub fn try_store_faults(alloc: Global) -> Result<(), Met> {
     tells(
         alloc,
         FileFault::Unopened(Error::SqliteFailure(ErrorCode::DatabaseBusy)),
-        "the store can't be opened: database is locked: end the program that has it open",
+        "the store can't be opened: database is locked: end the program that has it open, or ask a service with office-ask",
     )?;
     tells(
         alloc,

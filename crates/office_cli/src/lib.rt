@@ -4,19 +4,21 @@
 //! left them, tries hints and proposes some, and tells which messages of a bag are refused.
 #![tactic(auto)]
 
+mod arrived;
 mod asking;
-mod batched;
 mod checking;
-mod front;
+mod client;
+mod clients;
+mod journal;
 mod noted;
 mod proposals;
 mod reasons;
-mod refusals;
 mod service;
+mod setups;
+mod status;
 mod tasks;
 mod teller;
 mod telling;
-mod timed;
 mod trials;
 
 pub use office_store::{

@@ -3,6 +3,7 @@
 ghost use Rattle.std.specs.Prelude.{◌≡◌, length};
 ghost use Rattle.office_cli.specs.Told.{status_of_proposal};
 
+use crate::status::ExitStatus;
 use crate::telling::{print_text, refuse};
 use deb_control::Text;
 use office_core_orders::name_at;
@@ -11,9 +12,6 @@ use office_core_outcome::{
 };
 use office_http::StoreFault;
 use office_mail::Setup;
-
-/// The exit status where there is no hint, or where a source isn't moved.
-const NONE: u8 = 1;
 
 /// Prints the hints of a proposal, and gives the exit status. What the search says beside them is told on standard error.
 pub fn print_proposal(
@@ -42,7 +40,11 @@ fn proposal_status(sources: &[Text], proposal: &Proposal) -> u8
     } else {
         proposal.freed.len() == sources.len()
     };
-    if is_done { 0 } else { NONE }
+    if is_done {
+        0
+    } else {
+        ExitStatus::Negative.code()
+    }
 }
 
 /// Says on standard error how many hints are proposed, under which numbers, and how many sources move.

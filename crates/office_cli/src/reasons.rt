@@ -4,24 +4,19 @@ ghost use Rattle.std.specs.Prelude.{◌≡◌, if◌then◌else◌, IfOk};
 ghost use Rattle.office_cli.specs.Told.{IsAsked};
 ghost use Rattle.office_core_facts.specs.State.{IsSound, state_of};
 
+use crate::status::ExitStatus;
 use crate::tasks::{
     end_store, find_file, out_of_memory, replay_to, tell_setup, tell_store, tell_unfound,
 };
-use crate::telling::{print_text, refuse};
+use crate::telling::{print_text, refuse, refuse_unfinished};
 use office_core_check::{office_after, office_before, why_of_run};
 use office_core_outcome::HintText;
 use office_core_why::WhyText;
 use office_http::{Office, StoreFault};
-use office_mail::Setup;
+use office_mail::{MAX_NUMBER, Setup};
 use office_store::{Keeper, Plain, open_store, read_setup};
 use sqlite::Unknown;
 use std::io;
-
-/// The exit status where the run isn't finished, unstable hasn't a source, or the run doesn't cover a hint.
-const SILENT: u8 = 1;
-
-/// The exit status where a word is no number of a hint.
-const USAGE: u8 = 2;
 
 /// What is asked of a run.
 #[derive(Clone, Copy)]
@@ -81,7 +76,7 @@ pub fn hints_for(
 /// The number of a message that a word names.
 fn number_of(word: &str) -> Option<u32> {
     match u32::from_str_radix(word, 10) {
-        Ok(number) if 1 <= number && number <= 999_999_999 => Some(number),
+        Ok(number) if 1 <= number && number <= MAX_NUMBER => Some(number),
         _ => None,
     }
 }
@@ -89,7 +84,7 @@ fn number_of(word: &str) -> Option<u32> {
 /// Says on standard error that a word is no number of a hint, and gives the exit status.
 fn refuse_number(rt: &HostRuntime, word: &str) -> u8 {
     let _ = eprintln!(rt; "office: '{word}': no number of a hint");
-    USAGE
+    ExitStatus::Usage.code()
 }
 
 /// Asks a run, for the setup in a file, over the store in another or over the bag on standard input.
@@ -192,7 +187,7 @@ fn tell_hints<K: Keeper>(
         Ok(WhichRun::Earlier { run }) | Ok(WhichRun::Last { run }) if run > 0 => {
             tell_hints_of(rt, setup, &mut keeper, run, numbers)
         }
-        Ok(_) => SILENT,
+        Ok(_) => refuse_unfinished(rt),
         Err(fault) => refuse(rt, fault),
     };
     (keeper, status)
@@ -223,7 +218,7 @@ fn tell_each_hint<K: Keeper>(rt: &HostRuntime, office: &mut Office<K>, numbers: 
     for number in numbers {
         match tell_hint(rt, office, *number) {
             0 => {}
-            SILENT => status = SILENT,
+            code if code == ExitStatus::Negative.code() => status = code,
             failed => return failed,
         }
     }
@@ -234,7 +229,7 @@ fn tell_each_hint<K: Keeper>(rt: &HostRuntime, office: &mut Office<K>, numbers: 
 fn tell_hint<K: Keeper>(rt: &HostRuntime, office: &mut Office<K>, number: u32) -> u8 {
     match office.hint_told(number) {
         Ok(Some(told)) => print_text(rt, &told.text, hint_status(&told)),
-        Ok(None) => SILENT,
+        Ok(None) => ExitStatus::Negative.code(),
         Err(fault) => refuse(rt, fault),
     }
 }
@@ -243,13 +238,17 @@ fn tell_hint<K: Keeper>(rt: &HostRuntime, office: &mut Office<K>, number: u32) -
 fn hint_status(told: &HintText) -> u8
     ensures { result ≡ (if told.now.is_known then 0 else 1) }
 {
-    if told.is_known { 0 } else { SILENT }
+    if told.is_known {
+        0
+    } else {
+        ExitStatus::Negative.code()
+    }
 }
 
 /// Says on standard error that the store isn't what its mail gives, and gives the exit status.
 fn tell_other_mail(rt: &HostRuntime) -> u8 {
     let _ = eprintln!(rt; "office: the store isn't what its mail gives: office check tells where");
-    SILENT
+    ExitStatus::Negative.code()
 }
 
 /// The run that is asked about.
@@ -283,7 +282,7 @@ fn tell_last<K: Keeper>(
 ) -> u8 {
     match asked {
         Ok(WhichRun::Last { run }) => tell_sources(rt, office, run, sources),
-        Ok(_) => SILENT,
+        Ok(_) => refuse_unfinished(rt),
         Err(fault) => refuse(rt, fault),
     }
 }
@@ -319,7 +318,7 @@ fn tell_sources<K: Keeper>(
     for source in sources {
         match tell_source(rt, office, run, source) {
             0 => {}
-            SILENT => status = SILENT,
+            code if code == ExitStatus::Negative.code() => status = code,
             failed => return failed,
         }
     }
@@ -331,7 +330,7 @@ fn tell_sources<K: Keeper>(
 fn tell_source<K: Keeper>(rt: &HostRuntime, office: &mut Office<K>, run: u32, source: &str) -> u8 {
     match why_of_run(office, run, source) {
         Ok(Some(why)) => print_text(rt, &why.text, status_of(&why)),
-        Ok(None) => SILENT,
+        Ok(None) => ExitStatus::Negative.code(),
         Err(fault) => refuse(rt, fault),
     }
 }
@@ -340,5 +339,9 @@ fn tell_source<K: Keeper>(rt: &HostRuntime, office: &mut Office<K>, run: u32, so
 fn status_of(why: &WhyText) -> u8
     ensures { result ≡ (if why.now.is_known then 0 else 1) }
 {
-    if why.is_known { 0 } else { SILENT }
+    if why.is_known {
+        0
+    } else {
+        ExitStatus::Negative.code()
+    }
 }

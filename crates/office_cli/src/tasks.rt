@@ -6,6 +6,8 @@ use crate::checking::tell_check;
 use crate::noted::FaultKeepingReader;
 use crate::reasons::{hints_for, why_for};
 use crate::service::{serve, service_status};
+use crate::setups::line_of_fault;
+use crate::status::ExitStatus;
 use crate::teller::Teller;
 use crate::telling::{tell_report, tell_version, tell_waiting};
 use crate::trials::{propose_for, refuse_day, try_for};
@@ -20,12 +22,6 @@ use office_store::{
 use sqlite::{File, FileStore, Unknown};
 use std::io::{BufWriter, Write};
 use std::{fs, io, mem};
-
-/// The exit status where memory ran out.
-const FAILED: u8 = 4;
-
-/// The exit status where a message of a bag is refused.
-const REFUSED: u8 = 1;
 
 /// What is done in an office, once its store is there.
 #[derive(Clone, Copy)]
@@ -120,7 +116,7 @@ fn order_for(rt: &HostRuntime, day: &str, conf: &str, db: &str) -> u8 {
 
 pub(crate) fn out_of_memory(rt: &HostRuntime) -> u8 {
     let _ = eprintln!(rt; "office: out of memory");
-    FAILED
+    ExitStatus::Failed.code()
 }
 
 /// Does a task for the setup in a file, over the store in a file or in memory.
@@ -144,7 +140,14 @@ fn check_for(rt: &HostRuntime, conf: &str, db: &str) -> u8 {
 
 /// Says on standard error why the setup in a file is refused, and gives the exit status.
 pub(crate) fn tell_setup(rt: &HostRuntime, conf: &str, fault: &ConfFault) -> u8 {
-    let _ = eprintln!(rt; "office: {conf}: {fault}");
+    let line = match fault {
+        ConfFault::Refused(fault) => line_of_fault(rt, conf, *fault),
+        ConfFault::Unreadable(_) => None,
+    };
+    let _ = match line {
+        Some(line) => eprintln!(rt; "office: {conf}: {fault}: see the paragraph at line {line}"),
+        None => eprintln!(rt; "office: {conf}: {fault}"),
+    };
     conf_status(fault)
 }
 
@@ -164,7 +167,7 @@ fn find_store_file(rt: &HostRuntime, path: &str, task: Task) -> io::Result<()> {
 /// Says on standard error why a store's file can't be read, and gives the exit status.
 pub(crate) fn tell_unfound(rt: &HostRuntime, path: &str, fault: io::Error) -> u8 {
     let _ = eprintln!(rt; "office: {path}: the file can't be read: {fault}");
-    FAILED
+    ExitStatus::Failed.code()
 }
 
 /// Does a task in an office whose store is in a file.
@@ -255,7 +258,7 @@ fn replay_over<K: Keeper>(rt: &HostRuntime, office: &mut Office<K>) -> u8 {
 fn lint_over<K: Keeper>(rt: &HostRuntime, office: &mut Office<K>) -> u8 {
     let mut teller = Teller::new(rt);
     match replay_told(rt, office, &mut io::sink(), &mut teller) {
-        0 if teller.has_refused() => REFUSED,
+        0 if teller.has_refused() => ExitStatus::Negative.code(),
         status => status,
     }
 }

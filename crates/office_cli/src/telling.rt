@@ -5,38 +5,33 @@ ghost use Rattle.std.specs.Prelude.{◌≡◌, IfOk};
 ghost use Rattle.office_cli.specs.Told.{IsReportText, status_of_awaited};
 ghost use Rattle.office_core_facts.specs.State.{IsSound, state_of};
 
+use crate::status::ExitStatus;
 use deb_control::Text;
 use office_cli_words::Report;
 use office_core_orders::{Awaited, Waiting, waiting_text};
 use office_http::{Office, StoreFault};
 use office_store::Keeper;
 
-/// The exit status where memory, the store or standard output failed.
-const FAILED: u8 = 4;
-
-/// The exit status where a run isn't finished, or waits for mail.
-const MISSING: u8 = 1;
-
 /// The program's version.
 const VERSION: &str = "0.10.0";
 
-/// The kit by which the program is proved and built.
+/// The kit that the program is for. Whether it was proved by it, the log of the gate says.
 const KIT: &str = "rattle-kit-13f";
 
 /// Prints the program's version and its kit, and gives the exit status.
 pub fn tell_version(rt: &HostRuntime) -> u8 {
-    match println!(rt; "office {VERSION}\nproved and built by {KIT}") {
+    match println!(rt; "office {VERSION}\nfor {KIT}") {
         Ok(()) => 0,
         Err(_) => refuse_output(rt),
     }
 }
 
-/// Prints a report of an earlier run, testing or unstable, and gives the exit status. Nothing is printed where that run
-/// isn't finished.
+/// Prints a report of an earlier run, testing or unstable, and gives the exit status. For a run that isn't finished it
+/// says so on standard error.
 pub fn tell_report<K: Keeper>(rt: &HostRuntime, office: &mut Office<K>, report: Report) -> u8 {
     match report_text(office, report) {
         Ok(Some(text)) => print_text(rt, &text, 0),
-        Ok(None) => MISSING,
+        Ok(None) => refuse_unfinished(rt),
         Err(fault) => refuse(rt, fault),
     }
 }
@@ -80,7 +75,7 @@ fn waiting_status(awaited: &Awaited) -> u8
 {
     match awaited {
         Awaited::Order => 0,
-        Awaited::Mail(_) => MISSING,
+        Awaited::Mail(_) => ExitStatus::Negative.code(),
     }
 }
 
@@ -100,11 +95,17 @@ pub(crate) fn refuse(rt: &HostRuntime, fault: StoreFault) -> u8 {
             eprintln!(rt; "office: the store failed: see to the disk, and start again")
         }
     };
-    FAILED
+    ExitStatus::Failed.code()
+}
+
+/// Says on standard error that the run asked about isn't finished, and gives the exit status.
+pub(crate) fn refuse_unfinished(rt: &HostRuntime) -> u8 {
+    let _ = eprintln!(rt; "office: that run isn't finished: office runs prints those that are");
+    ExitStatus::Negative.code()
 }
 
 /// Says on standard error that standard output failed, and gives the exit status.
 pub(crate) fn refuse_output(rt: &HostRuntime) -> u8 {
     let _ = eprintln!(rt; "office: standard output: a write failed");
-    FAILED
+    ExitStatus::Failed.code()
 }

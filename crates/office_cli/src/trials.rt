@@ -1,6 +1,7 @@
 //! Hints that are tried before they are mailed, and hints that are proposed.
 
 use crate::proposals::print_proposal;
+use crate::status::ExitStatus;
 use crate::tasks::{
     end_store, find_file, out_of_memory, replay_to, tell_setup, tell_store, tell_unfound,
 };
@@ -17,15 +18,6 @@ use office_store::{Keeper, Plain, open_store, read_setup};
 use sqlite::Unknown;
 use std::alloc::Global;
 use std::io;
-
-/// The exit status where the hints change nothing.
-const SAME: u8 = 1;
-
-/// The exit status where the words name no day.
-const USAGE: u8 = 2;
-
-/// The exit status where a hint is refused, or the day of the run isn't known.
-const REFUSED: u8 = 3;
 
 /// What is asked about the next run.
 #[derive(Clone, Copy)]
@@ -185,7 +177,7 @@ fn print_tried(
     match trial_text(rt.alloc(), sender, hints, report, reasons) {
         Ok(text) => match has_changes(rt.alloc(), report) {
             Ok(true) => print_text(rt, &text, 0),
-            Ok(false) => print_text(rt, &text, SAME),
+            Ok(false) => print_text(rt, &text, ExitStatus::Negative.code()),
             Err(_) => refuse(rt, StoreFault::NoMemory),
         },
         Err(_) => refuse(rt, StoreFault::NoMemory),
@@ -197,7 +189,7 @@ fn refuse_hint(rt: &HostRuntime, hints: &[Text], refused: RefusedHint) -> u8 {
     let (cause, field) = fault_words(DeliverFault::Mail(refused.fault));
     let hint = hints.get(refused.place).map_or("", |hint| hint.as_str());
     let _ = eprintln!(rt; "office: '{hint}': refused {cause}{field}");
-    REFUSED
+    ExitStatus::Refused.code()
 }
 
 /// Prints the hints that are proposed for the next run of an office, and gives the exit status.
@@ -217,17 +209,17 @@ fn tell_proposal<K: Keeper>(
 /// Says on standard error that a text is no name of a source, and gives the exit status.
 fn refuse_name(rt: &HostRuntime, name: &str) -> u8 {
     let _ = eprintln!(rt; "office: '{name}': no name of a source");
-    USAGE
+    ExitStatus::Usage.code()
 }
 
 /// Says on standard error that the run has no day, and gives the exit status.
 fn refuse_dateless(rt: &HostRuntime) -> u8 {
     let _ = eprintln!(rt; "office: no run is finished: name the day of the next one by --day");
-    REFUSED
+    ExitStatus::Refused.code()
 }
 
 /// Says on standard error that a text is no day, and gives the exit status.
 pub(crate) fn refuse_day(rt: &HostRuntime, day: &str) -> u8 {
     let _ = eprintln!(rt; "office: '{day}': no day: write it as 2025-03-20");
-    USAGE
+    ExitStatus::Usage.code()
 }

@@ -10,12 +10,9 @@ ghost use Rattle.office_core.specs.Unbroken.{AreUnbroken};
 
 use office_core_orders::StoreFault;
 use office_core_orders::orders::{count_on, make_room};
-use office_mail::Setup;
+use office_mail::{MAX_NUMBER, Setup};
 use office_store_keeper::Keeper;
 use std::alloc::Global;
-
-/// The greatest number of a message.
-const GREATEST: u32 = 999_999_999;
 
 /// Counts one sender's numbers on up to the first that isn't kept.
 fn count_sender<K: Keeper>(
@@ -30,7 +27,7 @@ fn count_sender<K: Keeper>(
 {
     make_room(counts, sender)?;
     let place = sender as usize;
-    let count = count_on(keeper, sender, counts[place], GREATEST)?;
+    let count = count_on(keeper, sender, counts[place], MAX_NUMBER)?;
     counts[place] = count;
     Ok(count)
 }

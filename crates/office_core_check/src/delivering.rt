@@ -17,12 +17,9 @@ use crate::memory::Bounded;
 use deb_control::NoMemory;
 use office_core::Office;
 use office_core_orders::{DeliverFault, Held, StoreFault};
-use office_mail::{MailFault, Setup};
+use office_mail::{MAX_NUMBER, MailFault, Setup};
 use office_store_keeper::{Keeper, Letter};
 use std::alloc::Global;
-
-/// The greatest number that a message may have.
-const LAST: u32 = 999_999_999;
 
 /// Whether an answer is that a message is held under this sender and number. Over a store in memory a fault is want of
 /// memory.
@@ -33,7 +30,7 @@ fn is_held(answer: Result<Held, DeliverFault>, sender: u32, number: u32) -> Resu
     ensures fault { IfErr result (λ f. f ≡ fault.NoMemory) }
 {
     match answer {
-        Ok(held) => Ok(held.sender == sender && held.number == number && number <= LAST),
+        Ok(held) => Ok(held.sender == sender && held.number == number && number <= MAX_NUMBER),
         Err(DeliverFault::Mail(MailFault::NoMemory) | DeliverFault::Store) => {
             Err(StoreFault::NoMemory)
         }

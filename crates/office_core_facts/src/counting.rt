@@ -10,10 +10,8 @@ ghost use Rattle.office_core_facts.specs.Seen.{IsUnbroken};
 use office_core_orders::StoreFault;
 use office_core_orders::orders::{count_block, next_size};
 use office_core_orders::stored::block_end;
+use office_mail::MAX_NUMBER;
 use office_store_keeper::Keeper;
-
-/// The greatest number of a message.
-const GREATEST: u32 = 999_999_999;
 
 /// The number up to which a sender's mail goes on without a gap behind another number.
 fn count_behind<K: Keeper>(keeper: &mut K, sender: u32, known: u32) -> Result<u32, StoreFault>
@@ -22,8 +20,8 @@ fn count_behind<K: Keeper>(keeper: &mut K, sender: u32, known: u32) -> Result<u3
 {
     let mut count = known;
     let mut size = 1;
-    'loads: while count < GREATEST {
-        let end = block_end(count, size, GREATEST);
+    'loads: while count < MAX_NUMBER {
+        let end = block_end(count, size, MAX_NUMBER);
         let last = count_block(keeper, sender, count, end)?;
         if last < end {
             return Ok(last);

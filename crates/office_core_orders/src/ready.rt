@@ -8,19 +8,16 @@ ghost use Rattle.office_core_orders.specs.Ready.{HasEach, HasPlaces, IsCounted};
 
 use crate::faults::StoreFault;
 use crate::orders::{is_there, order, read_orders};
-use office_mail::{RunOrder, Setup};
+use office_mail::{MAX_NUMBER, RunOrder, Setup};
 use office_store_keeper::Keeper;
 use std::alloc::Global;
-
-/// The greatest number of a message, and so of a run.
-const GREATEST: u32 = 999_999_999;
 
 /// Whether a run is of the greatest number, so that none can come behind it.
 fn is_last(run: u32) -> bool
     ensures last { IsTrue result → 999_999_999 ≤ run }
     ensures more { result ≡ false → run < 999_999_999 }
 {
-    run >= GREATEST
+    run >= MAX_NUMBER
 }
 
 /// Whether the run behind a ready one is ready too.

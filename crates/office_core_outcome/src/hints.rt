@@ -9,12 +9,9 @@ use crate::RefusedHint;
 use deb_control::Text;
 use office_core_facts::release::release_place;
 use office_core_orders::{StoreFault, name_at};
-use office_mail::{MailFault, Setup, read_message};
+use office_mail::{MAX_NUMBER, MailFault, Setup, read_message};
 use office_store_keeper::{Letter, MailText};
 use std::alloc::{AllocError, Global};
-
-/// The greatest number of a message.
-const GREATEST: u32 = 999_999_999;
 
 /// The message of a hint.
 #[tactic(auto, unfolding(crate::specs::Hints::hint_text))]
@@ -69,7 +66,7 @@ fn take_hint(
     ensures letters { IfOk result (λ refusal. refusal ≡ None → letters.new.items ≡ letters.old.items ++ hint_letters setup.now number (hint.now ∷ [])) }
     ensures no_store { IfErr result (λ fault. fault ≡ StoreFault.NoMemory) }
 {
-    if number >= GREATEST {
+    if number >= MAX_NUMBER {
         return Ok(Some(MailFault::BadNumber));
     }
     let letter = hint_letter(alloc, setup, number + 1, hint)?;

@@ -7,10 +7,8 @@ ghost use Rattle.office_core_queries.specs.Numbers.{IsAbove, IsLetterAbove, HasN
 
 use office_core::Office;
 use office_core_orders::StoreFault;
+use office_mail::MAX_NUMBER;
 use office_store_keeper::{Keeper, Letter};
-
-/// The greatest number that a message may have.
-const LAST: u32 = 999_999_999;
 
 /// A number, where it is above another and a message may have it.
 fn number_above(last: u32, number: Option<u32>) -> Option<u32>
@@ -18,7 +16,7 @@ fn number_above(last: u32, number: Option<u32>) -> Option<u32>
     ensures same { IsAbove last number → result ≡ number }
 {
     match number {
-        Some(number) if last < number && number <= LAST => Some(number),
+        Some(number) if last < number && number <= MAX_NUMBER => Some(number),
         _ => None,
     }
 }

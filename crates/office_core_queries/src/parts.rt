@@ -10,11 +10,9 @@ ghost use Rattle.office_core_queries.specs.BagPart.{bag_part, fitting, letters_f
 use crate::numbers::letter_above;
 use office_core::Office;
 use office_core_orders::{Digits, StoreFault};
+use office_mail::MAX_NUMBER;
 use office_store_keeper::{Keeper, MailText};
 use std::alloc::AllocError;
-
-/// The greatest number that a message may have.
-const LAST: u32 = 999_999_999;
 
 /// How many bytes a part has at most, unless its first message is longer.
 const ROOM: u128 = 65_536;
@@ -78,7 +76,7 @@ fn push_from<K: Keeper>(
     ensures part { Holds K.Keeper office.old office.new → bag.old.items ≡ [] → OnOk result (bag.new.items ≡ bag_part (K.content office.old).kept sender from) }
     ensures asks { AsksOffice K.Keeper office.old office.new result }
 {
-    if from > LAST {
+    if from > MAX_NUMBER {
         return Ok(());
     }
     push_part(office, sender, from.saturating_sub(1), bag)

@@ -5,4 +5,4 @@ pub use office_core::laws::{
     runs_stay, same_texts, steps_follow,
 };
 pub use office_core_replay::replay_laws::{blocks_are_no_other, replays_are_steps};
-pub use office_http_requests::laws::old_requests_stay;
+pub use office_http_requests::laws::{old_requests_stay, pages_post_nothing};

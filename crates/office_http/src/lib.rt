@@ -14,4 +14,5 @@ pub use office_core_orders::{
     waiting_text,
 };
 pub use office_core_replay::{Replayed, Unwatched, Watcher, replay, replay_status, replay_watched};
-pub use serve::{ServeFault, Served, serve_one};
+pub use office_http_requests::routes::{Routes, routes};
+pub use serve::{ServeFault, Served, serve_one, serve_with_routes};

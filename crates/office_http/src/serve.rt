@@ -14,6 +14,7 @@ ghost use Rattle.office_core.specs.Laws.{RunsStand};
 ghost use Rattle.office_http_requests.specs.Reply.{continue_bytes, refused, reply_bytes, HasPlace};
 ghost use Rattle.office_http_requests.specs.Request.{body_room, head_room};
 ghost use Rattle.office_http_requests.specs.RequestSteps.{IsHeadAt};
+ghost use Rattle.office_http_requests.specs.Routes.{office_routes};
 ghost use Rattle.office_http.specs.Serve.{if_known, mail_counts, unbroken_of, refusal_for, report_answer, why_answer, letter_answer, delivery_answer, is_of_other, waits_of, Does, StopsBefore, Serves, StopsServe};
 ghost use Rattle.office_core_why.specs.Why.{IsWhy};
 ghost use Rattle.office_http.specs.ServeSteps.{answer_or, part_answer, status_answer, text_answer, Tells, TellsAwaited, TellsShort, Runs, Answers, StopsRequest, ServesHead};
@@ -34,7 +35,7 @@ use office_core_outcome::TrialOptions;
 use office_core_queries::{MailCount, bag_part, mail_counts, mail_text, order_text, runs_text};
 use office_core_replay::settle_behind;
 use office_core_why::WhyText;
-use office_http_requests::routes::routes;
+use office_http_requests::routes::{Routes, routes};
 use office_http_requests::{
     Action, Answer, Asked, BodyRead, FIELD_ROOM, HeadRead, Page, Posted, Refusal, asked_of,
     is_head_method, read_head, read_up_to, write_answer, write_continue,
@@ -402,19 +403,18 @@ fn answer_post<K: Keeper, R: Feed, W: Sink>(
 /// What a request asks for, none for want of memory.
 fn asked_in(
     alloc: Global,
+    table: &Routes,
     setup: &Setup,
     seen: &[u8],
     spans: RequestSpans,
     headers: &[HeaderSpan],
 ) -> Option<Asked>
-    requires { IsHeadAt seen.now headers.now spans }
+    requires table { table.now ≡ office_routes }
+    requires head { IsHeadAt seen.now headers.now spans }
     ensures asked { IfSome result (λ asked. (head : RequestHead) → IsRequestAt seen.now headers.now spans head → asked ≡ asked_of setup.now head) }
     ensures fits { IfSome result (λ asked. body_size asked ≤ body_room) }
 {
-    let Ok(router) = routes(alloc) else {
-        return None;
-    };
-    match asked_of(alloc, &router, setup, seen, spans, headers) {
+    match asked_of(alloc, table, setup, seen, spans, headers) {
         Ok(asked) => Some(asked),
         Err(_) => None,
     }
@@ -449,16 +449,24 @@ fn answer_request<K: Keeper, R: Feed, W: Sink>(
     }
 }
 
+/// Where the parts of a head stand in the bytes that came.
+#[derive(Clone, Copy)]
+struct HeadParts<'a> {
+    spans: RequestSpans,
+    headers: &'a [HeaderSpan],
+}
+
 /// Serves a request whose head has come.
 fn serve_request<K: Keeper, R: Feed, W: Sink>(
     office: &mut Office<K>,
+    table: &Routes,
     seen: &mut Vec<u8>,
-    spans: RequestSpans,
-    headers: &[HeaderSpan],
+    head: HeadParts<'_>,
     reader: &mut R,
     writer: &mut W,
 ) -> Result<u16, ServeFault>
-    requires { IsHeadAt seen.old.items headers.now spans }
+    requires table { table.now ≡ office_routes }
+    requires head { IsHeadAt seen.old.items head.headers.now head.spans }
     ensures carries { Preserves K.Keeper office.old office.new }
     ensures ok { Holds K.Keeper office.old office.new → IfOk result (λ code. ServesHead (state_of K.Keeper office.old) (state_of K.Keeper office.new) (R.left reader.old) (R.left reader.new) (W.written writer.old) (W.written writer.new) seen.old.items code (StoreRefused K.Keeper office.old office.new)) }
     ensures err { Holds K.Keeper office.old office.new → IfErr result (λ fault. StopsRequest (state_of K.Keeper office.old) (state_of K.Keeper office.new) (R.left reader.old) (R.left reader.new) (W.written writer.old) (W.written writer.new) seen.old.items fault (StoreRefused K.Keeper office.old office.new)) }
@@ -468,9 +476,11 @@ fn serve_request<K: Keeper, R: Feed, W: Sink>(
     ensures read_clean { OnOk result (R.failures reader.new ≡ R.failures reader.old) }
     ensures write_clean { OnOk result (W.failures writer.new ≡ W.failures writer.old) }
 {
+    let HeadParts { spans, headers } = head;
     let is_head = is_head_method(seen.as_slice(), spans);
     let asked = asked_in(
         office.alloc(),
+        table,
         office.setup(),
         seen.as_slice(),
         spans,
@@ -495,9 +505,11 @@ fn refuse<W: Sink>(setup: &Setup, refusal: Refusal, writer: &mut W) -> Result<Se
 /// Reads one request, does what it asks for, and writes its reply.
 fn serve_connection<K: Keeper, R: Feed, W: Sink>(
     office: &mut Office<K>,
+    table: &Routes,
     reader: &mut R,
     writer: &mut W,
 ) -> Result<Served, ServeFault>
+    requires { table.now ≡ office_routes }
     ensures carries { Preserves K.Keeper office.old office.new }
     ensures ok { Holds K.Keeper office.old office.new → IfOk result (λ served. Serves (state_of K.Keeper office.old) (state_of K.Keeper office.new) (R.left reader.old) (R.left reader.new) (W.written writer.old) (W.written writer.new) served.code (StoreRefused K.Keeper office.old office.new)) }
     ensures err { Holds K.Keeper office.old office.new → IfErr result (λ fault. StopsServe (state_of K.Keeper office.old) (state_of K.Keeper office.new) (R.left reader.old) (R.left reader.new) (W.written writer.old) (W.written writer.new) fault (StoreRefused K.Keeper office.old office.new)) }
@@ -512,7 +524,11 @@ fn serve_connection<K: Keeper, R: Feed, W: Sink>(
     match read_head(reader, &mut seen, &mut headers)? {
         HeadRead::Nothing => Ok(Served { code: None }),
         HeadRead::Head(spans) => {
-            let code = serve_request(office, &mut seen, spans, &headers, reader, writer)?;
+            let head = HeadParts {
+                spans,
+                headers: &headers,
+            };
+            let code = serve_request(office, table, &mut seen, head, reader, writer)?;
             Ok(Served { code: Some(code) })
         }
         HeadRead::HeadTooLarge => refuse(office.setup(), Refusal::HeadTooLarge, writer),
@@ -527,11 +543,15 @@ fn serve_connection<K: Keeper, R: Feed, W: Sink>(
 /// takes no memory, so that a 503 to a delivery says that nothing was added. `Write` comes only where the
 /// writer failed or took no byte, and `Read` only where the reader failed; then nothing was delivered
 /// or settled.
-pub fn serve_one<K: Keeper, R: Feed, W: Sink>(
+///
+/// The table of routes is the caller's, who makes it once for many connections.
+pub fn serve_with_routes<K: Keeper, R: Feed, W: Sink>(
     office: &mut Office<K>,
+    table: &Routes,
     reader: &mut R,
     writer: &mut W,
 ) -> Result<Served, ServeFault>
+    requires { table.now ≡ office_routes }
     // A store that is trusted was so before, and holds an office's state as before.
     ensures carries { Preserves K.Keeper office.old office.new }
     // The reply is a function of the request, of the office's state and of the faults that were met; a fault of the store
@@ -547,5 +567,27 @@ pub fn serve_one<K: Keeper, R: Feed, W: Sink>(
     ensures read_clean { OnOk result (R.failures reader.new ≡ R.failures reader.old) }
     ensures write_clean { OnOk result (W.failures writer.new ≡ W.failures writer.old) }
 {
-    serve_connection(office, reader, writer)
+    serve_connection(office, table, reader, writer)
+}
+
+/// The same with a table of routes of its own. Without memory for that table nothing is read, and the reply says so.
+pub fn serve_one<K: Keeper, R: Feed, W: Sink>(
+    office: &mut Office<K>,
+    reader: &mut R,
+    writer: &mut W,
+) -> Result<Served, ServeFault>
+    ensures carries { Preserves K.Keeper office.old office.new }
+    ensures ok { Holds K.Keeper office.old office.new → IfOk result (λ served. Serves (state_of K.Keeper office.old) (state_of K.Keeper office.new) (R.left reader.old) (R.left reader.new) (W.written writer.old) (W.written writer.new) served.code (StoreRefused K.Keeper office.old office.new)) }
+    ensures err { Holds K.Keeper office.old office.new → IfErr result (λ fault. StopsServe (state_of K.Keeper office.old) (state_of K.Keeper office.new) (R.left reader.old) (R.left reader.new) (W.written writer.old) (W.written writer.new) fault (StoreRefused K.Keeper office.old office.new)) }
+    ensures runs { Holds K.Keeper office.old office.new → RunsStand (K.content office.old) (K.content office.new) }
+    ensures calls { R.calls reader.new ≤ R.calls reader.old + (head_room + body_room) }
+    ensures read { IfErr result (λ fault. fault ≡ ServeFault.Read → HasRisen (R.failures reader.old) (R.failures reader.new)) }
+    ensures write { IfErr result (λ fault. fault ≡ ServeFault.Write → HasRisen (W.failures writer.old) (W.failures writer.new)) }
+    ensures read_clean { OnOk result (R.failures reader.new ≡ R.failures reader.old) }
+    ensures write_clean { OnOk result (W.failures writer.new ≡ W.failures writer.old) }
+{
+    match routes(office.alloc()) {
+        Ok(table) => serve_with_routes(office, &table, reader, writer),
+        Err(_) => refuse(office.setup(), Refusal::NoMemory, writer),
+    }
 }

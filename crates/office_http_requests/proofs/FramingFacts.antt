@@ -7,7 +7,7 @@ use Rattle.std.specs.Str.Parse.{digits_value}
 use Rattle.office_http_requests.specs.declared.request.Stated.{Stated}
 use Rattle.office_http_requests.specs.declared.request.Stated.TheVariants.{Absent, Bad, TooLong, Exactly}
 use Rattle.office_http_requests.specs.declared.request.Framing.{Framing}
-use Rattle.office_http_requests.specs.Asked.{Line, values_named, are_digits, number_stated, stated, is_there, is_continue, with_value, with_field, framing_of}
+use Rattle.office_http_requests.specs.Asked.{Line, values_named, are_digits, number_stated, stated, is_there, is_continue, is_foreign_site, with_value, with_field, framing_of}
 
 -- the value of a field that has the name, or none
 value_if : List ℕ → Line → List (List ℕ)
@@ -53,15 +53,15 @@ or_step : (b c d : Bool) → b || (c || d) ≡ (b || c) || d
 or_step true c d = refl
 or_step false c d = refl
 
-any_more : (vs ws : List (List ℕ)) → list_any is_continue (vs ++ ws) ≡ list_any is_continue vs || list_any is_continue ws
-any_more [] ws = refl
-any_more (v ∷ vs) ws = ap (λ b. is_continue v || b) (any_more vs ws) ∙ or_step (is_continue v) (list_any is_continue vs) (list_any is_continue ws)
+any_more : (p : List ℕ → Bool) (vs ws : List (List ℕ)) → list_any p (vs ++ ws) ≡ list_any p vs || list_any p ws
+any_more p [] ws = refl
+any_more p (v ∷ vs) ws = ap (λ b. p v || b) (any_more p vs ws) ∙ or_step (p v) (list_any p vs) (list_any p ws)
 
 append_none : (vs : List (List ℕ)) → vs ++ [] ≡ vs
 append_none [] = refl
 append_none (v ∷ vs) = ap (λ (l : List (List ℕ)). v ∷ l) (append_none vs)
 
--- the three parts, by whether the field has the name
+-- the four parts, by whether the field has the name
 length_is : (b : Bool) (vs : List (List ℕ)) (v : List ℕ) → stated (vs ++ cond b (v ∷ []) []) ≡ cond b (with_value (stated vs) v) (stated vs)
 length_is true vs v = stated_more vs v
 length_is false vs v = ap stated (append_none vs)
@@ -75,15 +75,20 @@ waits_one true true w = or_true w
 waits_one true false w = or_false w
 waits_one false c w = or_false w
 
-any_if : (b : Bool) (v : List ℕ) → list_any is_continue (cond b (v ∷ []) []) ≡ cond b (is_continue v || false) false
-any_if true v = refl
-any_if false v = refl
+any_if : (p : List ℕ → Bool) (b : Bool) (v : List ℕ) → list_any p (cond b (v ∷ []) []) ≡ cond b (p v || false) false
+any_if p true v = refl
+any_if p false v = refl
 
-waits_is : (b : Bool) (vs : List (List ℕ)) (v : List ℕ) → list_any is_continue (vs ++ cond b (v ∷ []) []) ≡ cond (b && is_continue v) true (list_any is_continue vs)
-waits_is b vs v = any_more vs (cond b (v ∷ []) []) ∙ ap (λ w. list_any is_continue vs || w) (any_if b v) ∙ waits_one b (is_continue v) (list_any is_continue vs)
+any_is : (p : List ℕ → Bool) (b : Bool) (vs : List (List ℕ)) (v : List ℕ) → list_any p (vs ++ cond b (v ∷ []) []) ≡ cond (b && p v) true (list_any p vs)
+any_is p b vs v = any_more p vs (cond b (v ∷ []) []) ∙ ap (λ w. list_any p vs || w) (any_if p b v) ∙ waits_one b (p v) (list_any p vs)
 
-said : Stated → Bool → Bool → Framing
-said length coded waits = record { length = length; coded = coded; waits = waits }
+either_is : (b d x y : Bool) → cond b true x || cond d true y ≡ cond b true (cond d true (x || y))
+either_is true d x y = refl
+either_is false true x y = or_true x
+either_is false false x y = refl
+
+said : Stated → Bool → Bool → Bool → Framing
+said length coded waits foreign = record { length = length; coded = coded; waits = waits; foreign = foreign }
 
 -- one more field
 pub framing-more : (lines : List Line) (line : Line) → framing_of (lines ++ line ∷ []) ≡ with_field (framing_of lines) line
@@ -92,16 +97,30 @@ framing-more lines line =
     let cl : List ℕ = codes "content-length" in
     let te : List ℕ = codes "transfer-encoding" in
     let ex : List ℕ = codes "expect" in
+    let og : List ℕ = codes "origin" in
+    let sf : List ℕ = codes "sec-fetch-site" in
     let more : List Line = lines ++ line ∷ [] in
     let length : stated (values_named cl more) ≡ cond (str_eq_ignore_ascii_case line.0 cl) (with_value (stated (values_named cl lines)) line.1) (stated (values_named cl lines))
     = ap stated (values-more cl lines line) ∙ length_is (str_eq_ignore_ascii_case line.0 cl) (values_named cl lines) line.1 in
     let coded : is_there (values_named te more) ≡ cond (str_eq_ignore_ascii_case line.0 te) true (is_there (values_named te lines))
     = ap is_there (values-more te lines line) ∙ coded_is (str_eq_ignore_ascii_case line.0 te) (values_named te lines) line.1 in
     let waits : list_any is_continue (values_named ex more) ≡ cond (str_eq_ignore_ascii_case line.0 ex && is_continue line.1) true (list_any is_continue (values_named ex lines))
-    = ap (list_any is_continue) (values-more ex lines line) ∙ waits_is (str_eq_ignore_ascii_case line.0 ex) (values_named ex lines) line.1 in
-    ap (λ s. said s (is_there (values_named te more)) (list_any is_continue (values_named ex more))) length
-    ∙ ap (λ b. said (cond (str_eq_ignore_ascii_case line.0 cl) (with_value (stated (values_named cl lines)) line.1) (stated (values_named cl lines))) b (list_any is_continue (values_named ex more))) coded
-    ∙ ap (λ b. said (cond (str_eq_ignore_ascii_case line.0 cl) (with_value (stated (values_named cl lines)) line.1) (stated (values_named cl lines))) (cond (str_eq_ignore_ascii_case line.0 te) true (is_there (values_named te lines))) b) waits
+    = ap (list_any is_continue) (values-more ex lines line) ∙ any_is is_continue (str_eq_ignore_ascii_case line.0 ex) (values_named ex lines) line.1 in
+    let origin : is_there (values_named og more) ≡ cond (str_eq_ignore_ascii_case line.0 og) true (is_there (values_named og lines))
+    = ap is_there (values-more og lines line) ∙ coded_is (str_eq_ignore_ascii_case line.0 og) (values_named og lines) line.1 in
+    let site : list_any is_foreign_site (values_named sf more) ≡ cond (str_eq_ignore_ascii_case line.0 sf && is_foreign_site line.1) true (list_any is_foreign_site (values_named sf lines))
+    = ap (list_any is_foreign_site) (values-more sf lines line) ∙ any_is is_foreign_site (str_eq_ignore_ascii_case line.0 sf) (values_named sf lines) line.1 in
+    let foreign : is_there (values_named og more) || list_any is_foreign_site (values_named sf more) ≡ cond (str_eq_ignore_ascii_case line.0 og) true (cond (str_eq_ignore_ascii_case line.0 sf && is_foreign_site line.1) true (is_there (values_named og lines) || list_any is_foreign_site (values_named sf lines)))
+    = ap (λ b. b || list_any is_foreign_site (values_named sf more)) origin
+    ∙ ap (λ b. cond (str_eq_ignore_ascii_case line.0 og) true (is_there (values_named og lines)) || b) site
+    ∙ either_is (str_eq_ignore_ascii_case line.0 og) (str_eq_ignore_ascii_case line.0 sf && is_foreign_site line.1) (is_there (values_named og lines)) (list_any is_foreign_site (values_named sf lines)) in
+    let length_now : Stated = cond (str_eq_ignore_ascii_case line.0 cl) (with_value (stated (values_named cl lines)) line.1) (stated (values_named cl lines)) in
+    let coded_now : Bool = cond (str_eq_ignore_ascii_case line.0 te) true (is_there (values_named te lines)) in
+    let waits_now : Bool = cond (str_eq_ignore_ascii_case line.0 ex && is_continue line.1) true (list_any is_continue (values_named ex lines)) in
+    ap (λ s. said s (is_there (values_named te more)) (list_any is_continue (values_named ex more)) (is_there (values_named og more) || list_any is_foreign_site (values_named sf more))) length
+    ∙ ap (λ b. said length_now b (list_any is_continue (values_named ex more)) (is_there (values_named og more) || list_any is_foreign_site (values_named sf more))) coded
+    ∙ ap (λ b. said length_now coded_now b (is_there (values_named og more) || list_any is_foreign_site (values_named sf more))) waits
+    ∙ ap (λ b. said length_now coded_now waits_now b) foreign
 
 -- the fields up to a place, and one more
 pub framing_next : {A : Type 0} (f : A → Line) (xs : List A) (i : ℕ) (d : A) → i < length xs → framing_of (map f (take (i + 1) xs)) ≡ with_field (framing_of (map f (take i xs))) (f (get_or xs i d))
@@ -110,6 +129,6 @@ framing_next f xs i d h =
     ∙ ap framing_of (map-append f (take i xs) (get_or xs i d ∷ []))
     ∙ framing-more (map f (take i xs)) (f (get_or xs i d))
 
-pub framing_none : ◌≡◌ {A = Framing} (record { length = Absent; coded = false; waits = false }) (framing_of [])
+pub framing_none : ◌≡◌ {A = Framing} (record { length = Absent; coded = false; waits = false; foreign = false }) (framing_of [])
 unfolding framing_of
 framing_none = refl

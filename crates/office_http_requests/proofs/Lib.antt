@@ -1,4 +1,5 @@
 pub mod DayFacts
+pub mod ForeignFacts
 pub mod FramingFacts
 pub mod HeadFacts
 pub mod LengthFacts

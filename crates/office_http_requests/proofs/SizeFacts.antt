@@ -13,7 +13,7 @@ use Rattle.office_http_requests.specs.Routes.{route_of}
 use Rattle.office_http_requests.specs.declared.routes.Route.{Route}
 use Rattle.office_http_requests.specs.declared.routes.Route.TheVariants as route
 use Rattle.office_http_requests.specs.declared.reply.Refusal.{Refusal}
-use Rattle.office_http_requests.specs.declared.reply.Refusal.TheVariants.{NoMessage, NoRoute, OnlyGet, OnlyPost}
+use Rattle.office_http_requests.specs.declared.reply.Refusal.TheVariants.{NoMessage, NoRoute, OnlyGet, OnlyPost, OtherOrigin}
 use Rattle.office_http_requests.specs.declared.request.Stated.{Stated}
 use Rattle.office_http_requests.specs.declared.request.Stated.TheVariants.{Absent, Bad, TooLong, Exactly}
 use Rattle.office_http_requests.specs.declared.request.Framing.{Framing}
@@ -23,7 +23,7 @@ use Rattle.office_http_requests.specs.declared.request.Page.{Page}
 use Rattle.office_http_requests.specs.declared.request.Page.TheVariants.{Status, Testing, Excuses, Update, Waiting, Runs, Kept, Bag, Why, Order, Hints, Unstable, Propose, ProposeFor}
 use Rattle.office_http_requests.specs.declared.request.Asked.{Asked}
 use Rattle.office_http_requests.specs.declared.request.Asked.TheVariants.{Refused, Tell}
-use Rattle.office_http_requests.specs.Asked.{Line, are_digits, number_stated, stated, values_named, framing_of, posted_length, posted_by, post_asked, tell_asked, asked_at, asked_by, asked_of, bag_by, letter_by, numbered_asked, path_of, plain_number, sender_place, slash_at, body_size}
+use Rattle.office_http_requests.specs.Asked.{Line, are_digits, number_stated, stated, values_named, framing_of, posted_length, posted_by, post_framed, post_asked, tell_asked, asked_at, asked_by, asked_of, bag_by, letter_by, numbered_asked, path_of, plain_number, sender_place, slash_at, body_size}
 use Rattle.office_http_requests.specs.Request.{body_room}
 
 abbrev stated_size : Stated → ℕ
@@ -68,10 +68,14 @@ if_fits : (b : Bool) (a : Asked) (r : Refusal) → body_size a ≤ body_room →
 if_fits true a r h = h
 if_fits false a r h = omega arith
 
+else_fits : (b : Bool) (a : Asked) (r : Refusal) → body_size a ≤ body_room → body_size (cond b (Refused r) a) ≤ body_room
+else_fits true a r h = omega arith
+else_fits false a r h = h
+
 post_fits : (action : Action) (method : List ℕ) (minor : ℕ) (framing : Framing) → stated_size framing.length ≤ body_room → body_size (post_asked action method minor framing) ≤ body_room
 post_fits action method minor framing h =
-    if_fits (bytes_eq method (codes "POST")) (posted_by action (minor == 1 && framing.waits) (posted_length action framing.length framing.coded)) OnlyPost
-    (length_fits action framing.length framing.coded (minor == 1 && framing.waits) h)
+    if_fits (bytes_eq method (codes "POST")) (cond framing.foreign (Refused OtherOrigin) (post_framed action minor framing)) OnlyPost
+    (else_fits framing.foreign (post_framed action minor framing) OtherOrigin (length_fits action framing.length framing.coded (minor == 1 && framing.waits) h))
 
 tell_fits : (page : Page) (method : List ℕ) → body_size (tell_asked page method) ≤ body_room
 tell_fits page method = if_fits (bytes_eq method (codes "GET")) (Tell page) OnlyGet (omega arith)

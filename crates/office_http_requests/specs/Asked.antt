@@ -1,5 +1,5 @@
 -- What a request asks for, by its head.
-use Rattle.std.specs.Prelude.{ℕ, ◌^◌, Bool, true, false, ◌&&◌, ◌==◌, nat_le, nat_lt, if◌then◌else◌, List, [], ◌∷◌, drop, take, length, ◌+◌, map, codes, Option, Some, None, Result, Ok, Err, unwrap_or}
+use Rattle.std.specs.Prelude.{ℕ, ◌^◌, Bool, true, false, not, ◌&&◌, ◌||◌, ◌==◌, nat_le, nat_lt, if◌then◌else◌, List, [], ◌∷◌, drop, take, length, ◌+◌, map, codes, Option, Some, None, Result, Ok, Err, unwrap_or}
 use Rattle.std.specs.List.{list_all, list_any, before_first, position}
 use Rattle.std.specs.Option.{option_map, option_map_or}
 use Rattle.std.specs.Char.{is_ascii_digit}
@@ -18,7 +18,7 @@ use Rattle.office_http_requests.specs.Routes.{route_in, route_of}
 use Rattle.office_http_requests.specs.declared.routes.Route.{Route}
 use Rattle.office_http_requests.specs.declared.routes.Route.TheVariants as route
 use Rattle.office_http_requests.specs.declared.reply.Refusal.{Refusal}
-use Rattle.office_http_requests.specs.declared.reply.Refusal.TheVariants.{BadRequest, NoRoute, NoMessage, OnlyGet, OnlyPost, LengthRequired}
+use Rattle.office_http_requests.specs.declared.reply.Refusal.TheVariants.{BadRequest, NoRoute, NoMessage, OnlyGet, OnlyPost, LengthRequired, OtherOrigin}
 use Rattle.office_http_requests.specs.declared.reply.Refusal.TheVariants as refusal
 use Rattle.office_http_requests.specs.declared.request.Stated.{Stated}
 use Rattle.office_http_requests.specs.declared.request.Stated.TheVariants.{Absent, Bad, TooLong, Exactly}
@@ -67,12 +67,23 @@ is_there (value ∷ values) = true
 abbrev pub is_continue : List ℕ → Bool
 is_continue value = str_eq_ignore_ascii_case value (codes "100-continue")
 
--- what the fields say of the body
+-- A page of another site sends this in Sec-Fetch-Site; the other two values are what a user asks for by hand, and what a
+-- page of the office's own asks for (Fetch Metadata Request Headers, section 2.3).
+abbrev pub is_foreign_site : List ℕ → Bool
+is_foreign_site value = not (bytes_eq value (codes "none")) && not (bytes_eq value (codes "same-origin"))
+
+-- A page in a browser sends the request: so a field Origin says, whatever its value (Fetch, section 3.2), or
+-- Sec-Fetch-Site. No sender of mail writes either; that it is refused is this office's to decide.
+abbrev pub is_foreign : List Line → Bool
+is_foreign lines = is_there (values_named (codes "origin") lines) || list_any is_foreign_site (values_named (codes "sec-fetch-site") lines)
+
+-- what the fields say of the body, and of the page that sends it
 unfoldable pub framing_of : List Line → Framing
 framing_of lines = record {
   length = stated (values_named (codes "content-length") lines);
   coded = is_there (values_named (codes "transfer-encoding") lines);
   waits = list_any is_continue (values_named (codes "expect") lines);
+  foreign = is_foreign lines;
 }
 
 -- the same with one more value, and with one more field: no public contract cites these
@@ -88,11 +99,16 @@ length_with stated line = if str_eq_ignore_ascii_case line.0 (codes "content-len
 abbrev pub waits_with : Bool → Line → Bool
 waits_with waits line = if str_eq_ignore_ascii_case line.0 (codes "expect") && is_continue line.1 then true else waits
 
+abbrev pub foreign_with : Bool → Line → Bool
+foreign_with foreign line =
+    if str_eq_ignore_ascii_case line.0 (codes "origin") then true else (if str_eq_ignore_ascii_case line.0 (codes "sec-fetch-site") && is_foreign_site line.1 then true else foreign)
+
 abbrev pub with_field : Framing → Line → Framing
 with_field framing line = record {
   length = length_with framing.length line;
   coded = if str_eq_ignore_ascii_case line.0 (codes "transfer-encoding") then true else framing.coded;
   waits = waits_with framing.waits line;
+  foreign = foreign_with framing.foreign line;
 }
 
 -- the target up to its query
@@ -129,10 +145,14 @@ abbrev pub posted_by : Action → Bool → Result ℕ Refusal → Asked
 posted_by action waits (Ok n) = Post (record { action = action; length = n; waits = waits })
 posted_by action waits (Err refusal) = Refused refusal
 
+-- a POST, by what the fields say of the body
+abbrev pub post_framed : Action → ℕ → Framing → Asked
+post_framed action minor framing = posted_by action (minor == 1 && framing.waits) (posted_length action framing.length framing.coded)
+
 -- on a route that takes POST, and on one that takes GET
 abbrev pub post_asked : Action → List ℕ → ℕ → Framing → Asked
 post_asked action method minor framing =
-    if bytes_eq method (codes "POST") then posted_by action (minor == 1 && framing.waits) (posted_length action framing.length framing.coded) else Refused OnlyPost
+    if bytes_eq method (codes "POST") then (if framing.foreign then Refused OtherOrigin else post_framed action minor framing) else Refused OnlyPost
 
 abbrev pub tell_asked : Page → List ℕ → Asked
 tell_asked page method = if bytes_eq method (codes "GET") then Tell page else Refused OnlyGet

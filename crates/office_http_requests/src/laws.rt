@@ -1,12 +1,18 @@
 //! What is true of every request.
-ghost use Rattle.std.specs.Prelude.{◌≡◌, ◌≢◌, ◌++◌, List, ℕ, codes, map};
+ghost use Rattle.std.specs.Prelude.{◌≡◌, ◌≢◌, ◌++◌, true, false, if◌then◌else◌, List, ℕ, codes, map};
+ghost use Rattle.std.specs.Str.{bytes_eq};
 ghost use Rattle.httparse.specs.Grammar.{RequestHead};
 ghost use Rattle.httparse.specs.Spans.{name_and_value};
 ghost use Rattle.office_mail.specs.Lists.{Lists};
-ghost use Rattle.office_http_requests.specs.Asked.{asked_by_table, asked_of, framing_of, path_of, post_asked, tell_asked};
+ghost use Rattle.office_http_requests.specs.Asked.{asked_by_table, asked_of, framing_of, path_of, post_asked, post_framed, tell_asked};
 ghost use Rattle.office_http_requests.specs.Routes.{IsBeside, new_fronts, new_paths, six_routes, ten_routes, twelve_routes};
+ghost use Rattle.office_http_requests.specs.declared.reply.Refusal.TheVariants.{OnlyPost};
+ghost use Rattle.office_http_requests.specs.declared.request.Action.{Action};
 ghost use Rattle.office_http_requests.specs.declared.request.Action.TheVariants.{Look, Try};
+ghost use Rattle.office_http_requests.specs.declared.request.Asked.TheVariants.{Post, Refused};
+ghost use Rattle.office_http_requests.specs.declared.request.Framing.{Framing};
 ghost use Rattle.office_http_requests.specs.declared.request.Page.TheVariants.{Waiting, Runs, Kept, Hints, Unstable, Propose};
+ghost use Rattle.office_http_requests.specs.declared.request.Posted.{Posted};
 
 /// The routes that came behind the first six leave what the other paths ask for.
 pub fn old_requests_stay()
@@ -29,4 +35,11 @@ pub fn old_requests_stay()
     // There a POST asks for a trial of hints, or how a delivery would be answered.
     ensures hints { (setup : Lists) (head : RequestHead) → path_of head.target ≡ codes "/try" → asked_of setup head ≡ post_asked Try head.method head.minor (framing_of (map name_and_value head.fields)) }
     ensures looks { (setup : Lists) (head : RequestHead) → path_of head.target ≡ codes "/lint" → asked_of setup head ≡ post_asked Look head.method head.minor (framing_of (map name_and_value head.fields)) }
+    // And so does the refusal of what a page in a browser posts: without its fields a POST asks for what its body's do.
+    ensures unforeign { (action : Action) (method : List ℕ) (minor : ℕ) (framing : Framing) → framing.foreign ≡ false → post_asked action method minor framing ≡ (if bytes_eq method (codes "POST") then post_framed action minor framing else Refused OnlyPost) }
+{}
+
+/// What a page in a browser posts is never done, whatever the path.
+pub fn pages_post_nothing()
+    ensures { (setup : Lists) (head : RequestHead) (p : Posted) → (framing_of (map name_and_value head.fields)).foreign ≡ true → asked_of setup head ≢ Post p }
 {}

@@ -27,6 +27,8 @@ pub enum Refusal {
     NoSource,
     /// The text is a message of another sender than the path names.
     OtherSender,
+    /// A page in a browser sends the POST.
+    OtherOrigin,
     /// The path takes GET alone.
     OnlyGet,
     /// The path takes POST alone.
@@ -51,6 +53,7 @@ impl Refusal {
             Refusal::NoMessage => "NoMessage",
             Refusal::NoSource => "NoSource",
             Refusal::OtherSender => "OtherSender",
+            Refusal::OtherOrigin => "OtherOrigin",
             Refusal::OnlyGet => "MethodNotAllowed",
             Refusal::OnlyPost => "MethodNotAllowed",
             Refusal::LengthRequired => "LengthRequired",
@@ -72,6 +75,7 @@ impl Refusal {
             Refusal::NoMessage => StatusCode::NOT_FOUND,
             Refusal::NoSource => StatusCode::NOT_FOUND,
             Refusal::OtherSender => StatusCode::FORBIDDEN,
+            Refusal::OtherOrigin => StatusCode::FORBIDDEN,
             Refusal::OnlyGet => StatusCode::METHOD_NOT_ALLOWED,
             Refusal::OnlyPost => StatusCode::METHOD_NOT_ALLOWED,
             Refusal::LengthRequired => StatusCode::LENGTH_REQUIRED,

@@ -5,7 +5,7 @@ ghost use Rattle.std.specs.List.{list_all, position, before_first};
 ghost use Rattle.std.specs.Str.{str_eq_ignore_ascii_case, bytes_eq};
 ghost use Rattle.httparse.specs.Grammar.{RequestHead};
 ghost use Rattle.httparse.specs.Spans.{IsHeaderWithin, IsRequestWithin, IsRequestAt, header_bytes};
-ghost use Rattle.office_http_requests.specs.Asked.{are_digits, number_under, number_stated, with_value, length_with, waits_with, with_field, framing_of, is_query, path_of, has_leading_zero, number_or_zero, plain_number, absent_length, posted_length, post_asked, tell_asked, asked_at, asked_by, asked_of, is_head_method};
+ghost use Rattle.office_http_requests.specs.Asked.{are_digits, number_under, number_stated, with_value, length_with, waits_with, is_foreign_site, foreign_with, with_field, framing_of, is_query, path_of, has_leading_zero, number_or_zero, plain_number, absent_length, posted_length, post_asked, tell_asked, asked_at, asked_by, asked_of, is_head_method};
 ghost use Rattle.office_http_requests.specs.Routes.{office_routes, route_of};
 ghost use Rattle.office_http_requests.specs.Request.{field_room};
 
@@ -35,7 +35,8 @@ pub enum Stated {
     Exactly(u32),
 }
 
-/// What the fields of a head say of the body (RFC 9110, sections 8.6 and 10.1.1; RFC 9112, section 6.1).
+/// What the fields of a head say of the body (RFC 9110, sections 8.6 and 10.1.1; RFC 9112, section 6.1), and of the page
+/// that sends it (Fetch, section 3.2; Fetch Metadata Request Headers, section 2.3).
 #[derive(Clone, Copy, Debug, PartialEq, Eq)]
 pub struct Framing {
     pub length: Stated,
@@ -43,6 +44,8 @@ pub struct Framing {
     pub coded: bool,
     /// The client waits for `100 Continue`.
     pub waits: bool,
+    /// A page in a browser sends it.
+    pub foreign: bool,
 }
 
 /// What a POST is for.
@@ -203,6 +206,26 @@ fn waits_with(waits: bool, name: &[u8], value: &[u8]) -> bool
     }
 }
 
+/// Whether a value of Sec-Fetch-Site names another site.
+fn is_foreign_site(value: &[u8]) -> bool
+    ensures { result ≡ is_foreign_site value.now }
+{
+    value != b"none".as_slice() && value != b"same-origin".as_slice()
+}
+
+/// Whether a page in a browser sends the request, where one more field stands there.
+fn foreign_with(foreign: bool, name: &[u8], value: &[u8]) -> bool
+    ensures { result ≡ foreign_with foreign (name.now, value.now) }
+{
+    if is_word(name, b"origin") {
+        true
+    } else if is_word(name, b"sec-fetch-site") && is_foreign_site(value) {
+        true
+    } else {
+        foreign
+    }
+}
+
 /// What is said where one more field stands there.
 fn with_field(framing: Framing, name: &[u8], value: &[u8]) -> Framing
     ensures { result ≡ with_field framing (name.now, value.now) }
@@ -211,6 +234,7 @@ fn with_field(framing: Framing, name: &[u8], value: &[u8]) -> Framing
         length: length_with(framing.length, name, value),
         coded: coded_with(framing.coded, name),
         waits: waits_with(framing.waits, name, value),
+        foreign: foreign_with(framing.foreign, name, value),
     }
 }
 
@@ -223,6 +247,7 @@ fn framing_of(seen: &[u8], headers: &[HeaderSpan]) -> Framing
         length: Stated::Absent,
         coded: false,
         waits: false,
+        foreign: false,
     };
     for header in headers {
         framing = with_field(framing, header.name.of(seen), header.value.of(seen));
@@ -336,12 +361,15 @@ fn posted_length(action: Action, length: Stated, coded: bool) -> Result<u32, Ref
     }
 }
 
-/// What is asked for on a route that takes POST.
+/// What is asked for on a route that takes POST. A page in a browser may ask for nothing there.
 pub(crate) fn post_asked(action: Action, method: &[u8], minor: u8, framing: Framing) -> Asked
     ensures { result ≡ post_asked action method.now minor framing }
 {
     if method != b"POST".as_slice() {
         return Asked::Refused(Refusal::OnlyPost);
+    }
+    if framing.foreign {
+        return Asked::Refused(Refusal::OtherOrigin);
     }
     match posted_length(action, framing.length, framing.coded) {
         Ok(length) => Asked::Post(Posted {

@@ -34,6 +34,9 @@ pub enum Route {
     ProposeFor,
 }
 
+/// A table of routes.
+pub type Routes = Router<Route>;
+
 /// Puts the routes of mail and of what runs left into an empty table.
 fn insert_first(router: &mut Router<Route>) -> Result<(), InsertError>
     requires { router.old ≡ [] }

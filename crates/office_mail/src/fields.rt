@@ -6,7 +6,7 @@ ghost use Rattle.office_mail.specs.Fields.{required, has_fields, value_in, value
 ghost use Rattle.office_mail_setup.specs.Steps.{given};
 ghost use Rattle.office_mail_setup.specs.Values.{number_in, days_in, day_in, package_in, version_in, urgency_in, severity_in};
 
-use crate::message::MailFault;
+use crate::message::{MAX_NUMBER, MailFault};
 use deb_control::{Paragraph, Text, is_package_name};
 use deb_version::{Version, VersionFault};
 use jiff_core::civil::Date;
@@ -41,7 +41,7 @@ pub fn number(paragraph: &Paragraph<'_>, field: Field) -> Result<u32, MailFault>
     ensures { Gives result (value_in (number_in 1 999_999_999) paragraph.now field) }
 {
     let text = required(paragraph, field)?;
-    match values::number_in(1, 999_999_999, text) {
+    match values::number_in(1, MAX_NUMBER, text) {
         Some(number) => Ok(number),
         None => Err(MailFault::BadValue(field)),
     }

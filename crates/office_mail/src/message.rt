@@ -9,6 +9,9 @@ use std::alloc::{AllocError, AllocFailed};
 use testing_rules_items::Item;
 use thiserror::Error;
 
+/// The greatest number of a message, and so of a run.
+pub const MAX_NUMBER: u32 = 999_999_999;
+
 /// Why a text is no message. The first that applies is given.
 #[derive(Clone, Copy, Debug, PartialEq, Eq, Error)]
 pub enum MailFault {

@@ -14,7 +14,7 @@ ghost use Rattle.office_mail_setup.specs.Steps.{each_of, whole, needs};
 
 use crate::bodies::body_of;
 use crate::fields::{has_fields, required};
-use crate::message::{MailFault, Message};
+use crate::message::{MAX_NUMBER, MailFault, Message};
 use deb_control::{Paragraph, ParagraphFault, Text};
 use office_mail_setup::values::number_in;
 use office_mail_setup::{Field, Kind, Role, Setup, all_paragraphs};
@@ -121,7 +121,7 @@ fn message_of(
     let Some((sender, role)) = sender_named(setup, from) else {
         return Err(MailFault::UnknownSender);
     };
-    let Some(number) = number_in(1, 999_999_999, number) else {
+    let Some(number) = number_in(1, MAX_NUMBER, number) else {
         return Err(MailFault::BadNumber);
     };
     let Some(kind) = kind else {

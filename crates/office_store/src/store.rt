@@ -49,7 +49,8 @@ fn remedy(error: &sqlite::Error) -> &'static str {
     match code {
         ErrorCode::CannotOpen =>
             "see that it is a plain file, and that the program may read and write it and its folder",
-        ErrorCode::DatabaseBusy => "end the program that has it open",
+        ErrorCode::DatabaseBusy =>
+            "end the program that has it open, or ask a service with office-ask",
         ErrorCode::DiskFull => "make room on the disk, and start again",
         ErrorCode::SystemIoFailure | ErrorCode::Closed => "see to the disk, and start again",
         ErrorCode::OutOfMemory => "give the program more memory",

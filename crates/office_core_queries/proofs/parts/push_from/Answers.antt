@@ -4,10 +4,10 @@ use Rattle.office_store_keeper.specs.Content.{Content}
 use Rattle.office_core_queries.proofs.PartFacts.{part_at, part_behind, part_past, zero_free}
 use Rattle.office_core_queries.proofs.parts.push_from.Goals as goal
 
-pub returns-then-from-gt-LAST-clause-part : goal.returns-then-from-gt-LAST-clause-part
-returns-then-from-gt-LAST-clause-part g c = λ h none.
+pub returns-then-from-gt-MAX_NUMBER-clause-part : goal.returns-then-from-gt-MAX_NUMBER-clause-part
+returns-then-from-gt-MAX_NUMBER-clause-part g c = λ h none.
     let kept = (g.K.Keeper.content c.args.office.now).kept in
-    none ∙ sym (part_past kept c.args.sender c.args.from (omega (arith, c.if-from-gt-LAST.true)))
+    none ∙ sym (part_past kept c.args.sender c.args.from (omega (arith, c.if-from-gt-MAX_NUMBER.true)))
 
 pub returns-clause-part : goal.returns-clause-part
 returns-clause-part g c = λ h none.

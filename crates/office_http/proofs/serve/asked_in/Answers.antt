@@ -7,5 +7,5 @@ use Rattle.office_http.proofs.serve.asked_in.Goals as goal
 
 pub returns-in-Ok-asked_of-clause-fits : goal.returns-in-Ok-asked_of-clause-fits
 returns-in-Ok-asked_of-clause-fits c =
-    let h = c.requires in
+    let h = c.requires.head in
     subst (λ (a : Asked). body_size a ≤ body_room) (sym (c.in-Ok-asked_of.ensures h.head h.parts)) (body_fits c.args.setup.now h.head)

@@ -1,15 +1,17 @@
+use Rattle.std.proofs.Common.{[], tt, arith}
+use Rattle.std.proofs.KnownBytes.{Consumes-nil}
+use Rattle.office_http_requests.specs.declared.reply.Refusal.TheVariants as refusal
 use Rattle.office_core.specs.Preserves.{StoreRefused}
 use Rattle.office_core_facts.specs.State.{state_of}
-use Rattle.office_http.proofs.ConnectionFacts.{grows_connection}
-use Rattle.office_core_replay.proofs.StandFacts.{stand_after}
+use Rattle.office_http.proofs.ServeFacts.{unread_ok, unread_err}
 use Rattle.office_http.proofs.serve.serve_one.Goals as goal
 
-pub returns-clause-runs : goal.returns-clause-runs
-returns-clause-runs g c =
-    let keeper = g.K.Keeper in
-    let s0 = c.args.office.now in
-    let s1 = c.serve_connection.new.office in
-    let left = g.R.Feed.left in
-    let written = g.W.Sink.written in
-    let e = c.serve_connection.ensures in
-    λ h. stand_after keeper s0 s1 e.carries h (grows_connection (state_of keeper s0) (state_of keeper s1) (left c.args.reader.now) (left c.serve_connection.new.reader) (written c.args.writer.now) (written c.serve_connection.new.writer) c.serve_connection.result (StoreRefused keeper s0 s1) (e.ok h) (e.err h))
+pub returns-clause-ok : goal.returns-clause-ok
+returns-clause-ok g c =
+    let left = g.R.Feed.left c.args.reader.now in
+    λ h. unread_ok (StoreRefused g.K.Keeper c.args.office.now c.args.office.now) (state_of g.K.Keeper c.args.office.now) left left (g.W.Sink.written c.args.writer.now) (g.W.Sink.written c.refuse.new.writer) [] refusal.NoMemory c.refuse.result (Consumes-nil left) (omega arith) tt c.refuse.ensures.code c.refuse.ensures.ok
+
+pub returns-clause-err : goal.returns-clause-err
+returns-clause-err g c =
+    let left = g.R.Feed.left c.args.reader.now in
+    λ h. unread_err (StoreRefused g.K.Keeper c.args.office.now c.args.office.now) (state_of g.K.Keeper c.args.office.now) left left (g.W.Sink.written c.args.writer.now) (g.W.Sink.written c.refuse.new.writer) [] refusal.NoMemory c.refuse.result (Consumes-nil left) (omega arith) tt c.refuse.ensures.err

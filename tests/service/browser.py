@@ -1,0 +1,170 @@
+#!/usr/bin/env python3
+"""What a page in a browser may do to a service: it posts nothing.
+
+  browser.py PROGRAM [PORT]
+
+PROGRAM is the built program, `crates/office/out/office`. The first rows are requests with a browser's fields. If chromium and
+python3-selenium are installed, a page of another site then tries to post by fetch, sendBeacon and a form, also under a
+name that was rebound to 127.0.0.1; else the last line says that this wasn't tried. Run it by the system's Python:
+/usr/bin/python3. Exit status 0 if nothing was kept.
+"""
+import http.client
+import http.server
+import os
+import shutil
+import subprocess
+import sys
+import tempfile
+import threading
+import time
+
+TOP = os.path.join(os.path.dirname(os.path.abspath(__file__)), "..", "..")
+SETUP = os.path.join(TOP, "examples", "setup.conf")
+HINT = "From: rt\nNumber: %d\nKind: hint\nHint: block-all source\n"
+REFUSED = (403, b"refused OtherOrigin\n")
+# The paths that a POST takes, each with a body.
+POSTS = [("/mail", HINT % 1), ("/mail/rt", HINT % 1), ("/lint", HINT % 1), ("/settle", ""), ("/try", "block-all source\n"),
+         ("/try/2025-03-20", "block-all source\n")]
+faults = []
+tried = 0
+
+
+def want(what, due, got):
+    global tried
+    tried += 1
+    if due != got:
+        faults.append("%s: due %r, got %r" % (what, due, got))
+
+
+def ask(port, method, path, body="", fields=()):
+    connection = http.client.HTTPConnection("127.0.0.1", port, timeout=30)
+    connection.putrequest(method, path)
+    for name, value in fields:
+        connection.putheader(name, value)
+    if method == "POST":
+        connection.putheader("Content-Length", str(len(body)))
+    connection.endheaders(body.encode() if body else None)
+    reply = connection.getresponse()
+    answer = reply.status, reply.read()
+    connection.close()
+    return answer
+
+
+def try_fields(port):
+    """Requests with the fields that a browser adds, without a browser."""
+    for path, body in POSTS:
+        for fields in ([("Origin", "http://evil.example")], [("origin", "null")], [("Origin", "")],
+                       [("Sec-Fetch-Site", "cross-site")], [("sec-fetch-site", "same-site")],
+                       [("Sec-Fetch-Site", "none"), ("Sec-Fetch-Site", "cross-site")],
+                       [("Sec-Fetch-Site", "NONE")], [("Origin", "http://127.0.0.1:%d" % port), ("Expect", "100-continue")]):
+            want("POST %s, %s" % (path, fields), REFUSED, ask(port, "POST", path, body, fields))
+    want("GET with Origin", 200, ask(port, "GET", "/status", fields=[("Origin", "http://evil.example")])[0])
+    want("GET /mail with Origin", 405, ask(port, "GET", "/mail", fields=[("Origin", "x")])[0])
+    want("POST /nothing with Origin", 404, ask(port, "POST", "/nothing", "x", [("Origin", "x")])[0])
+    want("kept", b"", ask(port, "GET", "/kept/rt/1")[1].replace(b"refused NoMessage\n", b""))
+    for fields in ([], [("Sec-Fetch-Site", "none")], [("Sec-Fetch-Site", "same-origin")], [("Origins", "x")]):
+        want("POST /lint, %s" % fields, (200, b"held rt 1\n"), ask(port, "POST", "/lint", HINT % 1, fields))
+
+
+PAGE = """<!doctype html><title>page</title><body><script>
+const base = "http://%(host)s:%(port)d";
+const text = number => "From: rt\\nNumber: " + number + "\\nKind: hint\\nHint: block-all source\\n";
+async function attack() {
+  const done = [];
+  try { await fetch(base + "/mail", {method: "POST", mode: "no-cors", body: text(1)}); done.push("fetch"); } catch (e) {}
+  try { await fetch(base + "/mail/rt", {method: "POST", mode: "no-cors", body: text(1)}); } catch (e) {}
+  try { await fetch(base + "/settle", {method: "POST", mode: "no-cors"}); } catch (e) {}
+  navigator.sendBeacon(base + "/mail", text(1));
+  const form = document.createElement("form");
+  form.method = "post"; form.enctype = "text/plain"; form.action = base + "/mail"; form.target = "frame";
+  const field = document.createElement("textarea");
+  field.name = text(1) + "Note: "; field.value = "x";
+  form.append(field);
+  const frame = document.createElement("iframe"); frame.name = "frame";
+  document.body.append(frame, form);
+  form.submit();
+  setTimeout(() => { document.title = "done"; }, 1500);
+}
+attack();
+</script>"""
+
+
+class Pages(http.server.BaseHTTPRequestHandler):
+    """The page of another site, which posts to the host that its path names."""
+    office = 0
+
+    def do_GET(self):
+        body = (PAGE % {"host": self.path.strip("/") or "127.0.0.1", "port": Pages.office}).encode()
+        self.send_response(200)
+        self.send_header("Content-Type", "text/html")
+        self.send_header("Content-Length", str(len(body)))
+        self.end_headers()
+        self.wfile.write(body)
+
+    def log_message(self, *words):
+        pass
+
+
+def try_browser(port):
+    """Chromium opens the page of another site."""
+    from selenium import webdriver
+    from selenium.webdriver.chrome.service import Service
+    Pages.office = port
+    site = http.server.ThreadingHTTPServer(("127.0.0.1", 0), Pages)
+    threading.Thread(target=site.serve_forever, daemon=True).start()
+    options = webdriver.ChromeOptions()
+    options.binary_location = shutil.which("chromium")
+    for word in ("--headless=new", "--no-sandbox", "--disable-gpu", "--disable-dev-shm-usage",
+                 "--host-resolver-rules=MAP evil.example 127.0.0.1, MAP rebound.example 127.0.0.1"):
+        options.add_argument(word)
+    driver = webdriver.Chrome(service=Service(shutil.which("chromedriver")), options=options)
+    try:
+        for host in ("127.0.0.1", "localhost", "rebound.example"):
+            driver.get("http://evil.example:%d/%s" % (site.server_port, host))
+            end = time.monotonic() + 30
+            while driver.title != "done" and time.monotonic() < end:
+                time.sleep(0.1)
+            want("the page that posts to %s" % host, "done", driver.title)
+            want("kept of it", 404, ask(port, "GET", "/kept/rt/1")[0])
+        # under its rebound name a page is of the office's own origin
+        driver.get("http://rebound.example:%d/status" % port)
+        driver.execute_async_script("const end = arguments[0]; fetch('/mail', {method: 'POST', body: "
+                                    "'From: rt\\nNumber: 1\\nKind: hint\\nHint: block-all source\\n'}).then(() => end(1), () => end(0));")
+        want("kept of a rebound page", 404, ask(port, "GET", "/kept/rt/1")[0])
+    finally:
+        driver.quit()
+        site.shutdown()
+
+
+def has_browser():
+    try:
+        import selenium  # noqa: F401
+    except ImportError:
+        return False
+    return bool(shutil.which("chromium") and shutil.which("chromedriver"))
+
+
+def main():
+    program = os.path.abspath(sys.argv[1])
+    port = int(sys.argv[2]) if len(sys.argv) > 2 else 18780
+    with tempfile.TemporaryDirectory() as folder, open(os.path.join(folder, "told"), "wb") as told:
+        service = subprocess.Popen([program, "serve", "--conf", SETUP, "--port", str(port)],
+                                   stdout=subprocess.PIPE, stderr=told)
+        try:
+            service.stdout.readline()
+            try_fields(port)
+            browser = has_browser()
+            if browser:
+                try_browser(port)
+        finally:
+            service.kill()
+            service.wait()
+    for fault in faults:
+        print("FAIL", fault)
+    if not browser:
+        print("not tried: a browser: chromium, chromium-driver or python3-selenium isn't installed")
+    print("%d tried, %d faults" % (tried, len(faults)))
+    sys.exit(1 if faults else 0)
+
+
+main()
