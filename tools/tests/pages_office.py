@@ -116,6 +116,9 @@ BLOCK = """stuck stuck 2-1 uninstallable amd64 greeter
 unstable nothing
 """
 
+BAG = ""
+UNSTABLE = "unstable {finished}\n"
+
 
 def routes(finished: int) -> Mapping[str, str]:
     """What the office answers once so many of the runs are finished."""
@@ -127,6 +130,7 @@ def routes(finished: int) -> Mapping[str, str]:
         found |= {f"/excuses/{run}": EXCUSES[run], f"/update/{run}": UPDATES[run]}
     for source, told in WHY.get(finished, {}).items():
         found[f"/why/{source}"] = f"why {finished} {source}\n{told}"
+    found |= {"/bag/ftp/1": BAG, "/bag/rt/1": BAG, "/unstable": UNSTABLE.format(finished=finished)}
     return found | {f"/kept/{sender}/{number}": text for (sender, number), text in KEPT.items()}
 
 

@@ -4,10 +4,12 @@ import contextlib
 import fcntl
 import math
 import os
+import time
 from typing import Iterator, Sequence
 
 from office_tools.faults import Fault, cause_of
 from office_tools.pages.fetching import fetch, fetch_answers
+from office_tools.pages.kept_mail import read_mail
 from office_tools.pages.offices import FileOffice, NAME, Office, ServiceOffice, StoreOffice
 from office_tools.pages.site import Site
 from office_tools.pages.state import State
@@ -101,6 +103,7 @@ def make(office: Office, folder: str, kept: str, asked: argparse.Namespace) -> N
         newest = fetch(office, state)
         if newest is None:
             return
+        read_mail(office, state, newest.number, time.monotonic() + asked.why_seconds)
         # The pages of a new run are there before sources are asked about, which takes longer.
         site = Site(folder, state, asked.bugs)
         site.build(newest)

@@ -48,6 +48,7 @@ def fetch(office: Office, state: State) -> Optional[Newest]:
         if fetch_testing(office, state, newest.number):
             fetch_hints(office, state)
             fetch_told(office, state, newest.number)
+            fetch_unstable(office, state, newest.number)
             return newest
     raise Fault(f"a run was finished between two questions, {TURNS} times in a row")
 
@@ -144,6 +145,16 @@ def without_age(excuse: Excuse) -> str:
     """What an excuse says but for its age, which changes from day to day."""
     return " ".join([excuse.testing or "-", excuse.unstable, str(excuse.needed),
                      *(reason.text for reason in excuse.reasons)])
+
+
+def fetch_unstable(office: Office, state: State, newest: int) -> None:
+    """Keeps what is in unstable, once a run. What is told behind a later run waits for the next call."""
+    kept = state.unstable()
+    if kept is not None and kept[0] == newest:
+        return
+    told = office.unstable()
+    if told is not None and told.startswith(f"unstable {newest}\n"):
+        state.keep_unstable(newest, told)
 
 
 def sources_to_ask(newest: Newest, whys: Mapping[str, Why]) -> Sequence[str]:

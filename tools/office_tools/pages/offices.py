@@ -4,12 +4,12 @@ import re
 import time
 from typing import Iterator, Mapping, Optional, Protocol, Sequence
 
-from office_tools import program, reports
+from office_tools import bags, program, reports
 from office_tools.faults import Fault, tell
 from office_tools.files import read_bytes
-from office_tools.messages import Kind, kind_of, paragraphs
+from office_tools.messages import Kind, kind_of, label_of, paragraphs
 from office_tools.pages.outcomes import run_of
-from office_tools.service import NO_ROUTE, Service
+from office_tools.service import kept_in, NO_ROUTE, Service
 
 NAME = "office-pages"
 AT_ONCE = 100  # sources about which the program is asked by one command, which opens the store once
@@ -29,6 +29,15 @@ class Office(Protocol):
 
     def testing(self) -> Optional[str]:
         """What is in testing, where it can be had."""
+
+    def unstable(self) -> Optional[str]:
+        """What the next run sees of unstable over all mail that is kept without a gap, where it can be had."""
+
+    def kept_mail(self) -> Optional[Mapping[str, int]]:
+        """Up to which number the mail of each sender is kept without a gap, in the setup's order, if it can be had."""
+
+    def letters(self, sender: str, first: int, last: int) -> Iterator[tuple[int, bytes]]:
+        """The messages of a sender from one number to another, between which none is missing."""
 
     def why(self, sources: Sequence[str], until: float) -> Iterator[tuple[str, str]]:
         """Of each source in turn what the last run says of it. None is asked about after that time (`monotonic`)."""
@@ -62,6 +71,20 @@ class ServiceOffice:
 
     def testing(self) -> Optional[str]:
         return self.service.good_text("/testing")
+
+    def unstable(self) -> Optional[str]:
+        return self.newer("/unstable")
+
+    def kept_mail(self) -> Optional[Mapping[str, int]]:
+        return {sender: kept.unbroken for sender, kept in self.service.kept().items()}
+
+    def letters(self, sender: str, first: int, last: int) -> Iterator[tuple[int, bytes]]:
+        while first <= last:
+            texts = list(bags.messages_in(self.service.bag(sender, first)))
+            if not texts:
+                return
+            yield from ((first + place, text) for place, text in enumerate(texts) if first + place <= last)
+            first += len(texts)
 
     def why(self, sources: Sequence[str], until: float) -> Iterator[tuple[str, str]]:
         for source in sources:
@@ -113,6 +136,7 @@ class StoreOffice:
     def __init__(self, setup: str, store: str) -> None:
         self.options = ["--conf", setup, "--db", store]
         self.wishes: Optional[Mapping[int, str]] = None
+        self.mail: Optional[dict[str, dict[int, bytes]]] = None
 
     def told(self, *words: str) -> str:
         """What a command of the program prints."""
@@ -129,6 +153,22 @@ class StoreOffice:
 
     def testing(self) -> Optional[str]:
         return self.told("report", "testing")
+
+    def unstable(self) -> Optional[str]:
+        return self.told("report", "unstable")
+
+    def kept_mail(self) -> Optional[Mapping[str, int]]:
+        return {sender: kept.unbroken for sender, kept in kept_in(self.told("mail")).items()}
+
+    def letters(self, sender: str, first: int, last: int) -> Iterator[tuple[int, bytes]]:
+        if self.mail is None:
+            self.mail = {}
+            for text in bags.messages_in(program.output(["export", *self.options])):
+                label = label_of(text)
+                if label is not None:
+                    self.mail.setdefault(label.sender, {})[label.number] = text
+        found = self.mail.get(sender, {})
+        return ((number, found[number]) for number in range(first, last + 1) if number in found)
 
     def why(self, sources: Sequence[str], until: float) -> Iterator[tuple[str, str]]:
         for place in range(0, len(sources), AT_ONCE):
@@ -183,6 +223,15 @@ class FileOffice:
 
     def testing(self) -> Optional[str]:
         return self.in_testing
+
+    def unstable(self) -> Optional[str]:
+        return None
+
+    def kept_mail(self) -> Optional[Mapping[str, int]]:
+        return None
+
+    def letters(self, sender: str, first: int, last: int) -> Iterator[tuple[int, bytes]]:
+        return iter(())
 
     def why(self, sources: Sequence[str], until: float) -> Iterator[tuple[str, str]]:
         return iter(())
