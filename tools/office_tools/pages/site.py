@@ -17,7 +17,9 @@ import jinja2
 from office_tools.pages import views
 from office_tools.pages.excuses_json import excuses_json
 from office_tools.pages.fetching import Newest, read_run
+from office_tools.pages.more_pages import more_pages
 from office_tools.pages.outcomes import counted, reason_words
+from office_tools.pages.sections import written
 from office_tools.pages.sentences import OUTCOME_TITLES, REASON_TITLES
 from office_tools.pages.state import State
 from office_tools.pages.told import Line, shortened
@@ -83,6 +85,7 @@ class Site:
         self.beside = os.path.join(folder, ".new")
         shutil.rmtree(self.beside, ignore_errors=True)
         self.written: list[str] = []
+        self.folders: set[str] = set()
 
     def build(self, newest: Newest) -> None:
         """Writes all pages that changed, and takes away those that there is no reason for any more."""
@@ -97,6 +100,7 @@ class Site:
         self.put("hints.html", self.page("hints.html", {
             "run": newest.kept.run, "rows": views.standing_rows(facts, facts.links("source/")), "up": ""}))
         self.put("excuses.json", excuses_json(newest.excuses, newest.update, newest.kept.fetched).encode())
+        self.write_more(facts)
         self.write_lists(facts)
         self.move_all()
 
@@ -105,7 +109,8 @@ class Site:
         facts = dataclasses.replace(self.facts_of(newest), whys=self.state.whys(), hints=self.state.hints(),
                                     proposals=self.state.proposals())
         self.digests_now = dict(self.digests)
-        self.write_sources(facts, names)
+        self.write_sources(facts, facts.waits.touched.intersection(facts.names).union(names))
+        self.write_more(facts)
         self.write_lists(facts)
         self.move_all()
 
@@ -124,10 +129,10 @@ class Site:
                     return
         except FileNotFoundError:
             pass
-        if not self.written:
-            for folder in "source", "run":
-                os.makedirs(os.path.join(self.beside, folder), exist_ok=True)
-                os.makedirs(os.path.join(self.folder, folder), exist_ok=True)
+        for folder in {"", os.path.dirname(path)} - self.folders:
+            os.makedirs(os.path.join(self.beside, folder), exist_ok=True)
+            os.makedirs(os.path.join(self.folder, folder), exist_ok=True)
+            self.folders.add(folder)
         with open(os.path.join(self.beside, path), "wb") as file:
             file.write(data)
         self.written.append(path)
@@ -155,7 +160,7 @@ class Site:
         changed = {path for path, digest in self.digests_now.items() if self.digests.get(path) != digest}
         self.state.keep_digests({path: self.digests_now[path] for path in changed.union(self.written)}, gone)
         self.state.keep_built(self.look)
-        self.digests, self.written = self.digests_now, []
+        self.digests, self.written, self.folders = self.digests_now, [], set()
         shutil.rmtree(self.beside, ignore_errors=True)
 
     def move(self, path: str) -> None:
@@ -223,6 +228,12 @@ class Site:
             self.put(here.link, self.page("testing.html", {
                 "run": facts.newest.kept.run, "rows": some, "list": parts, "number": len(rows), "up": "",
                 "is_known": facts.testing is not None}))
+
+    def write_more(self, facts: views.Facts) -> None:
+        """The pages beside those of excuses, runs and sources."""
+        for page in more_pages(facts, self.state):
+            for path, data in written(self.templates, page):
+                self.put(path, data)
 
     def write_lists(self, facts: views.Facts) -> None:
         """The sources that don't move, all of them and by each reason and outcome, and last the first page."""

@@ -32,8 +32,8 @@ CREATE TABLE proposal (source TEXT PRIMARY KEY, run INTEGER NOT NULL, excuse TEX
 CREATE TABLE hint (number INTEGER PRIMARY KEY, told TEXT) STRICT;
 CREATE TABLE mail_read (sender TEXT PRIMARY KEY, number INTEGER NOT NULL) STRICT, WITHOUT ROWID;
 CREATE TABLE paragraph (package TEXT NOT NULL, architecture TEXT NOT NULL, version TEXT NOT NULL,
-    place INTEGER NOT NULL, source TEXT NOT NULL, source_version TEXT NOT NULL, relation INTEGER NOT NULL, provides TEXT NOT NULL,
-    PRIMARY KEY (package, architecture, version)) STRICT, WITHOUT ROWID;
+    place INTEGER NOT NULL, source TEXT NOT NULL, source_version TEXT NOT NULL, relation INTEGER NOT NULL,
+    provides TEXT NOT NULL, PRIMARY KEY (package, architecture, version)) STRICT, WITHOUT ROWID;
 CREATE INDEX paragraph_relation ON paragraph (relation);
 CREATE TABLE relation (id INTEGER PRIMARY KEY, clauses TEXT NOT NULL) STRICT;
 CREATE TABLE need (name TEXT NOT NULL, relation INTEGER NOT NULL, PRIMARY KEY (name, relation)) STRICT, WITHOUT ROWID;

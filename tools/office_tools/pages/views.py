@@ -3,7 +3,7 @@ import collections
 import datetime
 import functools
 from dataclasses import dataclass
-from typing import Mapping, Optional, Sequence
+from typing import Callable, Mapping, Optional, Sequence
 
 from office_tools import reports
 from office_tools.pages.fetching import HINTS, PROPOSED, hints_named, Newest, sources_in, without_age
@@ -11,12 +11,14 @@ from office_tools.pages.outcomes import NOTHING, outcome_in, outcomes_of, reason
 from office_tools.pages.sentences import breaks, old_enough, outcome_sentence, reason_sentence
 from office_tools.pages.state import Event, Proposal, State, Why
 from office_tools.pages.told import Line, linked, lines_of, Links, Piece, shortened
+from office_tools.pages.waits import Wait, Waits, sources_of, waits_of
 from office_tools.reports import Excuse, Reason, ReasonKind
 
 HINT_LINES: Mapping[ReasonKind, str] = {
     ReasonKind.TOO_YOUNG: "old enough ", ReasonKind.BLOCKED: "blocked ", ReasonKind.REMOVAL: "removal asked "}
 """What the lines begin with that name the hints behind a reason."""
 
+MOST_WAITING = 100  # sources on the page of one that they wait for
 NO_GROUP = "No hint: the office found no group that frees it."
 
 
@@ -38,7 +40,8 @@ class Source:
 
     `unstable` and `age` are empty where it has no excuse, or moved in the newest run. `told` is what keeps it out, and
     what the newest run did with it if that was no move. `lines` are what the office answered about it, the
-    same since run `since`. `last` is its last event. What is told here stays the same from run to run as long as the
+    same since run `since`. `last` is its last event. `waits` are the sources that it waits for, and `waited` the first
+    of the `waiting` ones that wait for it. What is told here stays the same from run to run as long as the
     source stands the same.
     """
 
@@ -52,6 +55,9 @@ class Source:
     proposal: Sequence[str]
     binaries: Sequence[str]
     last: Optional[Event]
+    waits: Sequence[Line] = ()
+    waited: Sequence[Line] = ()
+    waiting: int = 0
 
 
 @dataclass(frozen=True)
@@ -113,6 +119,17 @@ class Facts:
     def dates(self) -> Mapping[int, str]:
         """The day of each run."""
         return {run.number: run.date.isoformat() for run in self.runs}
+
+    @functools.cached_property
+    def waits(self) -> Waits:
+        """What the waiting sources of the newest run wait for."""
+        waiting: dict[str, tuple[Optional[str], str, str]] = {}
+        for name, outcomes in self.outcomes.items():
+            offender = outcomes[-1].offender
+            if outcomes[-1].what is What.WAIT and offender is not None and name in self.excuses:
+                why = why_of(self, self.excuses[name])
+                waiting[name] = (why.told if why else None, offender.package, self.packages.get(offender.package, ""))
+        return waits_of(waiting)
 
     def links(self, folder: str) -> Links:
         """Where names lead. `folder` is the way to the folder of the sources' pages, with a slash at its end."""
@@ -240,7 +257,36 @@ def source_of(facts: Facts, name: str, links: Links) -> Source:
         () if has_moved else told_of(facts, excuse, outcomes, links),
         lines_of(name, why.told, links) if why else (),
         why.since if why else None,
-        proposal_lines(facts, excuse), facts.binaries.get(name, ()), facts.last.get(name))
+        proposal_lines(facts, excuse), facts.binaries.get(name, ()), facts.last.get(name),
+        wait_lines(facts, facts.waits.by_source.get(name, ()), links, lambda wait: wait.other),
+        wait_lines(facts, facts.waits.by_other.get(name, ()), links, lambda wait: wait.source)[:MOST_WAITING],
+        len(sources_of(facts.waits.by_other.get(name, ()))))
+
+
+def wait_lines(facts: Facts, waits: Sequence[Wait], links: Links, named: Callable[[Wait], str]) -> Sequence[Line]:
+    """A line for each source at one end of these, by name: what its package needs, and how it stands."""
+    found: dict[str, list[str]] = {}
+    for wait in waits:
+        found.setdefault(named(wait), []).append(wait.why)
+    return [Line((Piece(name, links.source(name)), Piece(f": {'; '.join(whys)} ({standing_of(facts, name)})"))
+                 if name else (Piece("; ".join(whys)),)) for name, whys in sorted(found.items())]
+
+
+def standing_of(facts: Facts, name: str) -> str:
+    """How it stands with a source, in words that stay from run to run as long as that does."""
+    excuse = facts.excuses.get(name)
+    what = facts.outcomes.get(name, NOTHING)[-1].what
+    if what is What.ACCEPT:
+        return "moved"
+    if what is What.REMOVED:
+        return "removed from testing"
+    if excuse is None:
+        return "unstable has nothing newer" if testing_version(facts, name) else "not in testing"
+    if excuse.is_candidate:
+        return f"{excuse.unstable} waits"
+    return f"{excuse.unstable} doesn't move: " + ", ".join(
+        f"too young until {old_enough(excuse, facts.date)}" if reason.kind is ReasonKind.TOO_YOUNG else reason.text
+        for reason in excuse.reasons)
 
 
 def testing_version(facts: Facts, name: str) -> str:
