@@ -1,9 +1,10 @@
 """All names that lead to a page, of sources and of binary packages: lists by their beginning, and the search's index.
 
 The index is two files, so that each stays small: the sources, and the packages of each source in the same order. They
-are scripts, which a browser also reads from a disk, and are fetched once a reader searches. A name in them is written as the count of characters that it shares with the name
-before it, as one digit of base 36, and the rest. The packages of a source are in its line, separated by blanks; the
-name before the first one is the source's, and a package of the source's own name is left out.
+are scripts, which a browser also reads from a disk, and are fetched once a reader searches. A name in them is written
+as the count of characters that it shares with the name before it, as one digit of base 36, and the rest. The packages
+of a source are in its line, separated by blanks; the name before the first one is the source's, and a package of the
+source's own name is left out.
 """
 from dataclasses import dataclass
 from typing import Iterable, Mapping, Sequence

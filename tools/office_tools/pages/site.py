@@ -235,7 +235,8 @@ class Site:
         values = {"letters": letters.items(), "number": len(found), "up": ""}
         self.put("names.html", self.page("names.html", {**values, "here": "", "rows": (), "list": ()}))
         for letter, some in lists.items():
-            for link, parts, shown in parts_of(f"names-{letter}", row_texts(some, lambda row: row.name, self.rows.name)):
+            rows = row_texts(some, lambda row: row.name, self.rows.name)
+            for link, parts, shown in parts_of(f"names-{letter}", rows):
                 self.put(link, self.page("names.html", {**values, "here": letter, "rows": shown, "list": parts}))
 
     def write_lists(self, facts: views.Facts) -> None:
