@@ -17,7 +17,7 @@ import urllib.parse
 from helpers import EXAMPLES, example, needs_office, office, Serving, SETUP, tool, TOOLS
 from pages_office import EXCUSES, FakeOffice, routes, RUNS, TESTING, UPDATES
 from office_tools import faults
-from office_tools.pages import command, site
+from office_tools.pages import command, parts, site
 
 MANY = 1500  # sources of the test that kills the command
 
@@ -74,7 +74,7 @@ class Pages(unittest.TestCase):
     def row(self, name, source):
         """The cells of a source's row in a list."""
         cells = self.page(name).cells
-        width = {"testing.html": 3}.get(name, 4 if name.startswith("run/") else 5)
+        width = {"testing.html": 3}.get(name, 4 if name.startswith("run/") else 6)
         rows = [cells[place:place + width] for place in range(0, len(cells), width)]
         return next(row for row in rows if row[0] == source)
 
@@ -142,14 +142,14 @@ class AllRuns(Pages):
         self.assertEqual(self.row("excuses.html", "libgreet")[3], "15 of 10 daysenough since 2025-03-15")
         self.assertIn("https://bugs.example.org/?id=1042", self.page("excuses.html").links)
         self.assertIn("https://bugs.example.org/?id=1042", self.page("source/app.html").links)
-        self.assertIn("hint 2: block libgreet", self.row("excuses.html", "libgreet")[4])
+        self.assertIn("hint 2: block libgreet", self.row("excuses.html", "libgreet")[5])
 
     def test_lists_by_reason_and_outcome(self):
         self.make("--url", self.office.url)
         for word, names in {"age": ["app"], "buggy": ["app"], "missingbuild": ["libgreet"], "block": ["libgreet"],
                             "wait": ["stuck"], "no-binaries": [], "remove": [], "refused": []}.items():
-            self.assertEqual(self.page(f"excuses-{word}.html").cells[::5], names, word)
-        self.assertEqual(self.page("excuses.html").cells[::5], ["app", "libgreet", "stuck"])
+            self.assertEqual(self.page(f"excuses-{word}.html").cells[::6], names, word)
+        self.assertEqual(self.page("excuses.html").cells[::6], ["app", "libgreet", "stuck"])
 
     def test_why_has_numbered_lines_and_links(self):
         self.make("--url", self.office.url)
@@ -359,10 +359,10 @@ class AllRuns(Pages):
         self.assertEqual(self.files(), {})
 
     def test_long_lists_have_parts(self):
-        with unittest.mock.patch.object(site, "ROWS", 2):
+        with unittest.mock.patch.object(parts, "MOST_ROWS", 2):
             self.make("--url", self.office.url)
-        self.assertEqual(self.page("excuses.html").cells[::5], ["app", "libgreet"])
-        self.assertEqual(self.page("excuses-2.html").cells[::5], ["stuck"])
+        self.assertEqual(self.page("excuses.html").cells[::6], ["app", "libgreet"])
+        self.assertEqual(self.page("excuses-2.html").cells[::6], ["stuck"])
         self.assert_links()
         self.finish_third()
         self.make("--url", self.office.url)

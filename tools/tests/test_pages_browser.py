@@ -32,7 +32,7 @@ class Script(unittest.TestCase):
         told = subprocess.run([BROWSER, "--headless", "--no-sandbox", "--disable-gpu", "--virtual-time-budget=2000",
                                "--dump-dom", f"file://{self.folder}/tried.html{fragment}"],
                               capture_output=True, text=True, timeout=120, check=True).stdout
-        rows = re.findall(r"<tr([^>]*)><td><a [^>]*>([^<]*)</a>", told)
+        rows = re.findall(r"<tr([^>]*)><td[^>]*><a [^>]*>([^<]*)</a>", told)
         return [name for attributes, name in rows if "hidden" not in attributes], told
 
     def test_a_view_is_kept_in_the_address(self):

@@ -10,35 +10,25 @@ import os
 import re
 import shutil
 from dataclasses import dataclass
-from typing import Any, Callable, Collection, Iterable, Iterator, Mapping, Optional, Sequence, TypeVar
+from typing import Any, Collection, Iterable, Iterator, Mapping, Optional, Sequence
 
 import jinja2
 
-from office_tools.pages import views
+from office_tools.pages import names, views
 from office_tools.pages.excuses_json import excuses_json
 from office_tools.pages.fetching import Newest, read_run
 from office_tools.pages.more_pages import more_pages
 from office_tools.pages.outcomes import counted, reason_words
+from office_tools.pages.parts import parts_of, row_texts
 from office_tools.pages.sections import written
 from office_tools.pages.sentences import OUTCOME_TITLES, REASON_TITLES
 from office_tools.pages.state import State
 from office_tools.pages.told import Line, shortened
 from office_tools.reports import Outcome, Word
 
-ROWS = 5000  # rows of one page: a list that is longer has several
 NEWEST = 20  # runs on the first page
 OFFENDERS = 15  # packages on the first page
-Of = TypeVar("Of")
 HERE = os.path.dirname(os.path.realpath(__file__))
-
-
-@dataclass(frozen=True)
-class Part:
-    """A part of a list in the view of one of them: its page, what it is called, and whether it is that one."""
-
-    link: str
-    title: str
-    is_here: bool
 
 
 @dataclass(frozen=True)
@@ -60,6 +50,15 @@ class Hint:
 
 
 @dataclass(frozen=True)
+class InTesting:
+    """A source in testing: its version, and its packages."""
+
+    name: str
+    version: str
+    binaries: Sequence[str]
+
+
+@dataclass(frozen=True)
 class Moved:
     """A source that moved or waits in a run: its version before and behind."""
 
@@ -78,6 +77,7 @@ class Site:
         self.templates = jinja2.Environment(
             loader=jinja2.FileSystemLoader(os.path.join(HERE, "templates")), autoescape=True, trim_blocks=True,
             lstrip_blocks=True, auto_reload=False, keep_trailing_newline=True, undefined=jinja2.StrictUndefined)
+        self.rows: Any = self.templates.get_template("rows.html").module
         self.look = digest_of([self.bugs, *map(repr, own_files())])
         self.facts: Optional[views.Facts] = None
         self.digests = state.digests()
@@ -97,6 +97,7 @@ class Site:
         self.write_sources(facts, facts.names)
         self.write_runs(facts)
         self.write_testing(facts)
+        self.write_names(facts)
         self.put("hints.html", self.page("hints.html", {
             "run": newest.kept.run, "rows": views.standing_rows(facts, facts.links("source/")), "up": ""}))
         self.put("excuses.json", excuses_json(newest.excuses, newest.update, newest.kept.fetched).encode())
@@ -214,19 +215,19 @@ class Site:
         counts = counted(map(reason_words, read.excuses.excuses))
         values = {**values, "run": run, "hints": hints_of(facts, read), "up": "../",
                   "counts": [(REASON_TITLES[word], count) for word, count in counts.items()]}
-        for parts, rows in parts_of(str(run.number), moved_in(read), lambda row: row.name):
-            here = next(part for part in parts if part.is_here)
-            self.put(f"run/{here.link}", self.page("run.html", {
-                **values, "rows": rows, "list": parts, "is_first": parts[0].is_here}))
+        rows = row_texts(moved_in(read), lambda row: row.name, self.rows.moved)
+        for link, parts, shown in parts_of(str(run.number), rows):
+            self.put(f"run/{link}", self.page("run.html", {
+                **values, "rows": shown, "list": parts, "is_first": parts[0].is_here}))
 
     def write_testing(self, facts: views.Facts) -> None:
         """What is in testing."""
         sources = facts.testing.sources if facts.testing else {}
-        rows = [(name, version, facts.binaries.get(name, ())) for name, version in sources.items()]
-        for parts, some in parts_of("testing", rows, lambda row: row[0]):
-            here = next(part for part in parts if part.is_here)
-            self.put(here.link, self.page("testing.html", {
-                "run": facts.newest.kept.run, "rows": some, "list": parts, "number": len(rows), "up": "",
+        rows = row_texts([InTesting(name, version, facts.binaries.get(name, ())) for name, version in sources.items()],
+                         lambda row: row.name, self.rows.standing)
+        for link, parts, shown in parts_of("testing", rows):
+            self.put(link, self.page("testing.html", {
+                "run": facts.newest.kept.run, "rows": shown, "list": parts, "number": len(rows), "up": "",
                 "is_known": facts.testing is not None}))
 
     def write_more(self, facts: views.Facts) -> None:
@@ -235,9 +236,24 @@ class Site:
             for path, data in written(self.templates, page):
                 self.put(path, data)
 
+    def write_names(self, facts: views.Facts) -> None:
+        """All names of sources and packages: lists by their beginning, and what the search looks through."""
+        found = names.names_of(facts.names, facts.packages)
+        for path, data in names.index_files(facts.names, facts.packages).items():
+            self.put(path, data)
+        lists = names.by_beginning(found)
+        letters = {letter: f"names-{letter}.html" for letter in lists}
+        values = {"letters": letters.items(), "number": len(found), "up": ""}
+        self.put("names.html", self.page("names.html", {**values, "here": "", "rows": (), "list": ()}))
+        for letter, some in lists.items():
+            rows = row_texts(some, lambda row: row.name, self.rows.name)
+            for link, parts, shown in parts_of(f"names-{letter}", rows):
+                self.put(link, self.page("names.html", {**values, "here": letter, "rows": shown, "list": parts}))
+
     def write_lists(self, facts: views.Facts) -> None:
         """The sources that don't move, all of them and by each reason and outcome, and last the first page."""
         rows = views.rows_of(facts)
+        texts = {row.name: row for row in row_texts(rows, lambda row: row.name, self.rows.excuse)}
         run = facts.newest.kept.run
         titles = {**REASON_TITLES, **OUTCOME_TITLES}
         some = {word: [row for row in rows if word in row.words] for word in titles}
@@ -249,9 +265,9 @@ class Site:
                       "Sources that don't move", "number": len(of_word), "lists": counts, "up": "",
                       "here": f"excuses-{word}.html" if word else "excuses.html",
                       "reasons": REASON_TITLES, "outcomes": OUTCOME_TITLES}
-            for parts, shown in parts_of(f"excuses-{word}" if word else "excuses", of_word, lambda row: row.name):
-                here = next(part for part in parts if part.is_here)
-                self.put(here.link, self.page("excuses.html", {**values, "rows": shown, "list": parts}))
+            for link, parts, shown in parts_of(f"excuses-{word}" if word else "excuses",
+                                               [texts[row.name] for row in of_word]):
+                self.put(link, self.page("excuses.html", {**values, "rows": shown, "list": parts}))
         self.write_front(facts, len(rows), counts[1:])
 
     def write_front(self, facts: views.Facts, unmoved: int, counts: Sequence[Count]) -> None:
@@ -262,16 +278,6 @@ class Site:
             "run": run, "unmoved": unmoved, "moved": run.excuses - unmoved, "fetched": facts.newest.kept.fetched,
             "counts": counts, "offenders": offenders[:OFFENDERS], "more_offenders": len(offenders[OFFENDERS:]),
             "runs": facts.runs[:-NEWEST - 1:-1], "up": ""}))
-
-
-def parts_of(name: str, rows: Sequence[Of],
-             named: Callable[[Of], str]) -> Iterator[tuple[Sequence[Part], Sequence[Of]]]:
-    """The parts of a list, with the rows of each, of which there is one at least."""
-    cut = [rows[place:place + ROWS] for place in range(0, len(rows), ROWS)] or [rows]
-    titles = [f"{named(some[0])} to {named(some[-1])}" if some else "" for some in cut]
-    links = [f"{name}.html", *(f"{name}-{number}.html" for number in range(2, len(cut) + 1))]
-    for place, some in enumerate(cut):
-        yield [Part(link, title, other == place) for other, (link, title) in enumerate(zip(links, titles))], some
 
 
 def hints_of(facts: views.Facts, read: Newest) -> Sequence[Hint]:

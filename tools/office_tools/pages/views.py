@@ -11,6 +11,7 @@ from office_tools.pages.outcomes import NOTHING, outcome_in, outcomes_of, reason
 from office_tools.pages.sentences import breaks, old_enough, outcome_sentence, reason_sentence
 from office_tools.pages.state import Event, Proposal, State, Why
 from office_tools.pages.told import Line, linked, lines_of, Links, Piece, shortened
+from office_tools.pages.verdicts import word_of, words_of
 from office_tools.pages.waits import Wait, Waits, sources_of, waits_of
 from office_tools.reports import Excuse, Reason, ReasonKind
 
@@ -71,6 +72,7 @@ class Row:
     needed: int
     day: str
     words: Sequence[str]
+    verdict: str
     told: Sequence[Line]
 
 
@@ -206,9 +208,10 @@ def told_of(facts: Facts, excuse: Optional[Excuse], outcomes: Sequence[SourceOut
 def row_of(facts: Facts, excuse: Excuse, links: Links) -> Row:
     """A source as it stands in a list of those that don't move."""
     outcomes = facts.outcomes.get(excuse.source, NOTHING)
-    words = (*reason_words(excuse), outcomes[-1].what.value)
+    what = outcomes[-1].what
     return Row(excuse.source, excuse.testing or "", excuse.unstable, excuse.age, excuse.needed,
-               old_enough(excuse, facts.date).isoformat(), words, told_of(facts, excuse, outcomes, links))
+               old_enough(excuse, facts.date).isoformat(), words_of(excuse, what),
+               word_of(reason_words(excuse), what), told_of(facts, excuse, outcomes, links))
 
 
 def outcome_line(outcome: SourceOutcome, links: Links) -> Line:
@@ -232,10 +235,10 @@ def change_line(change: reports.Change, links: Links) -> Line:
 
 
 def moved_sentence(change: reports.Change) -> str:
-    """How a source moved, or why it waits."""
+    """How a source moved, or why it waits, behind the word for it."""
     if change.offender is not None:
-        return "waits: its move " + breaks(change.offender)
-    return "moved alone" if change.hint is None else f"moved in the group of easy hint {change.hint}"
+        return "since its move " + breaks(change.offender)
+    return "alone" if change.hint is None else f"in the group of easy hint {change.hint}"
 
 
 def rows_of(facts: Facts) -> Sequence[Row]:

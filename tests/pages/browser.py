@@ -1,0 +1,83 @@
+"""Pages in headless chromium: at two widths, light and dark, with and without JavaScript."""
+import base64
+import itertools
+import os
+
+from selenium import webdriver
+from selenium.webdriver.common.by import By
+from selenium.webdriver.common.keys import Keys
+
+HERE = os.path.dirname(os.path.realpath(__file__))
+WIDTHS = {1280: 900, 390: 844}
+MOST_TABS = 40  # how often the key is pressed: a long table has a link in each row
+
+
+class Browser:
+    """A browser for a `with`. `look` gives the faults of a page, and leaves a picture of it."""
+
+    def __enter__(self):
+        options = webdriver.ChromeOptions()
+        for word in "--headless=new", "--no-sandbox", "--disable-gpu", "--hide-scrollbars", "--disable-dev-shm-usage":
+            options.add_argument(word)
+        options.set_capability("goog:loggingPrefs", {"browser": "ALL"})
+        self.driver = webdriver.Chrome(options=options, service=webdriver.ChromeService("/usr/bin/chromedriver"))
+        self.driver.set_page_load_timeout(120)
+        with open(os.path.join(HERE, "looks.js"), encoding="utf-8") as file:
+            self.looks = file.read()
+        return self
+
+    def __exit__(self, *_):
+        self.driver.quit()
+
+    def command(self, name, **values):
+        return self.driver.execute_cdp_cmd(name, values)
+
+    def set(self, width, scheme, has_script):
+        """From here on pages are opened so."""
+        self.command("Emulation.setDeviceMetricsOverride", width=width, height=WIDTHS[width], deviceScaleFactor=1,
+                     mobile=False)
+        self.command("Emulation.setEmulatedMedia", features=[{"name": "prefers-color-scheme", "value": scheme}])
+        self.command("Emulation.setScriptExecutionDisabled", value=not has_script)
+
+    def open(self, url):
+        self.driver.get_log("browser")
+        self.driver.get(url)
+
+    def faults(self):
+        """What is wrong with the open page, and what the console tells of it."""
+        return [*self.driver.execute_script(self.looks),
+                *(entry["message"] for entry in self.driver.get_log("browser"))]
+
+    def picture(self, path):
+        """The page as a reader sees it first, and what comes below, up to three screens."""
+        width, height = self.driver.execute_script("return [innerWidth, document.documentElement.scrollHeight]")
+        clip = {"x": 0, "y": 0, "width": width, "height": min(height, 3 * WIDTHS.get(width, 900)), "scale": 1}
+        told = self.command("Page.captureScreenshot", clip=clip, captureBeyondViewport=True)
+        with open(path, "wb") as file:
+            file.write(base64.b64decode(told["data"]))
+
+    def tab_faults(self):
+        """The key goes through links and fields in the page's order, and shows where it is."""
+        due = self.driver.execute_script(
+            "return [...document.querySelectorAll('a[href], button, input, select, summary')]"
+            ".filter(element => element.checkVisibility())")
+        body = self.driver.find_element(By.TAG_NAME, "body")
+        for place, element in enumerate(due[:MOST_TABS]):
+            (body if place == 0 else self.driver.switch_to.active_element).send_keys(Keys.TAB)
+            if self.driver.switch_to.active_element != element:
+                return [f"the key leads to {self.driver.switch_to.active_element.text!r} in place of {element.text!r}"]
+            style = self.driver.execute_script("return getComputedStyle(document.activeElement).outlineStyle")
+            if style == "none":
+                return [f"{element.text!r} doesn't show that it has the focus"]
+        return []
+
+    def texts(self, selector):
+        """The texts of elements, as a reader sees them."""
+        return self.driver.execute_script(
+            "return [...document.querySelectorAll(arguments[0])].filter(element => element.checkVisibility())"
+            ".map(element => element.innerText.trim().replace(/\\s+/g, ' '))", selector)
+
+
+def ways():
+    """Each way in which a page is opened."""
+    return itertools.product(WIDTHS, ("light", "dark"), (True, False))
