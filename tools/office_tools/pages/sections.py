@@ -11,6 +11,13 @@ Cell = Sequence[Line]
 
 
 @dataclass(frozen=True)
+class Drawn(Piece):
+    """A piece with a small picture before it, as SVG."""
+
+    drawn: str = ""
+
+
+@dataclass(frozen=True)
 class Column:
     """A column of a table: its title, and whether it has numbers."""
 
