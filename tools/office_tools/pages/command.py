@@ -2,6 +2,7 @@
 import argparse
 import contextlib
 import fcntl
+import hashlib
 import math
 import os
 import time
@@ -10,7 +11,9 @@ from typing import Iterator, Sequence
 from office_tools.faults import Fault, cause_of
 from office_tools.pages.fetching import fetch, fetch_answers
 from office_tools.pages.kept_mail import read_mail
+from office_tools.pages.more_pages import Extras
 from office_tools.pages.offices import FileOffice, NAME, Office, ServiceOffice, StoreOffice
+from office_tools.pages.people import read_people
 from office_tools.pages.site import Site
 from office_tools.pages.state import State
 
@@ -46,6 +49,10 @@ def words_of(words: Sequence[str]) -> argparse.Namespace:
     parser.add_argument("--testing", metavar="FILE", help="with --excuses: what is in testing after that run")
     parser.add_argument("--bugs", metavar="URL", default=BUGS,
                         help="where bugs are found; %%s stands for a bug's number (%(default)s)")
+    parser.add_argument("--maintainers", metavar="FILE",
+                        help="who maintains each source: paragraphs of Sources, or lines SOURCE<TAB>NAME <MAIL>")
+    parser.add_argument("--address", metavar="URL", default="",
+                        help="where the pages are read, for the links and identifiers of feeds")
     parser.add_argument("--state", metavar="FOLDER", help="where fetched reports are kept (FOLDER/.state)")
     parser.add_argument("--why-seconds", metavar="N", type=seconds_of, default=SECONDS,
                         help="how long the office is asked at most why sources don't move (%(default)s)")
@@ -96,6 +103,13 @@ def main(words: Sequence[str]) -> int:
     return 0
 
 
+def extras_of(asked: argparse.Namespace) -> Extras:
+    """The address of the pages, and who maintains what by a file."""
+    address = asked.address if not asked.address or asked.address.endswith("/") else asked.address + "/"
+    people = read_people(asked.maintainers) if asked.maintainers else {}
+    return Extras(address, people, hashlib.blake2b(repr(people).encode(), digest_size=16).hexdigest())
+
+
 def make(office: Office, folder: str, kept: str, asked: argparse.Namespace) -> None:
     """Fetches what is new into the folder of what is kept, and writes the pages that changed."""
     os.makedirs(kept, exist_ok=True)
@@ -105,7 +119,7 @@ def make(office: Office, folder: str, kept: str, asked: argparse.Namespace) -> N
             return
         read_mail(office, state, newest.number, time.monotonic() + asked.why_seconds)
         # The pages of a new run are there before sources are asked about, which takes longer.
-        site = Site(folder, state, asked.bugs)
+        site = Site(folder, state, asked.bugs, extras_of(asked))
         site.build(newest)
         names = fetch_answers(office, state, newest, asked.why_seconds)
         if names:

@@ -17,7 +17,10 @@ import jinja2
 from office_tools.pages import names, views
 from office_tools.pages.excuses_json import excuses_json
 from office_tools.pages.fetching import Newest, read_run
-from office_tools.pages.more_pages import more_pages
+from office_tools.pages.change_pages import Feeds
+from office_tools.pages.day_pages import glance
+from office_tools.pages.kept_mail import KeptMail
+from office_tools.pages.more_pages import Extras, More
 from office_tools.pages.outcomes import counted, reason_words
 from office_tools.pages.parts import parts_of, row_texts
 from office_tools.pages.sections import written
@@ -72,13 +75,13 @@ class Moved:
 class Site:
     """The folder of the pages."""
 
-    def __init__(self, folder: str, state: State, bugs: str) -> None:
-        self.folder, self.state, self.bugs = folder, state, bugs
+    def __init__(self, folder: str, state: State, bugs: str, extras: Extras = Extras()) -> None:
+        self.folder, self.state, self.bugs, self.extras = folder, state, bugs, extras
         self.templates = jinja2.Environment(
             loader=jinja2.FileSystemLoader(os.path.join(HERE, "templates")), autoescape=True, trim_blocks=True,
             lstrip_blocks=True, auto_reload=False, keep_trailing_newline=True, undefined=jinja2.StrictUndefined)
         self.rows: Any = self.templates.get_template("rows.html").module
-        self.look = digest_of([self.bugs, *map(repr, own_files())])
+        self.look = digest_of([self.bugs, self.extras.address, *map(repr, own_files())])
         self.facts: Optional[views.Facts] = None
         self.digests = state.digests()
         self.digests_now: dict[str, str] = {}
@@ -89,7 +92,8 @@ class Site:
 
     def build(self, newest: Newest) -> None:
         """Writes all pages that changed, and takes away those that there is no reason for any more."""
-        if self.state.built() == self.look and os.path.exists(os.path.join(self.folder, "index.html")):
+        is_there = os.path.exists(os.path.join(self.folder, "index.html"))
+        if is_there and self.state.built() == self.look + self.extras.digest:
             return
         facts = self.facts_of(newest)
         self.digests_now = {}
@@ -118,7 +122,8 @@ class Site:
     def facts_of(self, newest: Newest) -> views.Facts:
         """All that is kept, read once."""
         if self.facts is None:
-            self.facts = views.facts_of(self.state, newest, self.bugs)
+            people = {**KeptMail(self.state).people(), **self.extras.people}
+            self.facts = dataclasses.replace(views.facts_of(self.state, newest, self.bugs), people=people)
         return self.facts
 
     def put(self, path: str, data: bytes) -> None:
@@ -160,7 +165,7 @@ class Site:
                 os.unlink(os.path.join(self.folder, path))
         changed = {path for path, digest in self.digests_now.items() if self.digests.get(path) != digest}
         self.state.keep_digests({path: self.digests_now[path] for path in changed.union(self.written)}, gone)
-        self.state.keep_built(self.look)
+        self.state.keep_built(self.look + self.extras.digest)
         self.digests, self.written, self.folders = self.digests_now, [], set()
         shutil.rmtree(self.beside, ignore_errors=True)
 
@@ -180,13 +185,18 @@ class Site:
 
     def write_sources(self, facts: views.Facts, names: Collection[str]) -> None:
         """A page of each of these sources."""
-        links = facts.links("")
+        links, feeds = facts.links(""), Feeds(facts, self.extras.address)
         for name in sorted(names):
             source = views.source_of(facts, name, links)
             path, digest = f"source/{name}.html", digest_of([self.look, repr(source)])
+            if source.has_feed:
+                self.digests_now.setdefault(f"source/{name}.xml", "")
             if not self.is_there(path, digest):
-                history = views.history_of(facts, self.state.events(name))
-                self.put(path, self.page("source.html", {"source": source, "history": history, "up": "../"}))
+                events = self.state.events(name)
+                history = views.history_of(facts, events)
+                self.put(path, self.page("source_more.html", {"source": source, "history": history, "up": "../"}))
+                if source.has_feed:
+                    self.put(f"source/{name}.xml", feeds.of_source(name, events))
             self.digests_now[path] = digest
 
     def write_runs(self, facts: views.Facts) -> None:
@@ -232,9 +242,12 @@ class Site:
 
     def write_more(self, facts: views.Facts) -> None:
         """The pages beside those of excuses, runs and sources."""
-        for page in more_pages(facts, self.state):
+        more = More(facts, self.state, self.extras)
+        for page in more.pages():
             for path, data in written(self.templates, page):
                 self.put(path, data)
+        for path, data in more.files():
+            self.put(path, data)
 
     def write_names(self, facts: views.Facts) -> None:
         """All names of sources and packages: lists by their beginning, and what the search looks through."""
@@ -274,8 +287,9 @@ class Site:
         """The first page."""
         offenders = views.offenders_of(facts, facts.links("source/"))
         run = facts.newest.kept.run
-        self.put("index.html", self.page("front.html", {
-            "run": run, "unmoved": unmoved, "moved": run.excuses - unmoved, "fetched": facts.newest.kept.fetched,
+        self.put("index.html", self.page("front_more.html", {
+            "glance": glance(facts), "run": run, "unmoved": unmoved, "moved": run.excuses - unmoved,
+            "fetched": facts.newest.kept.fetched,
             "counts": counts, "offenders": offenders[:OFFENDERS], "more_offenders": len(offenders[OFFENDERS:]),
             "runs": facts.runs[:-NEWEST - 1:-1], "up": ""}))
 

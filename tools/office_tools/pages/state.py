@@ -192,6 +192,16 @@ class State:
                                           "WHERE source = ? ORDER BY run DESC", (source,))
             return [Event(*parts) for parts in found]
 
+    def events_from(self, run: int) -> Mapping[str, Sequence[Event]]:
+        """The events of each source that has one from this run on, in the order of runs."""
+        found: dict[str, list[Event]] = {}
+        with self.faults():
+            for source, *parts in self.database.execute(
+                    "SELECT source, run, testing, unstable, reasons, outcome FROM event WHERE source IN "
+                    "(SELECT source FROM last WHERE run >= ?) ORDER BY source, run", (run,)):
+                found.setdefault(source, []).append(Event(*parts))
+        return found
+
     def testing(self) -> Optional[tuple[int, str]]:
         """What is in testing after a run, with the run's number."""
         return self.suite("testing")

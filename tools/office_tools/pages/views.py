@@ -2,12 +2,14 @@
 import collections
 import datetime
 import functools
-from dataclasses import dataclass
+from dataclasses import dataclass, field
 from typing import Callable, Mapping, Optional, Sequence
 
 from office_tools import reports
 from office_tools.pages.fetching import HINTS, PROPOSED, hints_named, Newest, sources_in, without_age
+from office_tools.pages.kept_mail import Person
 from office_tools.pages.outcomes import NOTHING, outcome_in, outcomes_of, reason_words, SourceOutcome, What
+from office_tools.pages.people import page_of
 from office_tools.pages.sentences import breaks, old_enough, outcome_sentence, reason_sentence
 from office_tools.pages.state import Event, Proposal, State, Why
 from office_tools.pages.told import Line, linked, lines_of, Links, Piece, shortened
@@ -42,7 +44,8 @@ class Source:
     `unstable` and `age` are empty where it has no excuse, or moved in the newest run. `told` is what keeps it out, and
     what the newest run did with it if that was no move. `lines` are what the office answered about it, the
     same since run `since`. `last` is its last event. `waits` are the sources that it waits for, and `waited` the first
-    of the `waiting` ones that wait for it. What is told here stays the same from run to run as long as the
+    of the `waiting` ones that wait for it. `people` are its maintainer and uploaders. It has a feed unless nothing
+    happened to it since the first run. What is told here stays the same from run to run as long as the
     source stands the same.
     """
 
@@ -59,6 +62,8 @@ class Source:
     waits: Sequence[Line] = ()
     waited: Sequence[Line] = ()
     waiting: int = 0
+    people: Sequence[Piece] = ()
+    has_feed: bool = False
 
 
 @dataclass(frozen=True)
@@ -105,6 +110,7 @@ class Facts:
     excuses: Mapping[str, Excuse]
     binaries: Mapping[str, Sequence[str]]
     packages: Mapping[str, str]
+    people: Mapping[str, Person] = field(default_factory=dict)
 
     @property
     def date(self) -> datetime.date:
@@ -121,6 +127,12 @@ class Facts:
     def dates(self) -> Mapping[int, str]:
         """The day of each run."""
         return {run.number: run.date.isoformat() for run in self.runs}
+
+    @functools.cached_property
+    def unmoved(self) -> frozenset[str]:
+        """The sources with an excuse that didn't move in the newest run."""
+        return frozenset(name for name in self.excuses
+                         if self.outcomes.get(name, NOTHING)[-1].what is not What.ACCEPT)
 
     @functools.cached_property
     def waits(self) -> Waits:
@@ -263,7 +275,20 @@ def source_of(facts: Facts, name: str, links: Links) -> Source:
         proposal_lines(facts, excuse), facts.binaries.get(name, ()), facts.last.get(name),
         wait_lines(facts, facts.waits.by_source.get(name, ()), links, lambda wait: wait.other),
         wait_lines(facts, facts.waits.by_other.get(name, ()), links, lambda wait: wait.source)[:MOST_WAITING],
-        len(sources_of(facts.waits.by_other.get(name, ()))))
+        len(sources_of(facts.waits.by_other.get(name, ()))), people_of(facts, name), has_feed(facts, name))
+
+
+def has_feed(facts: Facts, name: str) -> bool:
+    """Whether a source has a feed: it has an excuse, or something happened to it since the first run."""
+    last = facts.last.get(name)
+    return name in facts.unmoved or (last is not None and last.run > facts.runs[0].number)
+
+
+def people_of(facts: Facts, name: str) -> Sequence[Piece]:
+    """The maintainer and the uploaders of a source; those with sources that don't move have a page."""
+    person = facts.people.get(name)
+    names = (person.maintainer, *person.uploaders) if person else ()
+    return tuple(Piece(one, f"../people/{page_of(one)}.html" if name in facts.unmoved else "") for one in names)
 
 
 def wait_lines(facts: Facts, waits: Sequence[Wait], links: Links, named: Callable[[Wait], str]) -> Sequence[Line]:
