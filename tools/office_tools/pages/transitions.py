@@ -124,7 +124,7 @@ class Reader:
         """The rows of a source in unstable that are built of its version there."""
         found: dict[Key, Optional[Build]] = {}
         for (architecture, package), version in rows.items():
-            build = builds.get((package, architecture, version))
+            build = builds.get((architecture, package, version))
             if build is not None and (build.source, build.source_version) == (source, self.unstable.sources[source]):
                 found[architecture, package] = build
         return found
@@ -152,9 +152,11 @@ class Reader:
         in_unstable: dict[str, list[Build]] = collections.defaultdict(list)
         for build in self.mail.needing({*old, *new}):
             row = (build.version, build.source)
-            if build.source != source and self.testing.rows.get((build.architecture, build.package)) == row:
+            if build.source == source or not needs(build, {*old, *new}):
+                continue
+            if self.testing.rows.get((build.architecture, build.package)) == row:
                 in_testing[build.source].append(build)
-            if build.source != source and self.unstable.rows.get((build.architecture, build.package)) == row:
+            if self.unstable.rows.get((build.architecture, build.package)) == row:
                 in_unstable[build.source].append(build)
         names = {*in_testing, *in_unstable}
         if not any(needs(build, old) for builds in in_testing.values() for build in builds):
