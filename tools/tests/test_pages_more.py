@@ -160,7 +160,7 @@ class Pages(unittest.TestCase):
         self.assertIn("Level 1: app (not built on arm64)", page)
         self.assertIn("Level 2: tool (to rebuild)", page)
         # Rebuilt, to rebuild and not built on each architecture.
-        self.assertEqual(self.words("transition/libfoo.html", "counts"), [
+        self.assertEqual(self.words("transition/libfoo.html", "by"), [
             ["amd64", "1", "0", "1", "0", "0"], ["arm64", "0", "0", "1", "1", "0"]])
 
     def test_a_rebuild_is_seen_without_a_run(self):
@@ -182,6 +182,17 @@ class Pages(unittest.TestCase):
         self.assertEqual([path for path in self.office.asked[asked:] if path.startswith("/bag")],
                          [f"/bag/bd/{len(more)}"])
         self.assertEqual(self.words("transitions.html", "transitions")[0][2:4], ["1 of 2", "level 2: 1"])
+
+    def test_a_rebuild_that_cannot_move(self):
+        """tool is built again of the source version that testing has: a run moves no rebuild alone."""
+        self.office.answers = answers([*BUILDS, *((arch, "tool", "1-1+b1", "tool (1-1)", "libfoo2, app")
+                                                  for arch in ("amd64", "arm64"))],
+                                      UNSTABLE.replace("tool 1-1 tool", "tool 1-1+b1 tool"))
+        self.make()
+        self.assertEqual(self.words("transition/libfoo.html", "users")[1], [
+            "tool", "2", "rebuilt", "rebuilt", "needs the old one",
+            "a rebuild alone doesn&#39;t move: it needs a new source version"])
+        self.assertEqual(self.words("transitions.html", "transitions")[0][2], "0 of 2")
 
     def test_no_transition_where_the_new_package_provides_the_old_one(self):
         self.office.answers = answers([
@@ -208,7 +219,7 @@ class Pages(unittest.TestCase):
 
     def test_missing_builds(self):
         self.make()
-        self.assertEqual(self.words("missing.html", "counts"), [["arm64", "1", "0", "3 days"]])
+        self.assertEqual(self.words("missing.html", "by"), [["arm64", "1", "0", "3 days"]])
         self.assertEqual(self.words("missing.html", "missing"), [
             ["app", "arm64", "1-1", "2-1", "3", "too young"]])
 
@@ -369,7 +380,7 @@ class Parts(unittest.TestCase):
 
     def test_a_bar(self):
         self.assertEqual(plots.bar("3 of 4", (("a", 1), ("b", 2), ("c", 1))),
-                         '<svg class="bar" viewBox="0 0 160 12" role="img" aria-label="3 of 4">'
+                         '<svg class="bar" viewBox="0 0 160 12" role="img" aria-label="3 of 4" preserveAspectRatio="none">'
                          '<rect class="a" x="0" width="40" height="12"/><rect class="b" x="40" width="80" height="12"/>'
                          '<rect class="c" x="120" width="40" height="12"/></svg>')
 

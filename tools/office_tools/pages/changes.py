@@ -63,5 +63,8 @@ def sentence(event: Optional[Event]) -> str:
     """How a source stood, in words."""
     if event is None:
         return "had no excuse"
-    outcome = outcome_sentence(outcome_in(event.outcome))
+    read = outcome_in(event.outcome)
+    if read.what is What.ACCEPT:
+        return f"moved in run {event.run}" + (f" by easy hint {read.hint}" if read.hint is not None else "")
+    outcome = outcome_sentence(read)
     return "; ".join(filter(None, [event.reasons, outcome])) or ("a candidate" if event.unstable else "no excuse")

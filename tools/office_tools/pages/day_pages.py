@@ -45,7 +45,7 @@ def ages_section(facts: views.Facts) -> Section:
     ages = [excuse.age for excuse in facts.newest.excuses.excuses
             if facts.outcomes.get(excuse.source, NOTHING)[-1].what is What.WAIT]
     counts = collections.Counter(max(begin for begin in AGES if begin <= age) for age in ages)
-    titles = [f"{begin} to {end - 1}" for begin, end in zip(AGES, AGES[1:])] + [f"{AGES[-1]} and more"]
+    titles = [f"{begin}–{end - 1}" for begin, end in zip(AGES, AGES[1:])] + [f"{AGES[-1]}+"]
     told = f"{len(ages)} sources wait, of these ages in days." if ages else "No source waits."
     return Section("ages", "Ages of those that wait", (line(told),), plots.columns(
         "Sources that wait, by their age in days", titles, [counts[begin] for begin in AGES]) if ages else "")
@@ -125,7 +125,7 @@ def missing_pages(facts: views.Facts) -> Iterator[SectionPage]:
                Column("Oldest", True))
     sections = (
         Section("counts", "Count by architecture", told, table=(
-            Table("Sources whose version in unstable isn't built", "counts", columns, counts),) if rows else ()),
+            Table("Sources whose version in unstable isn't built", "by", columns, counts),) if rows else ()),
         Section("sources", "All missing builds", table=(Table(
             "Sources and architectures, the oldest first", "missing",
             (Column("Source"), Column("Missing on"), Column("Testing"), Column("Unstable"), Column("Age in days", True),

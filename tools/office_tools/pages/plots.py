@@ -8,8 +8,8 @@ from dataclasses import dataclass
 from html import escape
 from typing import Sequence
 
-WIDTH, HEIGHT = 720, 200  # units of a plot; the page scales it
-LEFT, TOP, BOTTOM = 48, 12, 26  # what stands around its area
+WIDTH, HEIGHT = 480, 200  # units of a plot; the page scales it
+LEFT, TOP, BOTTOM = 44, 16, 26  # what stands around its area
 MOST_POINTS = 120  # days of a plot by day
 MOST_LABELS = 8  # labels below a plot
 
@@ -23,9 +23,9 @@ class Curve:
     values: Sequence[int]
 
 
-def picture(name: str, size: tuple[int, int], parts: Sequence[str], look: str) -> str:
-    """A picture of this name, of a width and a height."""
-    return (f'<svg class="{look}" viewBox="0 0 {size[0]} {size[1]}" role="img" aria-label="{escape(name)}">'
+def picture(name: str, size: tuple[int, int], parts: Sequence[str], look: str, more: str = "") -> str:
+    """A picture of this name, of a width and a height, with further attributes."""
+    return (f'<svg class="{look}" viewBox="0 0 {size[0]} {size[1]}" role="img" aria-label="{escape(name)}"{more}>'
             f'{"".join(parts)}</svg>')
 
 
@@ -43,7 +43,7 @@ def bar(name: str, parts: Sequence[tuple[str, int]]) -> str:
         if share:
             found.append(f'<rect class="{look}" x="{number(place)}" width="{number(width)}" height="12"/>')
         place += width
-    return picture(name, (160, 12), found, "bar")
+    return picture(name, (160, 12), found, "bar", ' preserveAspectRatio="none"')
 
 
 def step_of(greatest: int) -> int:

@@ -86,7 +86,7 @@ def architecture_section(one: Transition) -> Section:
     rows = [(cell(architecture), *(cell(counts[architecture, state]) for state in states))
             for architecture in one.architectures]
     return Section("architectures", "By architecture", table=(
-        Table("Sources by architecture, and what their packages in unstable need", "counts", columns, rows),))
+        Table("Sources by architecture, and what their packages in unstable need", "by", columns, rows),))
 
 
 def left_section(facts: views.Facts, one: Transition, links: Links) -> Section:
@@ -109,6 +109,8 @@ def left_section(facts: views.Facts, one: Transition, links: Links) -> Section:
 
 def left_of(user: User) -> str:
     """What is left of a source, by architecture."""
+    if user.needs_upload:
+        return "needs a new source version"
     by_state: dict[str, list[str]] = collections.defaultdict(list)
     for architecture, state in sorted(user.states.items()):
         if state not in (NEW, NEITHER):
@@ -119,12 +121,14 @@ def left_of(user: User) -> str:
 
 def user_section(facts: views.Facts, one: Transition, links: Links) -> Section:
     """All sources that need the packages, those that are left first."""
+    upload = "a rebuild alone doesn't move: it needs a new source version"
     columns = (Column("Source"), Column("Level", True), *map(Column, one.architectures), Column("In testing"),
                Column("How it stands"))
     rows = [(cell(Piece(user.name, links.source(user.name))), cell(user.level),
              *(cell(WORDS[user.states[architecture]] if architecture in user.states else "-")
                for architecture in one.architectures),
-             cell("done" if user.is_moved else "needs the old one"), cell(views.standing_of(facts, user.name)))
+             cell("done" if user.is_moved else "needs the old one"),
+             cell(upload if user.needs_upload else views.standing_of(facts, user.name)))
             for user in sorted(one.users, key=lambda user: (user.is_done, user.level, user.name))]
     return Section("sources", "All sources", table=(
         Table("Sources that need the old or the new packages", "users", columns, rows),))

@@ -38,18 +38,30 @@ class User:
 
     `level` is 1 if it depends on no other user by these packages, else one more than the greatest of those on which it
     depends. `states` says of each architecture what its packages in unstable need. `is_moved` says whether none of its
-    packages in testing needs an old one.
+    packages in testing needs an old one. It needs an upload if testing has its version already, and packages of it
+    that need an old one: a run moves no rebuild alone.
     """
 
     name: str
     level: int
     states: Mapping[str, str]
     is_moved: bool
+    is_same: bool
+
+    @property
+    def is_built(self) -> bool:
+        """Whether it needs no old package in unstable any more, and is built."""
+        return all(state in (NEW, NEITHER) for state in self.states.values())
+
+    @property
+    def needs_upload(self) -> bool:
+        """Whether its rebuild can't move, since testing has its version already."""
+        return self.is_built and not self.is_moved and self.is_same
 
     @property
     def is_done(self) -> bool:
-        """Whether it needs no old package in unstable any more, and is built."""
-        return all(state in (NEW, NEITHER) for state in self.states.values())
+        """Whether nothing is left to do for it but to move."""
+        return self.is_built and not self.needs_upload
 
 
 @dataclass(frozen=True)
@@ -76,9 +88,10 @@ class Transition:
 
     @property
     def pairs(self) -> Sequence[tuple[str, str]]:
-        """Each old name with the new one that is the same but for numbers, or with nothing."""
+        """Each old name with the new one that is the same but for numbers, or with nothing. One of each are a pair."""
         stems = {stem(name): name for name in self.new}
-        return [(name, stems.get(stem(name), "")) for name in self.old]
+        only = self.new[0] if len(self.old) == len(self.new) == 1 else ""
+        return [(name, stems.get(stem(name), only)) for name in self.old]
 
 
 def stem(name: str) -> str:
@@ -164,7 +177,8 @@ class Reader:
         built = self.built(names)
         levels = levels_of({name: [*in_unstable.get(name, ()), *in_testing.get(name, ())] for name in names})
         found = [User(name, levels[name], self.states(name, in_unstable.get(name, ()), built.get(name, {}), (old, new)),
-                      not any(needs(build, old) for build in in_testing.get(name, ()))) for name in names]
+                      not any(needs(build, old) for build in in_testing.get(name, ())),
+                      self.testing.sources.get(name) == self.unstable.sources.get(name)) for name in names]
         return sorted(found, key=lambda user: (user.level, user.name))
 
     def built(self, names: Collection[str]) -> Mapping[str, Mapping[str, bool]]:
