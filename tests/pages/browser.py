@@ -2,13 +2,16 @@
 import base64
 import itertools
 import os
+import time
 
 from selenium import webdriver
+from selenium.webdriver.chrome.service import Service
 from selenium.webdriver.common.by import By
 from selenium.webdriver.common.keys import Keys
 
 HERE = os.path.dirname(os.path.realpath(__file__))
 WIDTHS = {1280: 900, 390: 844}
+SECONDS = 60  # how long something is waited for
 MOST_TABS = 40  # how often the key is pressed: a long table has a link in each row
 
 
@@ -20,7 +23,7 @@ class Browser:
         for word in "--headless=new", "--no-sandbox", "--disable-gpu", "--hide-scrollbars", "--disable-dev-shm-usage":
             options.add_argument(word)
         options.set_capability("goog:loggingPrefs", {"browser": "ALL"})
-        self.driver = webdriver.Chrome(options=options, service=webdriver.ChromeService("/usr/bin/chromedriver"))
+        self.driver = webdriver.Chrome(options=options, service=Service("/usr/bin/chromedriver"))
         self.driver.set_page_load_timeout(120)
         with open(os.path.join(HERE, "looks.js"), encoding="utf-8") as file:
             self.looks = file.read()
@@ -76,6 +79,23 @@ class Browser:
         return self.driver.execute_script(
             "return [...document.querySelectorAll(arguments[0])].filter(element => element.checkVisibility())"
             ".map(element => element.innerText.trim().replace(/\\s+/g, ' '))", selector)
+
+    def counts(self, selector, inner):
+        """How many elements of a sort are in each element."""
+        return self.driver.execute_script(
+            "return [...document.querySelectorAll(arguments[0])]"
+            ".map(element => element.querySelectorAll(arguments[1]).length)", selector, inner)
+
+    def type(self, selector, text):
+        """Types into a field."""
+        self.driver.find_element(By.CSS_SELECTOR, selector).send_keys(text)
+
+    def wait_for(self, selector):
+        """The texts of elements once there are some, or nothing after a while."""
+        until = time.monotonic() + SECONDS
+        while not self.texts(selector) and time.monotonic() < until:
+            time.sleep(0.1)
+        return self.texts(selector)
 
 
 def ways():

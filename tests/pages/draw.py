@@ -1,4 +1,4 @@
-#!/usr/bin/env python3
+#!/usr/bin/python3
 """Draws the mail of an archive with ten days of changes, the same at each call for the same lists of apt.
 
 usage: draw.py OFFICE FOLDER [LEAVES]
@@ -157,6 +157,7 @@ class Archive:
                     continue
                 name = package.fields["Package"]
                 wanted = ", ".join(filter(None, [package.fields.get("Depends", ""), depends]))
+                wanted = wanted.replace(f"(= {package.fields['Version']})", f"(= {self.versions[source]}{again})")
                 if rename:
                     name = rename[1] if name == rename[0] else name
                     wanted = re.sub(rf"(^|[ ,|]){re.escape(rename[0])}(?=$|[ ,|])(?: \([^)]*\))?",

@@ -1,4 +1,4 @@
-#!/usr/bin/env python3
+#!/usr/bin/python3
 """Makes pages over a drawn office with ten days of changes, and looks at each kind of page in headless chromium.
 
 usage: look.py OFFICE FOLDER [LEAVES]
@@ -91,9 +91,10 @@ def fill(office, folder):
             make_pages(service.url, os.path.join(folder, "html"))
 
 
-def look_at_all(pages, shots, kinds, tally):
+def look_at_all(pages, shots, told, tally):
     """Opens each kind of page in each way."""
     os.makedirs(shots, exist_ok=True)
+    kinds = texts.kinds_of(told, pages)
     with browser.Browser() as seen:
         for width, scheme, has_script in browser.ways():
             seen.set(width, scheme, has_script)
@@ -108,7 +109,8 @@ def look_at_all(pages, shots, kinds, tally):
                 seen.picture(os.path.join(shots, "_".join([
                     name.replace("/", "-").removesuffix(".html"), str(width), scheme, "js" if has_script else "plain"])
                     + ".png"))
-        tally.add("search", texts.search_faults(seen, pages))
+        seen.set(1280, "light", True)
+        tally.add("search", texts.search_faults(seen, told, os.path.realpath(pages)))
 
 
 def look_at_markup(pages, tally):
@@ -129,9 +131,9 @@ def main(office, folder):
         fill(office, folder)
     tally = Tally()
     with Served(office, folder) as service:
-        kinds = texts.kinds_of(texts.Told(service), pages)
+        told = texts.Told(service)
         look_at_markup(pages, tally)
-        look_at_all(pages, os.path.join(folder, "shots"), kinds, tally)
+        look_at_all(pages, os.path.join(folder, "shots"), told, tally)
     print(f"{tally.checks} checks, {tally.faults} faults")
     return 1 if tally.faults else 0
 

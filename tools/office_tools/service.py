@@ -204,15 +204,11 @@ class Service:
         return reports.read_update(self.good_text(path), self.url + path)
 
 
-def kept_in(text: str) -> Mapping[str, Kept]:
-    """What is kept of each sender, as `GET /kept` and `office mail` tell it; nothing where a line has another form."""
-    found = {}
-    for line in text.splitlines():
-        parts = KEPT_LINE.fullmatch(line)
-        if parts is None:
-            return {}
-        found[parts[1]] = Kept(int(parts[2]), int(parts[3] or 0), int(parts[4] or 0))
-    return found
+def kept_in(told: str) -> Mapping[str, Kept]:
+    """What is kept of each sender, as `GET /kept` and `office mail` tell it; nothing where no office tells so."""
+    found = [KEPT_LINE.fullmatch(line) for line in told.splitlines()]
+    return {} if None in found else {parts[1]: Kept(int(parts[2]), int(parts[3] or 0), int(parts[4] or 0))
+                                     for parts in found if parts}
 
 
 def split_url(url: str) -> urllib.parse.SplitResult:

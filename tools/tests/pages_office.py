@@ -102,7 +102,8 @@ WHY = {
 KEPT = {
     ("rt", 2): "From: rt\nNumber: 2\nKind: hint\nHint: block libgreet\n",
     ("rt", 8): "From: rt\nNumber: 8\nKind: hint\nHint: easy stuck/2-1\n",
-    ("rt", 9): "From: rt\nNumber: 9\nKind: hint\nHint: easy libgreet/2.0-1 stuck/2-1\n",
+    ("rt", 9): ("From: rt\nNumber: 9\nKind: hint\nBy: Ada Low <ada@example.org>\nComment: goes\n with app\n"
+                "Hint: easy libgreet/2.0-1 stuck/2-1\n"),
     ("ftp", 2): "From: ftp\nNumber: 2\nKind: upload\nSource: greeter\nVersion: 0.9-2\nUrgency: low\nDay: 2025-03-01\n"}
 
 

@@ -59,6 +59,20 @@ class Script(unittest.TestCase):
         self.assertIn('aria-sort="descending"', told)
         self.assertEqual(self.seen("excuses.html", "", press % "Source" * 2)[0], ["stuck", "libgreet", "app"])
 
+    def test_names_are_found(self):
+        """By a part of a source's name, and by that of a package, which leads to its source."""
+        does = ("const field = document.getElementById('go'); field.value = '%s'; "
+                "field.dispatchEvent(new Event('input', {bubbles: true}));")
+        for text, count, found in (
+                ("greet", "4 names have it.", ["greeter", "libgreet", "libgreet1 of libgreet",
+                                               "libgreet-doc of libgreet"]),
+                ("libgreet-", "1 name has it.", ["libgreet-doc of libgreet"]), ("grater", "No names have it.", [])):
+            _, told = self.seen("excuses.html", "", does % text)
+            self.assertIn(f">{count}</output>", told)
+            shown = re.search('<ul class="found".*?</ul>', told, re.S)[0]
+            self.assertEqual([re.sub("<[^>]*>", "", item) for item in re.findall("<li>.*?</li>", shown)], found)
+        self.assertIn('href="source/libgreet.html"', self.seen("excuses.html", "", does % "libgreet1")[1])
+
     def test_forms_are_shown_by_the_script(self):
         _, told = self.seen("excuses.html")
         self.assertNotRegex(told, r"<form[^>]* hidden")

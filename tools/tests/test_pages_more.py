@@ -380,7 +380,8 @@ class Parts(unittest.TestCase):
 
     def test_a_bar(self):
         self.assertEqual(plots.bar("3 of 4", (("a", 1), ("b", 2), ("c", 1))),
-                         '<svg class="bar" viewBox="0 0 160 12" role="img" aria-label="3 of 4" preserveAspectRatio="none">'
+                         '<svg class="bar" viewBox="0 0 160 12" role="img" aria-label="3 of 4"'
+                         ' preserveAspectRatio="none">'
                          '<rect class="a" x="0" width="40" height="12"/><rect class="b" x="40" width="80" height="12"/>'
                          '<rect class="c" x="120" width="40" height="12"/></svg>')
 

@@ -12,6 +12,7 @@ from office_tools.reports import Excuse, ReasonKind
 
 AGES = (0, 5, 10, 15, 20, 30, 60, 100)  # days at which the columns of ages begin
 DAYS_DRAWN = 21  # days of the plot of those that are old enough soon
+EVERYWHERE = "everywhere"  # where a source is missing that has no package at all
 MOST_NAMES = 40  # names in a row of the calendar
 CURVES = (("waiting", "waiting"), ("candidates", "candidates"), ("moved", "moved"))
 
@@ -110,7 +111,7 @@ def missing_pages(facts: views.Facts) -> Iterator[SectionPage]:
     links = facts.links("source/")
     found = [(reason.architecture, excuse) for excuse in facts.newest.excuses.excuses for reason in excuse.reasons
              if reason.kind is ReasonKind.MISSING and reason.architecture]
-    unbuilt = [("everywhere", excuse) for excuse in facts.newest.excuses.excuses
+    unbuilt = [(EVERYWHERE, excuse) for excuse in facts.newest.excuses.excuses
                if any(reason.kind is ReasonKind.NO_BINARIES for reason in excuse.reasons)]
     found = sorted(found + unbuilt, key=lambda pair: (pair[0], -pair[1].age, pair[1].source))
     by_place: dict[str, list[Excuse]] = collections.defaultdict(list)
@@ -118,7 +119,9 @@ def missing_pages(facts: views.Facts) -> Iterator[SectionPage]:
         by_place[place].append(excuse)
     counts = [(cell(place), cell(len(excuses)), cell(sum(map(is_build_alone, excuses))),
                cell(f"{max(excuse.age for excuse in excuses)} days")) for place, excuses in by_place.items()]
-    rows = [(cell(Piece(excuse.source, links.source(excuse.source))), cell(place), cell(excuse.testing or "-"),
+    rows = [(cell(Piece(excuse.source, links.source(excuse.source))),
+             cell(Piece(place, facts.patterns.logs(excuse.source, "" if place == EVERYWHERE else place))),
+             cell(excuse.testing or "-"),
              cell(excuse.unstable), cell(excuse.age), cell(others_of(excuse))) for place, excuse in found]
     told = () if rows else (line("No build is missing."),)
     columns = (Column("Architecture"), Column("Sources", True), Column("Nothing else keeps out", True),

@@ -7,8 +7,9 @@ from typing import Iterator, Mapping, Optional, Protocol, Sequence
 from office_tools import bags, program, reports
 from office_tools.faults import Fault, tell
 from office_tools.files import read_bytes
-from office_tools.messages import Kind, kind_of, label_of, paragraphs
+from office_tools.messages import Kind, kind_of, Label, label_of, paragraphs
 from office_tools.pages.outcomes import run_of
+from office_tools.pages.state import SentHint
 from office_tools.service import kept_in, NO_ROUTE, Service
 
 NAME = "office-pages"
@@ -42,8 +43,11 @@ class Office(Protocol):
     def why(self, sources: Sequence[str], until: float) -> Iterator[tuple[str, str]]:
         """Of each source in turn what the last run says of it. None is asked about after that time (`monotonic`)."""
 
-    def hint(self, number: int) -> Optional[str]:
-        """The text of a hint of the release team, where it can be had."""
+    def hint(self, number: int) -> Optional[SentHint]:
+        """A hint of the release team, where it can be had."""
+
+    def next_hint(self, sender: str) -> Optional[Label]:
+        """The first number behind all that the release team sent, where it can be had."""
 
     def hints(self) -> Optional[str]:
         """The hints in force, where they can be had."""
@@ -92,15 +96,19 @@ class ServiceOffice:
                 return
             yield source, self.service.good_text(f"/why/{source}")
 
-    def hint(self, number: int) -> Optional[str]:
+    def hint(self, number: int) -> Optional[SentHint]:
         # No route names the sender of hints, so each sender is asked until one has a hint under the number.
         for sender in [self.release] if self.release else self.service.kept():
             text = self.service.kept_text(sender, number)
-            wish = hint_in(text) if text is not None else None
-            if wish is not None:
+            hint = hint_in(text) if text is not None else None
+            if hint is not None:
                 self.release = sender
-                return wish
+                return hint
         return None
+
+    def next_hint(self, sender: str) -> Optional[Label]:
+        kept = self.service.kept().get(sender)
+        return Label(sender, kept.greatest + 1) if kept else None
 
     def hints(self) -> Optional[str]:
         return self.newer("/hints")
@@ -123,10 +131,12 @@ class ServiceOffice:
         return None
 
 
-def hint_in(text: bytes) -> Optional[str]:
-    """What a message asks for, where it is a hint."""
+def hint_in(text: bytes) -> Optional[SentHint]:
+    """A message as a hint, where it is one. Its fields `By` and `Comment` are for people: the office reads neither."""
     for paragraph in paragraphs(text):
-        return paragraph.value("Hint") if kind_of(paragraph) is Kind.HINT else None
+        if kind_of(paragraph) is Kind.HINT:
+            return SentHint(*(" ".join((paragraph.value(name) or "").split()) for name in ("Hint", "By", "Comment")))
+        break
     return None
 
 
@@ -135,7 +145,7 @@ class StoreOffice:
 
     def __init__(self, setup: str, store: str) -> None:
         self.options = ["--conf", setup, "--db", store]
-        self.wishes: Optional[Mapping[int, str]] = None
+        self.sent: Optional[Mapping[int, SentHint]] = None
         self.mail: Optional[dict[str, dict[int, bytes]]] = None
 
     def told(self, *words: str) -> str:
@@ -181,11 +191,14 @@ class StoreOffice:
                 if len(head) == 3:
                     yield head[2], part
 
-    def hint(self, number: int) -> Optional[str]:
-        if self.wishes is None:
-            found = re.finditer(r"(?m)^\S+ (\d+) hint (.+)$", self.told("mail", "--list"))
-            self.wishes = {int(match[1]): match[2] for match in found}
-        return self.wishes.get(number)
+    def hint(self, number: int) -> Optional[SentHint]:
+        if self.sent is None:
+            self.sent = dict(hints_in(program.output(["export", *self.options])))
+        return self.sent.get(number)
+
+    def next_hint(self, sender: str) -> Optional[Label]:
+        kept = kept_in(self.told("mail")).get(sender)
+        return Label(sender, kept.greatest + 1) if kept else None
 
     def hints(self) -> Optional[str]:
         return self.told("hints")
@@ -194,6 +207,16 @@ class StoreOffice:
         # If nothing is proposed, or the source isn't freed, the status is 1.
         ran = program.run(["propose", *([source] if source else []), *self.options])
         return ran.stdout.decode() if ran.returncode in (0, 1) else None
+
+
+def hints_in(bag: bytes) -> Iterator[tuple[int, SentHint]]:
+    """The hints of a bag, by their numbers."""
+    for text in bags.messages_in(bag):
+        # Most messages are builds, which take far longer to read.
+        if b"hint" in text.lower():
+            label, hint = label_of(text), hint_in(text)
+            if label and hint:
+                yield label.number, hint
 
 
 class FileOffice:
@@ -236,7 +259,10 @@ class FileOffice:
     def why(self, sources: Sequence[str], until: float) -> Iterator[tuple[str, str]]:
         return iter(())
 
-    def hint(self, number: int) -> Optional[str]:
+    def hint(self, number: int) -> Optional[SentHint]:
+        return None
+
+    def next_hint(self, sender: str) -> Optional[Label]:
         return None
 
     def hints(self) -> Optional[str]:

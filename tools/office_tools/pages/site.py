@@ -4,6 +4,7 @@ All that changed is written into a folder beside, and then moved file by file: s
 new ones, and a call that is ended in the middle leaves whole ones.
 """
 import contextlib
+import ctypes
 import dataclasses
 import hashlib
 import os
@@ -14,7 +15,7 @@ from typing import Any, Collection, Iterable, Iterator, Mapping, Optional, Seque
 
 import jinja2
 
-from office_tools.pages import names, views
+from office_tools.pages import hints, mending, names, verdicts, views
 from office_tools.pages.excuses_json import excuses_json
 from office_tools.pages.fetching import Newest, read_run
 from office_tools.pages.change_pages import Feeds
@@ -23,14 +24,15 @@ from office_tools.pages.kept_mail import KeptMail
 from office_tools.pages.more_pages import Extras, More
 from office_tools.pages.outcomes import counted, reason_words
 from office_tools.pages.parts import parts_of, row_texts
+from office_tools.pages.patterns import Patterns
 from office_tools.pages.sections import written
-from office_tools.pages.sentences import OUTCOME_TITLES, REASON_TITLES
+from office_tools.pages.sentences import LIST_TITLES, REASON_TITLES
 from office_tools.pages.state import State
 from office_tools.pages.told import Line, shortened
 from office_tools.reports import Outcome, Word
 
 NEWEST = 20  # runs on the first page
-OFFENDERS = 15  # packages on the first page
+OFFENDERS = 15  # what has to be mended on the first page
 HERE = os.path.dirname(os.path.realpath(__file__))
 
 
@@ -75,13 +77,13 @@ class Moved:
 class Site:
     """The folder of the pages."""
 
-    def __init__(self, folder: str, state: State, bugs: str, extras: Extras = Extras()) -> None:
-        self.folder, self.state, self.bugs, self.extras = folder, state, bugs, extras
+    def __init__(self, folder: str, state: State, patterns: Patterns, extras: Extras = Extras()) -> None:
+        self.folder, self.state, self.patterns, self.extras = folder, state, patterns, extras
         self.templates = jinja2.Environment(
             loader=jinja2.FileSystemLoader(os.path.join(HERE, "templates")), autoescape=True, trim_blocks=True,
             lstrip_blocks=True, auto_reload=False, keep_trailing_newline=True, undefined=jinja2.StrictUndefined)
         self.rows: Any = self.templates.get_template("rows.html").module
-        self.look = digest_of([self.bugs, self.extras.address, *map(repr, own_files())])
+        self.look = digest_of([repr(self.patterns), self.extras.address, *map(repr, own_files())])
         self.facts: Optional[views.Facts] = None
         self.digests = state.digests()
         self.digests_now: dict[str, str] = {}
@@ -102,8 +104,7 @@ class Site:
         self.write_runs(facts)
         self.write_testing(facts)
         self.write_names(facts)
-        self.put("hints.html", self.page("hints.html", {
-            "run": newest.kept.run, "rows": views.standing_rows(facts, facts.links("source/")), "up": ""}))
+        self.write_hints(facts)
         self.put("excuses.json", excuses_json(newest.excuses, newest.update, newest.kept.fetched).encode())
         self.write_more(facts)
         self.write_lists(facts)
@@ -123,7 +124,7 @@ class Site:
         """All that is kept, read once."""
         if self.facts is None:
             people = {**KeptMail(self.state).people(), **self.extras.people}
-            self.facts = dataclasses.replace(views.facts_of(self.state, newest, self.bugs), people=people)
+            self.facts = dataclasses.replace(views.facts_of(self.state, newest, self.patterns), people=people)
         return self.facts
 
     def put(self, path: str, data: bytes) -> None:
@@ -156,7 +157,7 @@ class Site:
         if self.written:
             # From here on a later call knows them as pages that it may remove.
             self.state.keep_digests({path: "" for path in self.written})
-            os.sync()
+            sync(self.folder)
         for path in self.written:
             self.move(path)
         gone = sorted(set(self.digests) - set(self.digests_now))
@@ -224,7 +225,7 @@ class Site:
         run = read.kept.run
         counts = counted(map(reason_words, read.excuses.excuses))
         values = {**values, "run": run, "hints": hints_of(facts, read), "up": "../",
-                  "counts": [(REASON_TITLES[word], count) for word, count in counts.items()]}
+                  "counts": [(word, REASON_TITLES[word], count) for word, count in counts.items()]}
         rows = row_texts(moved_in(read), lambda row: row.name, self.rows.moved)
         for link, parts, shown in parts_of(str(run.number), rows):
             self.put(f"run/{link}", self.page("run.html", {
@@ -249,6 +250,16 @@ class Site:
         for path, data in more.files():
             self.put(path, data)
 
+    def write_hints(self, facts: views.Facts) -> None:
+        """The hints in force, the proposed ones, and those that may be taken back."""
+        shown = hints.shown_hints(facts.standing, facts.hints, facts.refusals, facts.links("source/"))
+        proposed, label = hints.proposed_lines(self.state, facts.newest.number), hints.next_label(self.state)
+        stale = [hint for hint in shown if hint.stale]
+        self.put("hints.html", self.page("hints.html", {
+            "run": facts.newest.kept.run, "hints": shown, "label": label, "is_asked": proposed is not None,
+            "proposed": hints.proposed_copies(proposed or (), label), "lines": proposed,
+            "stale": hints.unhint_copies(stale, label), "up": ""}))
+
     def write_names(self, facts: views.Facts) -> None:
         """All names of sources and packages: lists by their beginning, and what the search looks through."""
         found = names.names_of(facts.names, facts.packages)
@@ -264,34 +275,50 @@ class Site:
                 self.put(link, self.page("names.html", {**values, "here": letter, "rows": shown, "list": parts}))
 
     def write_lists(self, facts: views.Facts) -> None:
-        """The sources that don't move, all of them and by each reason and outcome, and last the first page."""
+        """The sources that don't move, all of them and by each reason, outcome and verdict, and last the first page."""
         rows = views.rows_of(facts)
         texts = {row.name: row for row in row_texts(rows, lambda row: row.name, self.rows.excuse)}
-        run = facts.newest.kept.run
-        titles = {**REASON_TITLES, **OUTCOME_TITLES}
-        some = {word: [row for row in rows if word in row.words] for word in titles}
-        counts = [Count("excuses.html", "all", len(rows))]
-        counts += [Count(f"excuses-{word}.html", title, len(some[word])) for word, title in titles.items()]
-        some[""] = list(rows)
+        some = {word: [row for row in rows if word in row.words] for word in LIST_TITLES}
+        some[""] = [row for row in rows if verdicts.GONE not in row.words]
+        counts = {word: Count(list_link(word), LIST_TITLES.get(word, "all"), len(some[word]))
+                  for word in ("", *LIST_TITLES)}
         for word, of_word in some.items():
-            values = {"run": run, "title": f"Sources that don't move: {titles[word]}" if word else
-                      "Sources that don't move", "number": len(of_word), "lists": counts, "up": "",
-                      "here": f"excuses-{word}.html" if word else "excuses.html",
-                      "reasons": REASON_TITLES, "outcomes": OUTCOME_TITLES}
-            for link, parts, shown in parts_of(f"excuses-{word}" if word else "excuses",
+            values = {"run": facts.newest.kept.run, "word": word, "number": len(of_word), "lists": counts.values(),
+                      "title": f"Sources that don't move: {LIST_TITLES[word]}" if word else "Sources that don't move",
+                      "up": "", "here": list_link(word), "reasons": REASON_TITLES, "verdicts": verdicts.TITLES}
+            for link, parts, shown in parts_of(list_link(word).removesuffix(".html"),
                                                [texts[row.name] for row in of_word]):
                 self.put(link, self.page("excuses.html", {**values, "rows": shown, "list": parts}))
-        self.write_front(facts, len(rows), counts[1:])
+        self.write_front(facts, counts)
 
-    def write_front(self, facts: views.Facts, unmoved: int, counts: Sequence[Count]) -> None:
+    def write_front(self, facts: views.Facts, counts: Mapping[str, Count]) -> None:
         """The first page."""
-        offenders = views.offenders_of(facts, facts.links("source/"))
-        run = facts.newest.kept.run
+        links = facts.links("source/")
+        run, found = facts.newest.kept.run, mending.mending_of(facts, links)
+        is_asked = found.ranked or found.grouped
         self.put("index.html", self.page("front_more.html", {
-            "glance": glance(facts), "run": run, "unmoved": unmoved, "moved": run.excuses - unmoved,
-            "fetched": facts.newest.kept.fetched,
-            "counts": counts, "offenders": offenders[:OFFENDERS], "more_offenders": len(offenders[OFFENDERS:]),
+            "glance": glance(facts),
+            "run": run, "counts": counts, "moved": run.excuses - counts[""].number - counts[verdicts.GONE].number,
+            "fetched": facts.newest.kept.fetched, "refused": facts.refusals, "reasons": REASON_TITLES,
+            "verdicts": {word: (counts[verdicts.LISTS[word]], title) for word, title in verdicts.TITLES.items()},
+            "mending": found, "most": OFFENDERS,
+            "offenders": [] if is_asked else views.offenders_of(facts, links)[:OFFENDERS],
             "runs": facts.runs[:-NEWEST - 1:-1], "up": ""}))
+
+
+def sync(folder: str) -> None:
+    """Writes what the file system of a folder holds to its disk, and waits for no other disk of the machine."""
+    number = os.open(folder, os.O_RDONLY)
+    try:
+        if ctypes.CDLL(None, use_errno=True).syncfs(number):
+            raise OSError(ctypes.get_errno(), os.strerror(ctypes.get_errno()), folder)
+    finally:
+        os.close(number)
+
+
+def list_link(word: str) -> str:
+    """The page of a list of sources that don't move; that of all has an empty word."""
+    return f"excuses-{word}.html" if word else "excuses.html"
 
 
 def hints_of(facts: views.Facts, read: Newest) -> Sequence[Hint]:
@@ -302,7 +329,7 @@ def hints_of(facts: views.Facts, read: Newest) -> Sequence[Hint]:
         if change.hint is None:
             continue
         outcome = views.change_line(change, links)
-        text = facts.hints.get(change.hint, "") or " ".join(
+        text = facts.hint_texts.get(change.hint, "") or " ".join(
             f"{item.source}/{item.version}" for item in change.items)
         found.append(Hint(f"{change.word.value.capitalize()} hint {change.hint}", shortened(text), outcome))
     return found

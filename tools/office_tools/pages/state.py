@@ -29,7 +29,8 @@ CREATE TABLE why (source TEXT PRIMARY KEY, run INTEGER NOT NULL, since INTEGER N
     told TEXT NOT NULL) STRICT;
 CREATE TABLE told (name TEXT PRIMARY KEY, run INTEGER NOT NULL, told TEXT NOT NULL) STRICT;
 CREATE TABLE proposal (source TEXT PRIMARY KEY, run INTEGER NOT NULL, excuse TEXT NOT NULL, told TEXT NOT NULL) STRICT;
-CREATE TABLE hint (number INTEGER PRIMARY KEY, told TEXT) STRICT;
+CREATE TABLE hint (number INTEGER PRIMARY KEY, told TEXT, sent_by TEXT NOT NULL DEFAULT '', comment TEXT NOT NULL
+    DEFAULT '') STRICT;
 CREATE TABLE mail_read (sender TEXT PRIMARY KEY, number INTEGER NOT NULL) STRICT, WITHOUT ROWID;
 CREATE TABLE paragraph (package TEXT NOT NULL, architecture TEXT NOT NULL, version TEXT NOT NULL,
     place INTEGER NOT NULL, source TEXT NOT NULL, source_version TEXT NOT NULL, relation INTEGER NOT NULL,
@@ -95,6 +96,23 @@ class Proposal:
     run: int
     excuse: str
     told: str
+
+
+@dataclass(frozen=True)
+class SentHint:
+    """A hint as it was sent: what it asks, and who sent it for what, if its fields `By` and `Comment` say so.
+
+    All are empty if its message couldn't be had.
+    """
+
+    text: str = ""
+    by: str = ""
+    comment: str = ""
+
+    @property
+    def note(self) -> str:
+        """Who sent it, and for what."""
+        return ": ".join(filter(None, [self.by, self.comment]))
 
 
 class State:
@@ -179,6 +197,12 @@ class State:
             self.database.executemany("INSERT OR REPLACE INTO last VALUES (?, ?, ?, ?, ?, ?)", rows)
             self.want_hints(hints)
             self.database.execute("DELETE FROM built")
+
+    def update(self, number: int) -> str:
+        """The update of a kept run."""
+        with self.faults():
+            found = self.database.execute("SELECT updated FROM run WHERE number = ?", (number,)).fetchone()
+        return unpacked(found[0])
 
     def last_events(self) -> Mapping[str, Event]:
         """The last event of each source."""
@@ -273,7 +297,15 @@ class State:
 
     def want_hints(self, numbers: Iterable[int]) -> None:
         """Keeps within a transaction that the texts of these hints are wanted."""
-        self.database.executemany("INSERT OR IGNORE INTO hint VALUES (?, NULL)", ((number,) for number in numbers))
+        self.database.executemany("INSERT OR IGNORE INTO hint (number) VALUES (?)", ((number,) for number in numbers))
+
+    def ask_hints(self, numbers: Iterable[int]) -> None:
+        """Keeps that these hints are wanted, if some of them aren't known yet."""
+        with self.faults():
+            known = {number for number, in self.database.execute("SELECT number FROM hint")}
+        if not known.issuperset(numbers):
+            with self.transaction():
+                self.want_hints(numbers)
 
     def wanted_hints(self) -> Sequence[int]:
         """The hints whose texts weren't asked for yet."""
@@ -281,15 +313,17 @@ class State:
             found = self.database.execute("SELECT number FROM hint WHERE told IS NULL ORDER BY number").fetchall()
         return [number for number, in found]
 
-    def hints(self) -> Mapping[int, str]:
-        """The texts of hints by their numbers; an empty one couldn't be had."""
+    def hints(self) -> Mapping[int, SentHint]:
+        """Hints by their numbers."""
         with self.faults():
-            return dict(self.database.execute("SELECT number, told FROM hint WHERE told IS NOT NULL").fetchall())
+            found = self.database.execute("SELECT number, told, sent_by, comment FROM hint WHERE told IS NOT NULL")
+            return {number: SentHint(*parts) for number, *parts in found}
 
-    def keep_hints(self, hints: Mapping[int, str]) -> None:
-        """Keeps texts of hints."""
+    def keep_hints(self, hints: Mapping[int, SentHint]) -> None:
+        """Keeps hints."""
         with self.transaction():
-            self.database.executemany("INSERT OR REPLACE INTO hint VALUES (?, ?)", hints.items())
+            self.database.executemany("INSERT OR REPLACE INTO hint VALUES (?, ?, ?, ?)", (
+                (number, hint.text, hint.by, hint.comment) for number, hint in hints.items()))
             self.database.execute("DELETE FROM built")
 
     def digests(self) -> Mapping[str, str]:

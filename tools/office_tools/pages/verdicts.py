@@ -27,6 +27,9 @@ LISTS: Mapping[str, str] = {"waits": "wait", "young": "young", "blocked": "block
 """The word of the list that has the sources of a verdict."""
 
 
+GONE = "gone"  # the list of the sources that were taken out of the archive
+
+
 def verdict(words: Collection[str]) -> str:
     """What keeps a source out: nothing, the release team, time alone, or what its maintainer has to mend."""
     if not words:
@@ -50,6 +53,11 @@ def is_gone(excuse: Excuse) -> bool:
 
 
 def words_of(excuse: Excuse, what: What) -> Sequence[str]:
-    """The words by which lists are cut: those of its reasons, of its outcome, and of its verdict."""
+    """The words by which lists are cut: those of its reasons, of its outcome, and of its verdict.
+
+    A source that was taken out of the archive is in a list of its own alone.
+    """
+    if is_gone(excuse):
+        return (GONE,)
     reasons = reason_words(excuse)
     return tuple(dict.fromkeys([*reasons, what.value, word_of(reasons, what)]))
