@@ -29,7 +29,7 @@ import texts  # noqa: E402
 from office_tools.service import Service  # noqa: E402
 
 PORT = int(os.environ.get("PORT", "9500"))
-WHY_SECONDS = "300"
+WHY_SECONDS = "60"
 
 
 class Tally:
