@@ -6,13 +6,14 @@ import time
 
 from selenium import webdriver
 from selenium.webdriver.chrome.service import Service
+from selenium.webdriver.common.action_chains import ActionChains
 from selenium.webdriver.common.by import By
 from selenium.webdriver.common.keys import Keys
 
 HERE = os.path.dirname(os.path.realpath(__file__))
 WIDTHS = {1280: 900, 390: 844}
 SECONDS = 60  # how long something is waited for
-MOST_TABS = 40  # how often the key is pressed: a long table has a link in each row
+MOST_TABS = 25  # how often the key is pressed: a long table has a link in each row
 
 
 class Browser:
@@ -52,9 +53,9 @@ class Browser:
                 *(entry["message"] for entry in self.driver.get_log("browser"))]
 
     def picture(self, path):
-        """The page as a reader sees it first, and what comes below, up to three screens."""
+        """The page as a reader sees it first, and what comes below, up to two screens."""
         width, height = self.driver.execute_script("return [innerWidth, document.documentElement.scrollHeight]")
-        clip = {"x": 0, "y": 0, "width": width, "height": min(height, 3 * WIDTHS.get(width, 900)), "scale": 1}
+        clip = {"x": 0, "y": 0, "width": width, "height": min(height, 2 * WIDTHS.get(width, 900)), "scale": 1}
         told = self.command("Page.captureScreenshot", clip=clip, captureBeyondViewport=True)
         with open(path, "wb") as file:
             file.write(base64.b64decode(told["data"]))
@@ -63,15 +64,17 @@ class Browser:
         """The key goes through links and fields in the page's order, and shows where it is."""
         due = self.driver.execute_script(
             "return [...document.querySelectorAll('a[href], button, input, select, summary')]"
-            ".filter(element => element.checkVisibility())")
-        body = self.driver.find_element(By.TAG_NAME, "body")
-        for place, element in enumerate(due[:MOST_TABS]):
-            (body if place == 0 else self.driver.switch_to.active_element).send_keys(Keys.TAB)
-            if self.driver.switch_to.active_element != element:
-                return [f"the key leads to {self.driver.switch_to.active_element.text!r} in place of {element.text!r}"]
-            style = self.driver.execute_script("return getComputedStyle(document.activeElement).outlineStyle")
+            ".filter(element => element.checkVisibility()).slice(0, arguments[0]).map(element => element.outerHTML)",
+            MOST_TABS)
+        keys = ActionChains(self.driver)
+        for text in due:
+            keys.send_keys(Keys.TAB).perform()
+            shown, style = self.driver.execute_script(
+                "const at = document.activeElement; return [at.outerHTML, getComputedStyle(at).outlineStyle]")
+            if shown != text:
+                return [f"the tab key leads to {shown[:100]} in place of {text[:100]}"]
             if style == "none":
-                return [f"{element.text!r} doesn't show that it has the focus"]
+                return [f"{text[:100]} doesn't show that it has the focus"]
         return []
 
     def texts(self, selector):

@@ -146,7 +146,7 @@ class Archive:
     def upload(self, source, day, urgency="medium"):
         self.versions[source] = newer(self.versions[source])
         self.mail.add("ftp", "upload", f"Source: {source}", f"Version: {self.versions[source]}", f"Urgency: {urgency}",
-                      f"Day: {day}")
+                      f"Day: {day}", f"Maintainer: {self.sources[source][0].fields['Maintainer']}")
 
     def build(self, source, archs=ARCHS, rename=None, depends="", again=""):
         """The builds of a source's newest version. `rename` is a package with its new name."""

@@ -25,11 +25,12 @@ sys.dont_write_bytecode = True
 import browser  # noqa: E402
 import draw  # noqa: E402
 import markup  # noqa: E402
+import more_texts  # noqa: E402
 import texts  # noqa: E402
 from office_tools.service import Service  # noqa: E402
 
 PORT = int(os.environ.get("PORT", "9500"))
-WHY_SECONDS = "300"
+WHY_SECONDS = "60"
 
 
 class Tally:
@@ -94,7 +95,7 @@ def fill(office, folder):
 def look_at_all(pages, shots, told, tally):
     """Opens each kind of page in each way."""
     os.makedirs(shots, exist_ok=True)
-    kinds = texts.kinds_of(told, pages)
+    kinds = {**texts.kinds_of(told, pages), **more_texts.kinds_of(told, pages)}
     with browser.Browser() as seen:
         for width, scheme, has_script in browser.ways():
             seen.set(width, scheme, has_script)

@@ -38,7 +38,7 @@ class Script(unittest.TestCase):
     def test_a_view_is_kept_in_the_address(self):
         self.assertEqual(self.seen("excuses.html")[0], ["app", "libgreet", "stuck"])
         self.assertEqual(self.seen("excuses.html", "#reason=block")[0], ["libgreet"])
-        self.assertEqual(self.seen("excuses.html", "#outcome=wait")[0], ["stuck"])
+        self.assertEqual(self.seen("excuses.html", "#verdict=waits")[0], ["stuck"])
         names, told = self.seen("excuses.html", "#words=1042%20app")
         self.assertEqual(names, ["app"])
         self.assertIn("1 of 3 sources", told)

@@ -121,7 +121,10 @@ function makeSearch(form, table) {
   form.hidden = false;
   form.addEventListener("input", ask);
   form.addEventListener("submit", event => event.preventDefault());
-  addEventListener("hashchange", read);
+  addEventListener("hashchange", () => {
+    read();
+    form.scrollIntoView();
+  });
   read();
 }
 
@@ -149,6 +152,8 @@ function makeSorting(table) {
   });
 }
 
+// A count whose link leads to a table shows those rows of it alone that are counted.
+for (const link of document.querySelectorAll("a[data-view]")) link.href = "#" + link.dataset.view;
 for (const form of document.querySelectorAll("form.find")) makeSearch(form, document.querySelector("form.find ~ table"));
 for (const table of document.querySelectorAll("table")) makeSorting(table);
 for (const form of document.querySelectorAll("form.go")) makeGo(form);
