@@ -36,7 +36,8 @@ def list_page(facts: views.Facts, found: Sequence[Transition], is_whole: bool) -
     run = facts.newest.number
     told = [line("After ", Piece(f"run {run}", f"run/{run}.html"), f" of {facts.date}."),
             line("A source is in transition if unstable has packages of it under other names than testing, and sources "
-                 "in testing need the old names. A source that needs them is done if no package of it in unstable needs an old one.")]
+                 "in testing need the old names. A source that needs them is done if it is rebuilt everywhere, and may "
+                 "move.")]
     if not is_whole:
         told.append(line("The mail isn't read to its end yet: the next call goes on, and may find more."))
     columns = (Column("Source"), Column("Packages"), Column("Done"), Column("Left, by level"), Column("How it stands"))
