@@ -356,7 +356,8 @@ class Parts(unittest.TestCase):
 
     def test_names_of_pages(self):
         self.assertEqual(people.page_of("Ann <Ann@Example.org>"), "ann_at_example.org")
-        names = ["a_b <a_b@c>", "a@b", "a b", "ä <ä@c>", "../../x", ".", "a/b", "a_at_b"]
+        names = ["a_b <a_b@c>", "a@b", "a b", "ä <ä@c>", "../../x", ".", ".a@b", "a/b", "a_at_b", "x" * 200,
+                 "x" * 201]
         pages = [people.page_of(name) for name in names]
         self.assertEqual(len(set(pages)), len(names))
         for page in pages:

@@ -37,17 +37,25 @@ class More:
         self.changes = changes_of(state.events_from(first[0]), first[0]) if first else {}
 
     def pages(self) -> Iterator[SectionPage]:
-        """The pages."""
-        yield from wait_pages(self.facts)
+        """All pages."""
+        yield from self.answered_pages()
         yield from transition_pages(self.facts, self.state)
         yield from day_pages(self.facts)
         yield from missing_pages(self.facts)
-        yield from people_pages(self.facts, self.changes)
         yield from change_pages(self.facts, self.changes)
 
+    def answered_pages(self) -> Iterator[SectionPage]:
+        """The pages that answers about sources change."""
+        yield from wait_pages(self.facts)
+        yield from people_pages(self.facts, self.changes)
+
     def files(self) -> Iterator[tuple[str, bytes]]:
-        """The feeds of all and of people, and excuses.yaml."""
+        """All files beside pages: the feeds of all and of people, and excuses.yaml."""
         yield "feed.xml", self.feeds.of_all(self.changes)
         yield from self.feeds.of_people(self.changes)
+        yield from self.answered_files()
+
+    def answered_files(self) -> Iterator[tuple[str, bytes]]:
+        """The files that answers about sources change."""
         yield "excuses.yaml", excuses_yaml(self.facts.newest.excuses, self.facts.outcomes, self.facts.people,
                                            self.facts.waits).encode()

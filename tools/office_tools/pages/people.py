@@ -1,4 +1,5 @@
 """Who maintains which source: by uploads that say so, and by a file."""
+import hashlib
 import re
 from typing import Iterable, Mapping, Sequence
 
@@ -7,6 +8,7 @@ from office_tools.files import read_bytes
 from office_tools.pages.kept_mail import BETWEEN, fields_of, people_in, Person
 
 SAFE = re.compile(r"[^a-z0-9.+-]")
+LONGEST = 150  # characters of a page's name
 MAIL = re.compile(r"<([^<>\s]+)>")
 
 
@@ -51,7 +53,10 @@ def mail_of(name: str) -> str:
 def page_of(name: str) -> str:
     """The name of a page, made of the address: two people have two. Its characters are of `a-z0-9.+-_`."""
     found = SAFE.sub(lambda sign: f"_{ord(sign[0]):x}_" if sign[0] != "@" else "_at_", mail_of(name))
-    return found[:150].lstrip(".") or "_"
+    found = re.sub(r"^\.", "_2e_", found) or "_"
+    if len(found) <= LONGEST:
+        return found
+    return f"{found[:LONGEST - 33]}_{hashlib.blake2b(found.encode(), digest_size=16).hexdigest()}"
 
 
 def by_person(people: Mapping[str, Person], sources: Iterable[str]) -> Mapping[str, Sequence[tuple[str, bool]]]:

@@ -25,7 +25,7 @@ from office_tools.pages.more_pages import Extras, More
 from office_tools.pages.outcomes import counted, reason_words
 from office_tools.pages.parts import parts_of, row_texts
 from office_tools.pages.patterns import Patterns
-from office_tools.pages.sections import written
+from office_tools.pages.sections import SectionPage, written
 from office_tools.pages.sentences import LIST_TITLES, REASON_TITLES
 from office_tools.pages.state import State
 from office_tools.pages.told import Line, shortened
@@ -106,7 +106,8 @@ class Site:
         self.write_names(facts)
         self.write_hints(facts)
         self.put("excuses.json", excuses_json(newest.excuses, newest.update, newest.kept.fetched).encode())
-        self.write_more(facts)
+        more = More(facts, self.state, self.extras)
+        self.write_more(more.pages(), more.files())
         self.write_lists(facts)
         self.move_all()
 
@@ -116,7 +117,8 @@ class Site:
                                     proposals=self.state.proposals())
         self.digests_now = dict(self.digests)
         self.write_sources(facts, facts.waits.touched.intersection(facts.names).union(names))
-        self.write_more(facts)
+        more = More(facts, self.state, self.extras)
+        self.write_more(more.answered_pages(), more.answered_files())
         self.write_lists(facts)
         self.move_all()
 
@@ -241,13 +243,12 @@ class Site:
                 "run": facts.newest.kept.run, "rows": shown, "list": parts, "number": len(rows), "up": "",
                 "is_known": facts.testing is not None}))
 
-    def write_more(self, facts: views.Facts) -> None:
-        """The pages beside those of excuses, runs and sources."""
-        more = More(facts, self.state, self.extras)
-        for page in more.pages():
+    def write_more(self, pages: Iterable[SectionPage], files: Iterable[tuple[str, bytes]]) -> None:
+        """Pages of sections, and files beside pages."""
+        for page in pages:
             for path, data in written(self.templates, page):
                 self.put(path, data)
-        for path, data in more.files():
+        for path, data in files:
             self.put(path, data)
 
     def write_hints(self, facts: views.Facts) -> None:
