@@ -11,6 +11,7 @@ from office_tools.pages.told import Line, Links, Piece
 from office_tools.pages.transitions import (GONE, MISSING, NEITHER, NEW, OLD, Reader, suite_of_testing,
                                             suite_of_unstable, Transition, User)
 
+MOST_NAMES = 200  # sources of a level that are named; the table has all
 WORDS = {OLD: "to rebuild", NEW: "rebuilt", NEITHER: "no need", MISSING: "not built", GONE: "gone"}
 
 
@@ -98,8 +99,9 @@ def left_section(facts: views.Facts, one: Transition, links: Links) -> Section:
     for level in sorted({user.level for user in one.users}):
         left = [user for user in one.users if user.level == level and not user.is_done]
         pieces: list[object] = [f"Level {level}: "]
-        for place, user in enumerate(left):
+        for place, user in enumerate(left[:MOST_NAMES]):
             pieces += [", " if place else "", Piece(user.name, links.source(user.name)), f" ({left_of(user)})"]
+        pieces += [f" and {len(left) - MOST_NAMES} more"] if len(left) > MOST_NAMES else []
         items += [line(*pieces)] if left else []
     waiting = [user for user in one.users if user.is_done and user.name in facts.excuses and not user.is_moved]
     told = [] if items else [line("Nothing has to be rebuilt.")]
