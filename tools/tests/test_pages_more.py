@@ -13,7 +13,7 @@ import xml.etree.ElementTree
 import helpers  # noqa: F401 (it puts the package into the path)
 from pages_office import FakeOffice
 from office_tools.faults import Fault
-from office_tools.pages import atom, command, people, plots
+from office_tools.pages import atom, britney_yaml, command, day_pages, people, plots
 from office_tools.pages.changes import Kind, changes_of
 from office_tools.pages.kept_mail import Person
 from office_tools.pages.state import Event
@@ -394,6 +394,13 @@ class Parts(unittest.TestCase):
         curves = [plots.Curve(name, name, [place * 37 % 900 for place in range(60)]) for name in ("a", "b", "c")]
         labels = [f"03-{place}" for place in range(60)]
         self.assertLess(len(plots.lines("name", labels, curves)), 5000)
+
+    def test_yaml_escapes(self):
+        self.assertEqual(britney_yaml.scalar('a "b"\x7f\u0085: #é'), '"a \\"b\\"\\u007f\\u0085: #é"')
+
+    def test_the_last_day(self):
+        self.assertEqual(day_pages.later(datetime.date(2025, 3, 20), 1), datetime.date(2025, 3, 21))
+        self.assertEqual(day_pages.later(datetime.date(9999, 12, 30), 21), datetime.date(9999, 12, 31))
 
     def test_a_feed_escapes(self):
         feed = atom.Feed("feed.xml", "<&>\x01", "index.html", datetime.date(2025, 3, 20), (), "", "office")

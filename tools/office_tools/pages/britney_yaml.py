@@ -5,6 +5,7 @@ autopkgtests, no binaries of the old version. YAML has each text of JSON as it i
 """
 import datetime
 import json
+import re
 from typing import Any, Iterator, Mapping, Sequence
 
 from office_tools.pages.excuses_json import policies, told_of
@@ -13,6 +14,8 @@ from office_tools.pages.outcomes import NOTHING, reason_words, SourceOutcome
 from office_tools.pages.verdicts import verdict
 from office_tools.pages.waits import Waits
 from office_tools.reports import Excuse, Excuses, ReasonKind
+
+UNPRINTABLE = re.compile("[\x7f-\x9f\ufeff\ufffe\uffff]")  # what JSON has as it is, and YAML hasn't
 
 
 def excuses_yaml(excuses: Excuses, outcomes: Mapping[str, Sequence[SourceOutcome]], people: Mapping[str, Person],
@@ -72,4 +75,4 @@ def block_lines(values: Mapping[str, Any]) -> Iterator[str]:
 
 def scalar(value: Any) -> str:
     """A value that has no parts, or none in it."""
-    return json.dumps(value, ensure_ascii=False)
+    return UNPRINTABLE.sub(lambda sign: f"\\u{ord(sign[0]):04x}", json.dumps(value, ensure_ascii=False))

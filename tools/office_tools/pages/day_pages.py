@@ -61,6 +61,11 @@ def young_by_day(facts: views.Facts) -> Mapping[datetime.date, Sequence[Excuse]]
     return dict(sorted(found.items()))
 
 
+def later(date: datetime.date, days: int) -> datetime.date:
+    """The day so many days after another one, or the last one that there is."""
+    return date + datetime.timedelta(days=min(days, (datetime.date.max - date).days))
+
+
 def alone(excuses: Sequence[Excuse]) -> Sequence[Excuse]:
     """Those of these sources that their age alone keeps out."""
     return [excuse for excuse in excuses if len(excuse.reasons) == 1]
@@ -71,7 +76,7 @@ def glance(facts: views.Facts) -> Line:
     young = young_by_day(facts)
     told = []
     for days, word in (1, "tomorrow"), (2, "the day after"), (3, "in three days"):
-        count = len(alone(young.get(facts.date + datetime.timedelta(days=days), ())))
+        count = len(alone(young.get(later(facts.date, days), ())))
         told.append(f"{word} {count}")
     return line("Old enough to move: ", Piece(", ".join(told), "days.html#calendar"), ".")
 
@@ -80,7 +85,7 @@ def calendar_section(facts: views.Facts) -> Section:
     """When those that are too young are old enough, day by day."""
     young = young_by_day(facts)
     links = facts.links("source/")
-    days = [facts.date + datetime.timedelta(days=number) for number in range(1, DAYS_DRAWN + 1)]
+    days = [later(facts.date, number) for number in range(1, DAYS_DRAWN + 1)]
     picture = plots.columns(f"Sources that are old enough by day, from {days[0]} to {days[-1]}",
                             [day.strftime("%m-%d") for day in days], [len(alone(young.get(day, ()))) for day in days])
     columns = (Column("Day"), Column("Days left", True), Column("May move", True), Column("Kept out further", True),

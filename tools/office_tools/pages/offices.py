@@ -84,7 +84,13 @@ class ServiceOffice:
 
     def letters(self, sender: str, first: int, last: int) -> Iterator[tuple[int, bytes]]:
         while first <= last:
-            texts = list(bags.messages_in(self.service.bag(sender, first)))
+            path = f"/bag/{sender}/{first}"
+            reply = self.service.get(path)
+            if reply.status == http.client.NOT_FOUND and reply.text == NO_ROUTE:
+                return
+            if not reply.is_good:
+                raise self.service.bad(path, reply)
+            texts = list(bags.messages_in(reply.body))
             if not texts:
                 return
             yield from ((first + place, text) for place, text in enumerate(texts) if first + place <= last)

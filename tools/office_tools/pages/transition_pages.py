@@ -12,7 +12,7 @@ from office_tools.pages.transitions import (GONE, MISSING, NEITHER, NEW, OLD, Re
                                             suite_of_unstable, Transition, User)
 
 MOST_NAMES = 200  # sources of a level that are named; the table has all
-WORDS = {OLD: "to rebuild", NEW: "rebuilt", NEITHER: "no need", MISSING: "not built", GONE: "gone"}
+WORDS = {OLD: "to rebuild", NEW: "rebuilt", NEITHER: "no need", MISSING: "not built", GONE: "gone from unstable"}
 
 
 def transition_pages(facts: views.Facts, state: State) -> Iterator[SectionPage]:
