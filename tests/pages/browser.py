@@ -11,9 +11,10 @@ from selenium.webdriver.common.by import By
 from selenium.webdriver.common.keys import Keys
 
 HERE = os.path.dirname(os.path.realpath(__file__))
-WIDTHS = {1280: 900, 390: 844}
+WIDTHS = (1280, 390)
+HEIGHT = 1600  # a page is looked at as far as two screens show it
 SECONDS = 60  # how long something is waited for
-MOST_TABS = 25  # how often the key is pressed: a long table has a link in each row
+MOST_TABS = 16  # how often the key is pressed: a long table has a link in each row
 
 
 class Browser:
@@ -38,7 +39,7 @@ class Browser:
 
     def set(self, width, scheme, has_script):
         """From here on pages are opened so."""
-        self.command("Emulation.setDeviceMetricsOverride", width=width, height=WIDTHS[width], deviceScaleFactor=1,
+        self.command("Emulation.setDeviceMetricsOverride", width=width, height=HEIGHT, deviceScaleFactor=1,
                      mobile=False)
         self.command("Emulation.setEmulatedMedia", features=[{"name": "prefers-color-scheme", "value": scheme}])
         self.command("Emulation.setScriptExecutionDisabled", value=not has_script)
@@ -53,10 +54,8 @@ class Browser:
                 *(entry["message"] for entry in self.driver.get_log("browser"))]
 
     def picture(self, path):
-        """The page as a reader sees it first, and what comes below, up to two screens."""
-        width, height = self.driver.execute_script("return [innerWidth, document.documentElement.scrollHeight]")
-        clip = {"x": 0, "y": 0, "width": width, "height": min(height, 2 * WIDTHS.get(width, 900)), "scale": 1}
-        told = self.command("Page.captureScreenshot", clip=clip, captureBeyondViewport=True)
+        """The page as a reader sees it first."""
+        told = self.command("Page.captureScreenshot", optimizeForSpeed=True)
         with open(path, "wb") as file:
             file.write(base64.b64decode(told["data"]))
 
@@ -102,5 +101,5 @@ class Browser:
 
 
 def ways():
-    """Each way in which a page is opened."""
+    """Each way in which a page is opened: its width, its scheme, and whether scripts run."""
     return itertools.product(WIDTHS, ("light", "dark"), (True, False))

@@ -8,7 +8,7 @@ Each kind of page is opened at 1280 and 390 pixels, light and dark, with and wit
 compared with the office's own texts; its markup is read by html5lib; contrast, targets, labels, dates and the order of
 the tab key are looked at in the browser. FOLDER gets the drawn office, the pages, and a picture of each page in each
 way. The last line is `N checks, M faults`; the exit status is 1 with a fault. PORT names the port of the service
-(9500), KEEP=1 takes an office and pages that an earlier call left in FOLDER.
+(9500), KEEP=1 takes an office and pages that an earlier call left in FOLDER, and ONLY has the pages that are opened.
 
 It needs chromium, chromium-driver, python3-selenium and python3-html5lib, and the lists of apt of a Debian release.
 """
@@ -95,7 +95,9 @@ def fill(office, folder):
 def look_at_all(pages, shots, told, tally):
     """Opens each kind of page in each way."""
     os.makedirs(shots, exist_ok=True)
+    only = os.environ.get("ONLY", "").split()
     kinds = {**texts.kinds_of(told, pages), **more_texts.kinds_of(told, pages)}
+    kinds = {name: compare for name, compare in kinds.items() if not only or name in only}
     with browser.Browser() as seen:
         for width, scheme, has_script in browser.ways():
             seen.set(width, scheme, has_script)
@@ -115,11 +117,12 @@ def look_at_all(pages, shots, told, tally):
 
 
 def look_at_markup(pages, tally):
-    """Reads the markup of all pages, of which there are many of sources: of those each seventh. No title is twice."""
+    """Reads the markup of all pages; of those that are many of a kind, each thirtieth. No title comes twice."""
     titles = {}
     for place, _, files in os.walk(pages):
         html = sorted(name for name in files if name.endswith(".html"))
-        for name in html[::7] if place.endswith("source") else html:
+        few = [name for name in html if not name.startswith("names-")]
+        for name in html[::30] if place != pages else sorted({*few, *html[::30]}):
             path = os.path.join(place, name)
             tally.add(path, markup.faults_of(path))
             titles.setdefault(markup.Page(path).title, []).append(path)

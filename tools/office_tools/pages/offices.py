@@ -2,7 +2,7 @@
 import http.client
 import re
 import time
-from typing import Iterator, Mapping, Optional, Protocol, Sequence
+from typing import Iterable, Iterator, Mapping, Optional, Protocol, Sequence
 
 from office_tools import bags, program, reports
 from office_tools.faults import Fault, tell
@@ -177,14 +177,18 @@ class StoreOffice:
         return {sender: kept.unbroken for sender, kept in kept_in(self.told("mail")).items()}
 
     def letters(self, sender: str, first: int, last: int) -> Iterator[tuple[int, bytes]]:
+        found = self.all_mail().get(sender, {})
+        return ((number, found[number]) for number in range(first, last + 1) if number in found)
+
+    def all_mail(self) -> Mapping[str, Mapping[int, bytes]]:
+        """All kept mail, which is printed once, by sender and number."""
         if self.mail is None:
             self.mail = {}
             for text in bags.messages_in(program.output(["export", *self.options])):
                 label = label_of(text)
                 if label is not None:
                     self.mail.setdefault(label.sender, {})[label.number] = text
-        found = self.mail.get(sender, {})
-        return ((number, found[number]) for number in range(first, last + 1) if number in found)
+        return self.mail
 
     def why(self, sources: Sequence[str], until: float) -> Iterator[tuple[str, str]]:
         for place in range(0, len(sources), AT_ONCE):
@@ -199,7 +203,7 @@ class StoreOffice:
 
     def hint(self, number: int) -> Optional[SentHint]:
         if self.sent is None:
-            self.sent = dict(hints_in(program.output(["export", *self.options])))
+            self.sent = dict(hints_in(text for of in self.all_mail().values() for text in of.values()))
         return self.sent.get(number)
 
     def next_hint(self, sender: str) -> Optional[Label]:
@@ -215,9 +219,9 @@ class StoreOffice:
         return ran.stdout.decode() if ran.returncode in (0, 1) else None
 
 
-def hints_in(bag: bytes) -> Iterator[tuple[int, SentHint]]:
-    """The hints of a bag, by their numbers."""
-    for text in bags.messages_in(bag):
+def hints_in(texts: Iterable[bytes]) -> Iterator[tuple[int, SentHint]]:
+    """The hints among messages, by their numbers."""
+    for text in texts:
         # Most messages are builds, which take far longer to read.
         if b"hint" in text.lower():
             label, hint = label_of(text), hint_in(text)
