@@ -75,6 +75,11 @@ if command -v reprepro > /dev/null && command -v aptly > /dev/null && command -v
 else
     echo "not tried: archive, month: reprepro, aptly, dose-distcheck, libsolv-tools or dpkg-dev isn't installed"
 fi
+if command -v chromium > /dev/null && /usr/bin/python3 -c 'import selenium, html5lib' 2> /dev/null; then
+    try pages "$here/pages/look.py" "$office" "$told/pages-folder"
+else
+    echo "not tried: pages: chromium, python3-selenium or python3-html5lib isn't installed"
+fi
 echo "what each printed: $told"
 echo "$passed passed, $failed failed"
 [ "$failed" -eq 0 ]
