@@ -1,6 +1,7 @@
 #!/usr/bin/env python3
 """Finds each file and each name that docs/TRUST.md and the pages of crates cite, the files that other pages cite, the
-counts of lines that TRUST.md and README.md give, the code that pages quote, and the program's version in CHANGELOG.md.
+counts of lines that TRUST.md and README.md give, the code that pages quote, the book of the headline (book.py), and the
+program's version in CHANGELOG.md.
 
 usage: trust.py [TOP]     (exit status 0: all are there; 1: a line for each that isn't)
 
@@ -131,10 +132,11 @@ def quotations():
                 missing.append(f'{page.relative_to(TOP)}: its quotation isn\'t in {path}')
     return missing, count
 
-def counted():
-    """The counts of lines in both pages that aren't those of trusted.py, and the files that it finds at fault."""
-    command = [sys.executable, TOP / 'tests' / 'trusted.py', TOP, '--check']
-    return subprocess.run(command, capture_output=True, text=True, check=False).stdout.splitlines()
+def checked(script):
+    """The faults that trusted.py or book.py finds: counts of lines and first lines of files, or another text of the book."""
+    command = [sys.executable, TOP / 'tests' / script, TOP, '--check']
+    done = subprocess.run(command, capture_output=True, text=True, check=False)
+    return (done.stdout + done.stderr).splitlines()
 
 def versions():
     """A fault if the newest version in CHANGELOG.md isn't the program's."""
@@ -148,7 +150,7 @@ def main():
         for part in parts(cells):
             cited += len(re.findall(r'`([^`]+)`', part))
             faults += faults_of(number, part)
-    faults += [*crate_faults(), *file_faults(), *counted()]
+    faults += [*crate_faults(), *file_faults(), *checked('trusted.py'), *checked('book.py')]
     missing, quoted = quotations()
     faults += missing
     for fault in faults:

@@ -292,8 +292,8 @@ class Tree:
         public = set().union(*(self.surface(crate) for crate in crates))
         public = {item for item in public if (item.module.crate, item.name) not in inner}
         return self.reached(public, sorted(public, key=lambda i: (i.module.crate, i.name)))
-    def claimed(self, starts, beside):
-        """The definitions that the contracts of these calls reach, by names that aren't left out."""
+    def started(self, starts):
+        """The public items of these calls, and what is read of them first."""
         public, first = set(), []
         for start, _, clause in (start.partition('@') for start in starts):
             crate, *path = start.split('::')
@@ -307,19 +307,29 @@ class Tree:
             elif clause:
                 found = {Item(i.module, i.kind, i.name, i.public, with_clause(i.head, clause), i.body) for i in found}
             public, first = public | found, first + [*found]
-        return self.reached(public, first, beside)
+        return public, first
+    def claimed(self, starts, beside):
+        """The definitions that the contracts of these calls reach, by names that aren't left out."""
+        return self.reached(*self.started(starts), beside)
     def reached(self, public, first, beside=()):
         """The definitions that the contracts of the first items reach, of which these are public."""
+        whole = self.named_from(public, first, beside)
+        return {at: why for at, why in whole.items() if isinstance(at, Definition)}
+    def named_from(self, public, first, beside=()):
+        """The definitions and the items that the contracts of the first items reach, each with what names it."""
         reached, todo = {None: None}, [(item, None) for item in first]
         for at, why in todo:
-            if at in reached:
-                continue
-            reached[at] = why
-            for place, text in [(at.file, at.text)] if isinstance(at, Definition) else self.said(at, public):
-                marks = [n for n in [*place.names] + [d.name for d in getattr(place, 'definitions', [])] if '◌' in n]
-                words = words_of(text) | {n for n in marks if all(p in text for p in n.split('◌'))}
-                todo += [(to, at) for word in sorted(words) for to in self.meant(place, word) if to not in beside]
-        return {at: why for at, why in reached.items() if isinstance(at, Definition)}
+            if at not in reached:
+                reached[at] = why
+                todo += [(to, at) for to in self.named_by(at, public) if to not in beside]
+        return reached
+    def named_by(self, at, public):
+        """What the text of a definition, or the contract of an item, names."""
+        for place, text in [(at.file, at.text)] if isinstance(at, Definition) else self.said(at, public):
+            marks = [n for n in [*place.names] + [d.name for d in getattr(place, 'definitions', [])] if '◌' in n]
+            words = words_of(text) | {n for n in marks if all(p in text for p in n.split('◌'))}
+            for word in sorted(words):
+                yield from self.meant(place, word)
     def meant(self, place, word):
         """The definitions and the types that a word in a file means."""
         first, _, second = (word, '', '') if '◌' in word else word.partition('.')
