@@ -3,8 +3,8 @@
 
 usage: reach.py [BASE] [--top=TOP]
 
-It compares the files of crates/ below TOP (the top of this repository), with what isn't committed yet, with those of a
-commit (main). For each crate that changed it takes two sums: what crates above can rest on, now and then.
+It compares the files of crates/ below TOP (the top of this repository), committed or not, with those of the commit where
+the branch left another (main). For each crate that changed it takes two sums: what crates above can rest on, now and then.
   - each definition of specs/, with what its words mean
   - each type with its fields, each constant, each trait, and the ghost items of each impl
   - the head of each `pub` function and of each method of a trait: types, `requires`, `ensures`
@@ -149,8 +149,9 @@ def git(top, *words):
 
 def changed_crates(top, base):
     """The crates with a changed or new source, definition or proof."""
-    names = git(top, 'diff', '--name-only', base, '--', 'crates') + git(top, 'ls-files', '-o', '--exclude-standard', 'crates')
-    found = re.findall(r'(?m)^crates/(\w+)/(?:src|specs|proofs)/.*\.(?:rt|antt)$', names.decode())
+    names = git(top, 'diff', '--name-only', base, '--', 'crates')
+    new = git(top, 'ls-files', '-o', '--exclude-standard', 'crates')
+    found = re.findall(r'(?m)^crates/(\w+)/(?:src|specs|proofs)/.*\.(?:rt|antt)$', (names + new).decode())
     return sorted(set(found))
 
 
@@ -171,6 +172,7 @@ def files_then(top, base, crates, folder):
 
 def reached_by(top, base):
     """For each crate that changed its changed parts on which others can rest, and the crates that they reach."""
+    base = git(top, 'merge-base', base, 'HEAD').decode().strip()
     crates, below = changed_crates(top, base), crates_below(top)
     with tempfile.TemporaryDirectory() as then:
         files_then(top, base, crates, then)
