@@ -38,8 +38,9 @@ INNER = {('office_core_replay', 'settle_behind')}
 FIRST = [
     ('the headline', ['office_core::headline']),
     ('.. of calls and whole replays', [
-        'office_core::steps_follow', 'office_core::same_texts', 'office_core::runs_stay', 'office_core::empty_is_sound',
-        'office_core::Office::deliver', 'office_core::Office::settle', 'office_core_replay::replays_are_steps',
+        'office_core::steps_follow', 'office_core::delivered', 'office_core::same_texts', 'office_core::runs_stay',
+        'office_core::empty_is_sound', 'office_core::Office::deliver', 'office_core::Office::settle',
+        'office_core_replay::replays_are_steps',
         'office_core_replay::replay', 'office_core_replay::replay_status', 'office_mail::same_set', 'office_mail::later_mail']),
     ('versions', ['deb_version::Version']),
     ('control data', [f'deb_control::{kind}' for kind in (
@@ -55,6 +56,7 @@ FIRST = [
         'new', 'into_keeper', 'deliver', 'settle', 'status', 'testing_text', 'excuses_text', 'update_text')]),
     ('a connection', [f'office_http::{call}' for call in (
         'serve_one', 'requests_are_steps', 'old_requests_stay@others')]),
+    ('a life', [f'office_http::{law}' for law in ('life', 'calls_are_events', 'life_finishes')]),
     ('the words', ['office_cli_words::read_words@first', 'office_cli_words::compare_status']),
 ]
 # What is claimed of the calls, pages and commands that this office added.

@@ -123,7 +123,7 @@ does_kept setup Settled old new d = same_kept setup old new d.0
 does_kept setup Stopped old new d = same_kept setup old new d
 does_kept setup Looked old new d = same_kept setup old new d
 
-leads_kept : (setup : Lists) (steps : List Step) (old new : Content) → Leads setup old steps new → new.kept ≡ kept_from setup old.kept (texts_in steps)
+pub leads_kept : (setup : Lists) (steps : List Step) (old new : Content) → Leads setup old steps new → new.kept ≡ kept_from setup old.kept (texts_in steps)
 unfolding Leads
 leads_kept setup [] old new h = ap (λ (c : Content). c.kept) h ∙ sym (kept_from-nil setup old.kept)
 leads_kept setup (s ∷ ss) old new h =
@@ -151,7 +151,7 @@ came setup (t ∷ ts) kept p text h = ⊎_elim
     (λ later. inr (inr later))
     (came setup ts (kept_from setup kept (t ∷ [])) p text (ap (λ (k : Kept). get k p) (kept_from-append setup kept (t ∷ []) ts) ∙ h))
 
-came_of : (setup : Lists) (texts : List (List ℕ)) (p : Place) (text : List ℕ) → get (kept_from setup empty texts) p ≡ Some text → IsOneOf text texts
+pub came_of : (setup : Lists) (texts : List (List ℕ)) (p : Place) (text : List ℕ) → get (kept_from setup empty texts) p ≡ Some text → IsOneOf text texts
 came_of setup texts p text h = ⊎_elim (λ o. absurd (cc (sym (get-empty place_cmp p) ∙ o))) (λ there. there) (came setup texts empty p text h)
 
 -- ---- the headline

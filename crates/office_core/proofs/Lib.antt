@@ -1,4 +1,5 @@
 pub mod AnsweringFacts
+pub mod CameFacts
 pub mod CarryFacts
 pub mod CountSteps
 pub mod FinishFacts
@@ -8,5 +9,6 @@ pub mod KeepingFacts
 pub mod LawFacts
 pub mod MigratedFacts
 pub mod OfficeFacts
+pub mod OrderTexts
 pub mod RunFacts
 pub mod UnbrokenFacts

@@ -1,4 +1,5 @@
 pub mod Asked
+pub mod Came
 pub mod Counting
 pub mod GatherSteps
 pub mod History

@@ -11,6 +11,7 @@ ghost use Rattle.office_mail_setup.specs.declared.setup.Role.TheVariants.{Releas
 ghost use Rattle.office_store_keeper.specs.Content.{Content, item_from_one, no_content};
 ghost use Rattle.office_store_keeper.specs.LastDelays.{GetsLast};
 ghost use Rattle.office_core_orders.specs.declared.waiting_lines.Lack.{Lack};
+ghost use Rattle.office_core.specs.Came.{AllCame, CameBeside};
 ghost use Rattle.office_core.specs.History.{Step, Looked, Settled, Leads, IsByRules, Agree, coming, is_settled, texts_in};
 ghost use Rattle.office_core.specs.Laws.{RunsStand, TookTexts};
 ghost use Rattle.office_core.specs.Migrated.{IsOfficeBefore};
@@ -35,6 +36,15 @@ pub fn headline()
     ensures order { (setup : Lists) (xs ys : List Step) (a b : Content) → Leads setup no_content xs a → Leads setup no_content ys b → OneText setup (texts_in xs) → SameTexts setup (texts_in xs) (texts_in ys) → Agree xs ys a b }
     ensures settled { (setup : Lists) (steps : List Step) (office : Content) → Leads setup no_content steps office → is_settled steps ≡ true → IsReadyCount setup office.kept (length office.reports) }
     ensures only { (setup : Lists) (steps : List Step) (old new : Content) → Leads setup old steps new → RunsStand old new }
+{}
+
+/// Delivered is finished: a settled office has finished run k exactly if all came that the run needs, from an empty office on,
+/// whatever came beside, in whatever order and with whatever repeats and losses.
+pub fn delivered()
+    ensures finished { (setup : Lists) (steps : List Step) (office : Content) (k : ℕ) → Leads setup no_content steps office → is_settled steps ≡ true → AllCame setup (texts_in steps) k ↔ (k ≤ length office.reports) }
+    // So where the texts that were sent are all that run k needs, and came, it is finished. No text beside, of whatever sender,
+    // holds it up, unless it gives one of the run's own orders a second text.
+    ensures beside { (setup : Lists) (sent : List (List ℕ)) (steps : List Step) (office : Content) (k : ℕ) → Leads setup no_content steps office → is_settled steps ≡ true → AllCame setup sent k → CameBeside setup sent (texts_in steps) k → k ≤ length office.reports }
 {}
 
 /// What a call leads to, and then another, the two lead to together; a call that changes nothing is a step too.

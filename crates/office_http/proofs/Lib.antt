@@ -3,6 +3,7 @@ pub mod CutFacts
 pub mod AnswerFacts
 pub mod CountFacts
 pub mod ConnectionFacts
+pub mod LifeFacts
 pub mod ProposalFacts
 pub mod ServeFacts
 pub mod StepFacts

@@ -1,3 +1,4 @@
+pub mod Life
 pub mod ShortTexts
 pub mod Serve
 pub mod ServeSteps

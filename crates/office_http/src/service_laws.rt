@@ -1,18 +1,26 @@
 //! What is true of what the service answers.
 ghost use Rattle.std.specs.FinMap.{get};
-ghost use Rattle.std.specs.Prelude.{◌≡◌, ◌≢◌, ◌⊎◌, ◌≤◌, ◌<◌, ◌-◌, ◌^◌, ℕ, List, Option, None, false, length};
+ghost use Rattle.std.specs.Prelude.{◌≡◌, ◌≢◌, ◌⊎◌, ◌≤◌, ◌<◌, ◌-◌, ◌^◌, ◌↔◌, ℕ, List, [], Option, Some, None, false, true, flat_map, length};
 ghost use Rattle.office_mail.specs.Kept.{Place};
 ghost use Rattle.office_core_orders.specs.Ready.{HasPlaces};
+ghost use Rattle.office_http_requests.specs.Asked.{asked_of};
 ghost use Rattle.office_http_requests.specs.declared.request.Action.{Action};
 ghost use Rattle.office_http_requests.specs.declared.request.Asked.{Asked};
 ghost use Rattle.office_http_requests.specs.declared.request.Page.{Page};
 ghost use Rattle.office_http_requests.specs.declared.request.Posted.{Posted};
-ghost use Rattle.office_http.specs.Serve.{action_answer, answer_of, AsksProposal, Does, Found, IsFound, delivered_by, kept_by, settles};
+ghost use Rattle.office_http.specs.Serve.{action_answer, answer_of, AsksProposal, Does, Exchange, Found, IsFound, Moves, Serves, StopsServe, delivered_by, kept_by, settles};
 ghost use Rattle.office_core_facts.specs.OfficeState.{OfficeState};
-ghost use Rattle.office_core_facts.specs.State.{IsSound, state_of};
+ghost use Rattle.office_core_facts.specs.State.{IsSound, reports_at, state_of};
 ghost use Rattle.office_core_orders.specs.declared.faults.StoreFault.{StoreFault};
-ghost use Rattle.office_core.specs.History.{Leads, Looked, coming};
-ghost use Rattle.office_core.specs.Preserves.{StoreRefused};
+ghost use Rattle.office_core.specs.History.{IsByRules, Leads, Looked, Settled, coming};
+ghost use Rattle.office_core.specs.Preserves.{Preserves, StoreRefused};
+ghost use Rattle.office_core.specs.Came.{AllCame};
+ghost use Rattle.office_core_replay.specs.Replay.{Replays, StopsReplay};
+ghost use Rattle.office_core_replay.specs.declared.replays.Replayed.{Replayed};
+ghost use Rattle.office_mail.specs.Reading.{Reading};
+ghost use Rattle.office_http.specs.declared.serve.ServeFault.{ServeFault};
+ghost use Rattle.office_store_keeper.specs.Content.{no_content};
+ghost use Rattle.office_http.specs.Life.{Event, IsEvent, IsLedBy, Lives, texts_of};
 ghost use Rattle.office_http.specs.ShortTexts.{short_text};
 ghost use Rattle.office_http.specs.Trials.{terms_of};
 
@@ -47,6 +55,43 @@ pub fn texts_are_short()
 
 /// What a request does is steps of an office's history: the body that it delivers came, if it does, and runs were finished.
 pub fn requests_are_steps<K: Keeper>()
-    ensures { (old new : K) (post : Option (Action × List ℕ)) (fault : Option StoreFault) (ready : ℕ) → Does (state_of K.Keeper old) (state_of K.Keeper new) post fault ready (StoreRefused K.Keeper old new) → IsSound K.Keeper old → IsSound K.Keeper new
+    ensures came { (old new : K) (post : Option (Action × List ℕ)) (fault : Option StoreFault) (ready : ℕ) → Does (state_of K.Keeper old) (state_of K.Keeper new) post fault ready (StoreRefused K.Keeper old new) → IsSound K.Keeper old → IsSound K.Keeper new
         → Leads (K.setup old) (K.content old) (coming (delivered_by (K.setup old) post fault) (length (K.content new).reports - length (K.content old).reports) Looked) (K.content new) }
+    // Where it settles, as a held delivery does, and the settle met nothing, they end in a settle that answered Ok.
+    ensures settled { (old new : K) (action : Action) (body : List ℕ) (fault : Option StoreFault) (ready : ℕ) → (does : Moves (state_of K.Keeper old) (state_of K.Keeper new) action body fault ready (StoreRefused K.Keeper old new)) → IsSound K.Keeper old → IsSound K.Keeper new
+        → settles (state_of K.Keeper old) action body fault ≡ true → does.met ≡ None
+        → Leads (K.setup old) (K.content old) (coming (delivered_by (K.setup old) (Some (action, body)) fault) (length (K.content new).reports - length (K.content old).reports) Settled) (K.content new) }
+    // So they do where the request was to settle and was answered by 200, as the client knows.
+    ensures told { (old new : K) (left : Option (List ℕ)) (input told reply : List ℕ) (code : ℕ) (p : Posted) → (x : Exchange (state_of K.Keeper old) (state_of K.Keeper new) left input told reply code (StoreRefused K.Keeper old new)) → IsSound K.Keeper old → IsSound K.Keeper new
+        → asked_of (K.setup old) x.head ≡ Asked.Post p → p.action ≡ Action.Settle → code ≡ 200
+        → Leads (K.setup old) (K.content old) (coming [] (length (K.content new).reports - length (K.content old).reports) Settled) (K.content new) }
+{}
+
+/// Told once, told for good. A life is any list of requests, whole replays and openings of the store again. It is steps of the
+/// headline, whose texts are those that the requests and the replays delivered; what comes of it from an empty store on is what
+/// the headline says of these texts; and what was told of a finished run is told of it ever after.
+pub fn life<K: Keeper>()
+    ensures steps { (old new : K) (events : List Event) → Lives K.Keeper old events new → IsSound K.Keeper old → K.is_trusted new → IsLedBy (K.setup old) (flat_map (texts_of (K.setup old)) events) (K.content old) (K.content new) }
+    ensures rules { (old new : K) (events : List Event) → Lives K.Keeper old events new → K.is_legible old → K.content old ≡ no_content → K.is_trusted new → IsByRules (K.setup old) (flat_map (texts_of (K.setup old)) events) (K.content new) }
+    ensures told { (old new : K) (events : List Event) (k : ℕ) → Lives K.Keeper old events new → IsSound K.Keeper old → K.is_trusted new → k ≤ length (K.content old).reports → reports_at (state_of K.Keeper new) k ≡ reports_at (state_of K.Keeper old) k }
+    // So both pages of the run answer the same, whatever else is found.
+    ensures excuses { (old new : K) (events : List Event) (k : ℕ) (x y : Found) (rest more : List ℕ) → Lives K.Keeper old events new → IsSound K.Keeper old → K.is_trusted new → k ≤ length (K.content old).reports → answer_of (state_of K.Keeper new) y (Asked.Tell (Page.Excuses k)) more ≡ answer_of (state_of K.Keeper old) x (Asked.Tell (Page.Excuses k)) rest }
+    ensures updates { (old new : K) (events : List Event) (k : ℕ) (x y : Found) (rest more : List ℕ) → Lives K.Keeper old events new → IsSound K.Keeper old → K.is_trusted new → k ≤ length (K.content old).reports → answer_of (state_of K.Keeper new) y (Asked.Tell (Page.Update k)) more ≡ answer_of (state_of K.Keeper old) x (Asked.Tell (Page.Update k)) rest }
+{}
+
+/// What `serve_one` and `replay` ensure is an event of a life, whatever they answer: what they say holds while the store is
+/// trusted, which a life asks for at its end alone.
+pub fn calls_are_events<K: Keeper>()
+    ensures served { (old new : K) (left unread written wrote : Option (List ℕ)) (code : Option ℕ) → Preserves K.Keeper old new → Serves (state_of K.Keeper old) (state_of K.Keeper new) left unread written wrote code (StoreRefused K.Keeper old new) → IsEvent K.Keeper old new }
+    ensures cut_off { (old new : K) (left unread written wrote : Option (List ℕ)) (fault : ServeFault) → Preserves K.Keeper old new → StopsServe (state_of K.Keeper old) (state_of K.Keeper new) left unread written wrote fault (StoreRefused K.Keeper old new) → IsEvent K.Keeper old new }
+    ensures replayed { (old new : K) (start now : Reading) (written wrote : Option (List ℕ)) (done : Replayed) → Preserves K.Keeper old new → Replays (state_of K.Keeper old) (state_of K.Keeper new) start now written wrote done (StoreRefused K.Keeper old new) → IsEvent K.Keeper old new }
+    ensures replay_cut_off { (old new : K) (start now : Reading) (written wrote : Option (List ℕ)) → Preserves K.Keeper old new → StopsReplay (state_of K.Keeper old) (state_of K.Keeper new) start now written wrote (StoreRefused K.Keeper old new) → IsEvent K.Keeper old new }
+{}
+
+/// Delivered is finished, as a client knows it: from an empty store on, after any list of requests, replays and openings, a
+/// request to settle that is answered by 200 leaves exactly those runs finished of which all came that they need.
+pub fn life_finishes<K: Keeper>()
+    ensures { (old between new : K) (events : List Event) (k : ℕ) (left : Option (List ℕ)) (input told reply : List ℕ) (code : ℕ) (p : Posted) → Lives K.Keeper old events between → K.is_legible old → K.content old ≡ no_content → Preserves K.Keeper between new → K.is_trusted new
+        → (x : Exchange (state_of K.Keeper between) (state_of K.Keeper new) left input told reply code (StoreRefused K.Keeper between new)) → asked_of (K.setup between) x.head ≡ Asked.Post p → p.action ≡ Action.Settle → code ≡ 200
+        → AllCame (K.setup old) (flat_map (texts_of (K.setup old)) events) k ↔ (k ≤ length (K.content new).reports) }
 {}

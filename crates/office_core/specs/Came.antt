@@ -1,0 +1,26 @@
+-- What came of what a run needs, text by text, before anything is known of what is kept.
+use Rattle.std.specs.Prelude.{◌≡◌, ℕ, ◌≤◌, List}
+use Rattle.std.specs.FinMap.{empty}
+use Rattle.office_mail.specs.Kept.{Place, kept_from, place_of}
+use Rattle.office_mail.specs.Laws.{Delivers, IsOneOf}
+use Rattle.office_mail.specs.Lists.{Lists}
+use Rattle.office_mail.specs.Runs.{cover, runs}
+use Rattle.office_mail.specs.declared.message.Message.{Message}
+
+-- of these texts one is a message of this sender and number
+pub record Came (setup : Lists) (texts : List (List ℕ)) (p : Place) : Type 0 where
+  pub text : List ℕ
+  pub message : Message
+  pub delivers : Delivers setup texts text message
+  pub place : place_of message ≡ p
+
+-- All came that run k needs: the sender of runs' messages 1 to k, and of each sender each number from 1 to the cover that
+-- the first texts of these orders state.
+pub record AllCame (setup : Lists) (texts : List (List ℕ)) (k : ℕ) : Type 0 where
+  pub orders : (j : ℕ) → 1 ≤ j → j ≤ k → Came setup texts (runs setup, j)
+  pub mail : (sender number : ℕ) → 1 ≤ number → number ≤ cover setup (kept_from setup empty texts) k sender → Came setup texts (sender, number)
+
+-- each message that was sent came, and run orders 1 to k came under no other text than was sent; what came beside is any
+pub record CameBeside (setup : Lists) (sent texts : List (List ℕ)) (k : ℕ) : Type 0 where
+  pub each : (text : List ℕ) (m : Message) → Delivers setup sent text m → IsOneOf text texts
+  pub orders : (t u : List ℕ) (m n : Message) → Delivers setup sent t m → Delivers setup texts u n → place_of m ≡ place_of n → m.sender ≡ runs setup → m.number ≤ k → t ≡ u
