@@ -22,37 +22,46 @@ from trusted import FIRST, Definition, Tree, added, close, lines_of
 LAW = 'crates/office_core/src/laws.rt'
 Chapter = namedtuple('Chapter', 'name paths text follows')
 CHAPTERS = [
-    Chapter('What an office is', ['office_core', 'office_store_keeper', 'office_mail/specs/Kept.antt',
-                                  'office_mail/specs/Laws.antt', 'office_mail/specs/Runs.antt',
-                                  'testing_rules_model/specs/FactRows.antt', 'testing_rules_model/src/fact_row.rt'],
-            'An office gets texts, and keeps under each sender and number the first text that is a message. Orders say '
-            'which messages a run covers, and a run is ready when all of these are kept. The office finishes ready runs '
-            'one after another, and its history is a list of such steps.',
-            'Debian Developer\'s Reference 5.13 on what testing is. Senders, numbers and orders are this office\'s own.'),
-    Chapter('What a run decides', ['office_core_facts', 'testing_rules_model', 'testing_rules_reports',
-                                   'testing_rules_items'],
-            'A run reads the covered messages and the testing before it, and nothing else. Each source that is newer in '
-            'unstable than in testing gets an excuse, which lists every reason that keeps it out. Then removals, groups '
-            'and single sources move in this order, each if it breaks no package that worked, and the others wait.',
-            'Debian Developer\'s Reference 5.13.2 with 5.13.2.1 and 5.13.2.3, Debian Policy 5.6.17 on urgencies. The '
-            'words of hints are named after britney2\'s.'),
-    Chapter('Which packages can be installed', ['testing_install'],
-            'A package has clauses, and another package meets a clause by its name and version or by what it provides. A '
-            'set of packages is closed if every clause of each member is met by a member. A package can be installed if '
-            'some closed set of the packages on its architecture contains it.',
-            'Debian Policy 7.1, 7.2 and 7.5: Depends, Pre-Depends and Provides. Conflicts and Breaks are left out.'),
-    Chapter('What a message says', ['office_mail', 'office_mail_setup', 'deb_control', 'testing_rules_items/src',
-                                     'testing_rules_items/specs/Distinct.antt'],
-            'A message is control data: paragraphs of fields, of which the first names the sender, the number and the '
-            'kind. The kind decides which role the sender needs and which fields must be there. A text is a message, or '
-            'it has one fault, the first in a fixed order.',
-            'Debian Policy 5.1 on control data, 5.3 and 5.6 on fields, 7.1 on relations. The kinds of messages are this '
-            'office\'s own.'),
-    Chapter('What a version is', ['deb_version'],
-            'A version has an epoch, an upstream version and a revision, which are compared in this order. An upstream '
-            'version or a revision is cut into blocks, each of non-digits and then digits. Digits are compared as '
-            'numbers, non-digits by weights, of which `~` has the least.',
-            'Debian Policy 5.6.12.'),
+    Chapter(
+        'What an office is',
+        ['office_core', 'office_store_keeper', 'office_mail/specs/Kept.antt', 'office_mail/specs/Laws.antt',
+         'office_mail/specs/Runs.antt', 'testing_rules_model/specs/FactRows.antt',
+         'testing_rules_model/src/fact_row.rt'],
+        'An office gets texts, and keeps under each sender and number the first text that is a message. Orders say '
+        'which messages a run covers, and a run is ready when all of these are kept. The office finishes ready runs '
+        'one after another, and its history is a list of such steps.',
+        "Debian Developer's Reference 5.13 on what testing is. Senders, numbers and orders are this office's own."),
+    Chapter(
+        'What a run decides',
+        ['office_core_facts', 'testing_rules_model', 'testing_rules_reports', 'testing_rules_items'],
+        'A run reads the covered messages and the testing before it, and nothing else. Each source that is newer in '
+        'unstable than in testing gets an excuse, which lists every reason that keeps it out. Then removals, groups '
+        'and single sources move in this order, each if it breaks no package that worked, and the others wait.',
+        "Debian Developer's Reference 5.13.2 with 5.13.2.1 and 5.13.2.3, Debian Policy 5.6.17 on urgencies. The "
+        "words of hints are named after britney2's."),
+    Chapter(
+        'Which packages can be installed',
+        ['testing_install'],
+        'A package has clauses, and another package meets a clause by its name and version or by what it provides. '
+        'A set of packages is closed if every clause of each member is met by a member. A package can be installed '
+        'if some closed set of the packages on its architecture contains it.',
+        'Debian Policy 7.1, 7.2 and 7.5: Depends, Pre-Depends and Provides. Conflicts and Breaks are left out.'),
+    Chapter(
+        'What a message says',
+        ['office_mail', 'office_mail_setup', 'deb_control', 'testing_rules_items/src',
+         'testing_rules_items/specs/Distinct.antt'],
+        'A message is control data: paragraphs of fields, of which the first names the sender, the number and the '
+        'kind. The kind decides which role the sender needs and which fields must be there. A text is a message, or '
+        'it has one fault, the first in a fixed order.',
+        'Debian Policy 5.1 on control data, 5.3 and 5.6 on fields, 7.1 on relations. The kinds of messages are this '
+        "office's own."),
+    Chapter(
+        'What a version is',
+        ['deb_version'],
+        'A version has an epoch, an upstream version and a revision, which are compared in this order. An upstream '
+        'version or a revision is cut into blocks, each of non-digits and then digits. Digits are compared as '
+        'numbers, non-digits by weights, of which `~` has the least.',
+        'Debian Policy 5.6.12.'),
 ]
 NOTATION = [
     ('`A → B`', 'from A to B: of values a function, of statements "if A then B"'),
