@@ -133,7 +133,7 @@ def quotations():
     return missing, count
 
 def checked(script):
-    """The faults that trusted.py or book.py finds: counts of lines and first lines of files, or another text of the book."""
+    """The faults that trusted.py, book.py or diagrams.py finds: in counts and first lines, the book, or the drawings."""
     command = [sys.executable, TOP / 'tests' / script, TOP, '--check']
     done = subprocess.run(command, capture_output=True, text=True, check=False)
     return (done.stdout + done.stderr).splitlines()
@@ -158,7 +158,7 @@ def main():
         for part in parts(cells):
             cited += len(re.findall(r'`([^`]+)`', part))
             faults += faults_of(number, part)
-    faults += [*crate_faults(), *file_faults(), *checked('trusted.py'), *checked('book.py')]
+    faults += [*crate_faults(), *file_faults(), *checked('trusted.py'), *checked('book.py'), *checked('diagrams.py')]
     missing, quoted = quotations()
     faults += missing
     for fault in faults:
