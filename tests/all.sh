@@ -59,6 +59,8 @@ if [ -d "$here/../crates/deb_version/out/rlib" ]; then
 else
     echo "not tried: edits: .ci/run has left no libraries in this checkout"
 fi
+try commits python3 -m unittest discover -s "$here/commits"
+try reach python3 -m unittest discover -s "$here/prover"
 try rows python3 "$here/rows/check.py"
 try judges python3 "$here/judges/check.py"
 try counts python3 "$here/rows/counts.py"
