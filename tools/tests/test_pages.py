@@ -224,7 +224,7 @@ class AllRuns(Pages):
         self.make("--url", self.office.url)
         later = self.stamps()
         same = {name for name, stamp in stamps.items() if later.get(name) == stamp}
-        # Run 3 says the same of app but for its age. Nothing waits for libgreet and greeter any more. Run 2 links to it.
+        # Run 3 says the same of app but for its age. Nothing waits for libgreet and greeter any more.
         for name in ("source/app.html", "run/1.html", "style.css"):
             self.assertIn(name, same)
         for name in ("source/stuck.html", "run/2.html", "index.html", "excuses.html", "excuses.json", "testing.html"):
