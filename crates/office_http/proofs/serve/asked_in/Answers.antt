@@ -5,7 +5,7 @@ use Rattle.office_http_requests.specs.declared.request.Asked.{Asked}
 use Rattle.office_http_requests.proofs.SizeFacts.{body_fits}
 use Rattle.office_http.proofs.serve.asked_in.Goals as goal
 
-pub returns-in-Ok-asked_of-clause-fits : goal.returns-in-Ok-asked_of-clause-fits
-returns-in-Ok-asked_of-clause-fits c =
+pub returns-in-Ok-clause-fits : goal.returns-in-Ok-clause-fits
+returns-in-Ok-clause-fits c =
     let h = c.requires.head in
-    subst (λ (a : Asked). body_size a ≤ body_room) (sym (c.in-Ok-asked_of.ensures h.head h.parts)) (body_fits c.args.setup.now h.head)
+    subst (λ (a : Asked). body_size a ≤ body_room) (sym (c.in-Ok.ensures h.head h.parts)) (body_fits c.args.setup.now h.head)
