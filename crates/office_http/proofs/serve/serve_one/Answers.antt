@@ -1,4 +1,4 @@
-use Rattle.std.proofs.Common.{[], tt, arith}
+use Rattle.std.proofs.Common.{[], arith}
 use Rattle.std.proofs.KnownBytes.{Consumes-nil}
 use Rattle.office_http_requests.specs.declared.reply.Refusal.TheVariants as refusal
 use Rattle.office_core.specs.Preserves.{StoreRefused}
