@@ -36,19 +36,6 @@ try() {
     fi
 }
 
-# How often the candidates of a small bag were tried.
-count_trials() {
-    python3 "$bench/replay/bag.py" runs 20 > "$told/bag" &&
-        "$office" replay --conf "$bench/replay/setup.conf" < "$told/bag" > "$told/replayed" &&
-        python3 "$bench/replay/trials.py" < "$told/replayed"
-}
-
-move_chain() {
-    python3 "$bench/moves/chain.py" 20 > "$told/bag" &&
-        "$office" replay --conf "$bench/replay/setup.conf" < "$told/bag" > "$told/replayed" &&
-        tail -n 1 "$told/replayed"
-}
-
 try replay "$bench/replay/run.sh" "$office" mail:20 waiting:20 backwards:20 idle:20 first:20 runs:20 both:20 nine:20
 try replay_store env DB=1 "$bench/replay/run.sh" "$office" runs:20
 try replay_file env ROUNDS=1 python3 "$bench/replay/over_file.py" "$office" runs:20 both:20
@@ -56,24 +43,13 @@ try serving_pages env ROUNDS=1 python3 "$bench/serving/pages.py" "$office" 20
 try serving env ROUNDS=1 REQUESTS=10 python3 "$bench/serving/run.py" "$office" 20
 try pages env WHY=5 python3 "$bench/pages/run.py" "$office" 50
 try replay_phases python3 "$bench/replay/phases.py" "$office" both:20
-try replay_trials count_trials
-try moves_chain move_chain
 try limit env ROUNDS=1 "$bench/limit/run.sh" "$office" runs:20 both:20 nine:20 sixteen:20 "$packages"
-try asking env ROUNDS=1 python3 "$bench/asking/run.py" "$office" one:20
-try asking_chain env ROUNDS=1 python3 "$bench/asking/chain.py" "$office" 20
-try asking_mail env ROUNDS=1 python3 "$bench/asking/over_mail.py" "$office" 100
-try reopen env ROUNDS=1 python3 "$bench/reopen/run.py" "$office" one:20
 try from_packages env ROUNDS=1 /usr/bin/python3 "$bench/tools/from_packages.py" 200
 try start_to_end "$bench/versions/start_to_end.sh" "$office" 5
 if [ $# -eq 1 ]; then
     printf '%s\n' 1.0 1.1 1:2.0-1 2.0~rc1-1 > "$told/pairs"
     try versions "$bench/versions/run.sh" "$told/pairs" 1 1
     try installable "$bench/installable/run.sh" "$packages"
-    try trials "$bench/trials/run.sh" "$packages"
-    try moves "$bench/moves/run.sh" 50
-    try facts "$bench/facts/run.sh" 50
-    try facts_restored "$bench/facts/restoring.sh" 50
-    try store "$bench/store/run.sh"
 fi
 echo "what each printed: $told"
 echo "$passed passed, $failed failed"

@@ -59,6 +59,8 @@ if [ -d "$here/../crates/deb_version/out/rlib" ]; then
 else
     echo "not tried: edits: .ci/run has left no libraries in this checkout"
 fi
+try commits python3 -m unittest discover -s "$here/commits"
+try reach python3 -m unittest discover -s "$here/prover"
 try rows python3 "$here/rows/check.py"
 try judges python3 "$here/judges/check.py"
 try counts python3 "$here/rows/counts.py"
@@ -74,6 +76,11 @@ if command -v reprepro > /dev/null && command -v aptly > /dev/null && command -v
     try month /usr/bin/python3 "$here/archive/month.py" "$office"
 else
     echo "not tried: archive, month: reprepro, aptly, dose-distcheck, libsolv-tools or dpkg-dev isn't installed"
+fi
+if command -v chromium > /dev/null && /usr/bin/python3 -c 'import selenium, html5lib' 2> /dev/null; then
+    try pages "$here/pages/look.py" "$office" "$told/pages-folder"
+else
+    echo "not tried: pages: chromium, python3-selenium or python3-html5lib isn't installed"
 fi
 echo "what each printed: $told"
 echo "$passed passed, $failed failed"

@@ -1,6 +1,7 @@
 #!/usr/bin/env python3
 """Finds each file and each name that docs/TRUST.md and the pages of crates cite, the files that other pages cite, the
-counts of lines that TRUST.md and README.md give, the code that pages quote, and the program's version in CHANGELOG.md.
+counts of lines that TRUST.md and README.md give, the code that pages quote, the book of the headline (book.py), the
+run bits of scripts, and the program's version in CHANGELOG.md.
 
 usage: trust.py [TOP]     (exit status 0: all are there; 1: a line for each that isn't)
 
@@ -131,10 +132,19 @@ def quotations():
                 missing.append(f'{page.relative_to(TOP)}: its quotation isn\'t in {path}')
     return missing, count
 
-def counted():
-    """The counts of lines in both pages that aren't those of trusted.py, and the files that it finds at fault."""
-    command = [sys.executable, TOP / 'tests' / 'trusted.py', TOP, '--check']
-    return subprocess.run(command, capture_output=True, text=True, check=False).stdout.splitlines()
+def checked(script):
+    """The faults that trusted.py, book.py or diagrams.py finds: in counts and first lines, the book, or the drawings."""
+    command = [sys.executable, TOP / 'tests' / script, TOP, '--check']
+    done = subprocess.run(command, capture_output=True, text=True, check=False)
+    return (done.stdout + done.stderr).splitlines()
+
+def run_bits():
+    """The scripts that nobody can run: files that begin as a script, and aren't allowed to be run. A template ends by .in."""
+    listed = subprocess.run(['git', '-C', TOP, 'ls-files', '-z'], capture_output=True, text=True, check=False).stdout
+    for name in listed.split('\0'):
+        path = TOP / name
+        if path.is_file() and path.suffix != '.in' and path.read_bytes()[:2] == b'#!' and not path.stat().st_mode & 0o100:
+            yield f'{name}: it is a script without its run bit (chmod +x)'
 
 def versions():
     """A fault if the newest version in CHANGELOG.md isn't the program's."""
@@ -143,12 +153,12 @@ def versions():
         yield f'CHANGELOG.md: {newest} isn\'t the version that office_cli/src/telling.rt states'
 
 def main():
-    faults, cited = [*versions()], 0
+    faults, cited = [*versions(), *run_bits()], 0
     for number, cells in blocks():
         for part in parts(cells):
             cited += len(re.findall(r'`([^`]+)`', part))
             faults += faults_of(number, part)
-    faults += [*crate_faults(), *file_faults(), *counted()]
+    faults += [*crate_faults(), *file_faults(), *checked('trusted.py'), *checked('book.py'), *checked('diagrams.py')]
     missing, quoted = quotations()
     faults += missing
     for fault in faults:

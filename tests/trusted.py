@@ -39,19 +39,19 @@ FIRST = [
     ('the headline', ['office_core::headline']),
     ('.. of calls and whole replays', [
         'office_core::steps_follow', 'office_core::delivered', 'office_core::same_texts', 'office_core::runs_stay',
-        'office_core::empty_is_sound', 'office_core::Office::deliver', 'office_core::Office::settle',
-        'office_core_replay::replays_are_steps',
-        'office_core_replay::replay', 'office_core_replay::replay_status', 'office_mail::same_set', 'office_mail::later_mail']),
+        'office_core::empty_is_sound', 'office_core::Office::deliver', 'office_core::Office::deliver_together',
+        'office_core::Office::settle', 'office_core_replay::replays_are_steps', 'office_core_replay::replay',  'office_core_replay::replay_status', 'office_mail::same_set', 'office_mail::later_mail']),
     ('versions', ['deb_version::Version']),
     ('control data', [f'deb_control::{kind}' for kind in (
         'Paragraphs', 'Paragraph', 'Clauses', 'Provisions', 'Binary', 'Relation')]),
     ('installable rows', ['testing_install::installable', 'testing_install::installable_counted']),
     ('the rules', ['testing_rules::Facts', 'testing_rules::Testing', 'testing_rules::excuses', 'testing_rules::migrate',
-                   'testing_rules::excuses_text', 'testing_rules::update_text', 'testing_rules::testing_text']),
+                   'testing_rules::excuses_text', 'testing_rules::update_text', 'testing_rules::testing_text',
+                   'testing_rules_laws::facts_stand_for_sets', 'testing_rules_laws::watched_rows_stay']),
     ('setups, messages and bags', [f'office_mail::{call}' for call in (
         'Setup', 'read_message', 'ready', 'Bag', 'FromRead', 'ToWrite')]),
     ('a store in memory', ['office_store_keeper::Keeper', 'office_store_keeper::Plain']),
-    ('a store in a file', ['office_store::Tables', 'office_store::open_store', 'office_store::open_tables']),
+    ('a store in a file', [f'office_store::{call}' for call in ('Tables', 'open_store', 'open_tables', 'left_opens')]),
     ('the office', [f'office_core::Office::{call}' for call in (
         'new', 'into_keeper', 'deliver', 'settle', 'status', 'testing_text', 'excuses_text', 'update_text')]),
     ('a connection', [f'office_http::{call}' for call in (
@@ -61,15 +61,19 @@ FIRST = [
 ]
 # What is claimed of the calls, pages and commands that this office added.
 LATER = [
-    ('more calls of the office', ['office_core::Office']),
+    ('more calls of the office', ['office_core::Office', 'office_core_why::one_seen', *(
+        f'office_core_outcome::{law}' for law in ('try_is_next_run', 'trials_have_one_end', 'proposals_are_trials'))]),
     ('every route', [f'office_http::{call}' for call in (
         'serve_one', 'requests_are_steps', 'requests_have_one_answer', 'bound_mail', 'lint_is_mail', 'old_requests_stay',
         'pages_post_nothing')]),
     ('every command', ['office_cli_words::read_words']),
-    ('certificates', ['testing_install_why::certificate', 'testing_install_why::is_shown']),
-    ('what no group frees', ['testing_rules_refusals::no_group_frees']),
+    ('certificates', [f'testing_install_why::{call}' for call in (
+        'certificate', 'is_shown', 'groundless_isnt_installable', 'each_has_an_order')]),
+    ('what no group frees', ['testing_rules_refusals::no_group_frees', 'office_core::Office::propose']),
     ('whole stores, bags of kept mail, lists', ['office_core_check', 'office_core_queries']),
 ]
+# What the row of other calls claims of private functions of the commands.
+PRIVATE = [f'office_cli::{call}' for call in ('report_text', 'counted_text', 'order_on')]
 # The definitions of what was added that the last row of another names.
 ADDED = {
     'office_http_requests': {'added_asked'},
@@ -233,7 +237,7 @@ class Tree:
     """The crates of a repository, and which definitions their contracts reach."""
     def __init__(self, top):
         self.crates = re.findall(r'(?m)^(\w+).*?:', (Path(top) / 'crates.txt').read_text())
-        self.modules, self.files, self.passed, self.impls = {}, {}, {}, defaultdict(list)
+        self.modules, self.files, self.passed, self.impls, self.known = {}, {}, {}, defaultdict(list), {}
         for crate in self.crates:
             src, specs = Path(top) / 'crates' / crate / 'src', Path(top) / 'crates' / crate / 'specs'
             self.read_modules(crate, (), src, 'lib.rt' if (src / 'lib.rt').exists() else 'main.rt')
@@ -295,12 +299,14 @@ class Tree:
         public = set().union(*(self.surface(crate) for crate in crates))
         public = {item for item in public if (item.module.crate, item.name) not in inner}
         return self.reached(public, sorted(public, key=lambda i: (i.module.crate, i.name)))
-    def claimed(self, starts, beside):
-        """The definitions that the contracts of these calls reach, by names that aren't left out."""
+    def started(self, starts):
+        """The public items of these calls, and what is read of them first."""
         public, first = set(), []
         for start, _, clause in (start.partition('@') for start in starts):
             crate, *path = start.split('::')
             found = {item for item in self.surface(crate) if not path or item.name == path[0]}
+            if start in PRIVATE:
+                found = {i for m in self.modules.values() if m.crate == crate for i in m.items.values() if i.name == path[0]}
             if not found:
                 raise ValueError(f'{crate} has no public {path[0]}')
             if path[1:]:
@@ -310,19 +316,32 @@ class Tree:
             elif clause:
                 found = {Item(i.module, i.kind, i.name, i.public, with_clause(i.head, clause), i.body) for i in found}
             public, first = public | found, first + [*found]
-        return self.reached(public, first, beside)
+        return public, first
+    def claimed(self, starts, beside):
+        """The definitions that the contracts of these calls reach, by names that aren't left out."""
+        key = (*starts, '', *sorted(at.file.label + at.name for at in beside))
+        if key not in self.known:
+            self.known[key] = self.reached(*self.started(starts), beside)
+        return self.known[key]
     def reached(self, public, first, beside=()):
         """The definitions that the contracts of the first items reach, of which these are public."""
+        whole = self.named_from(public, first, beside)
+        return {at: why for at, why in whole.items() if isinstance(at, Definition)}
+    def named_from(self, public, first, beside=()):
+        """The definitions and the items that the contracts of the first items reach, each with what names it."""
         reached, todo = {None: None}, [(item, None) for item in first]
         for at, why in todo:
-            if at in reached:
-                continue
-            reached[at] = why
-            for place, text in [(at.file, at.text)] if isinstance(at, Definition) else self.said(at, public):
-                marks = [n for n in [*place.names] + [d.name for d in getattr(place, 'definitions', [])] if '◌' in n]
-                words = words_of(text) | {n for n in marks if all(p in text for p in n.split('◌'))}
-                todo += [(to, at) for word in sorted(words) for to in self.meant(place, word) if to not in beside]
-        return {at: why for at, why in reached.items() if isinstance(at, Definition)}
+            if at not in reached:
+                reached[at] = why
+                todo += [(to, at) for to in self.named_by(at, public) if to not in beside]
+        return reached
+    def named_by(self, at, public):
+        """What the text of a definition, or the contract of an item, names."""
+        for place, text in [(at.file, at.text)] if isinstance(at, Definition) else self.said(at, public):
+            marks = [n for n in [*place.names] + [d.name for d in getattr(place, 'definitions', [])] if '◌' in n]
+            words = words_of(text) | {n for n in marks if all(p in text for p in n.split('◌'))}
+            for word in sorted(words):
+                yield from self.meant(place, word)
     def meant(self, place, word):
         """The definitions and the types that a word in a file means."""
         first, _, second = (word, '', '') if '◌' in word else word.partition('.')
@@ -397,12 +416,26 @@ def claims(tree, users):
     laws = {i for crate in USERS for i in tree.surface(crate) if i.kind == 'fn' and not i.body[1:-1].strip()}
     left = set(tree.reached(laws, sorted(laws, key=lambda i: i.name))) & set(users) - seen
     yield 'laws on which nothing else rests', None, lines_of(left)
-    yield 'other calls', None, lines_of(set(users) - seen - left)
+    yield 'other calls', None, lines_of((set(users) | set(tree.claimed(PRIVATE, ()))) - seen - left)
+
+def of_all(tree, users):
+    """The definitions that the contracts of users' calls and all claims need."""
+    return set(users).union(*(tree.claimed(starts, ()) for starts in [starts for _, starts in LATER] + [PRIVATE]))
 
 def sums(tree, users):
     """What the first commands and routes need, and what all claims need, each behind its words in both pages."""
     return [('the first commands and routes need', lines_of(of_first(tree))),
-            ('All claims together need', lines_of(users))]
+            ('All claims together need', lines_of(of_all(tree, users)))]
+
+def clauses(tree):
+    """How many clauses the calls have that users can name, how many such calls have one, and the bytes of all."""
+    public = set().union(*(tree.surface(crate) for crate in USERS))
+    heads = [item.head for item in public if item.kind == 'fn' and item.module.crate in tree.crates]
+    parts_of = [(part, f) for item in public for part in [*tree.impls[item], *[item] * (item.kind == 'trait')] for f in part.inner]
+    heads += [f.head for part, f in parts_of if f.kind == 'fn' and (f.public or part.kind == 'trait' or part.trait)]
+    found = [[head[m.start():close(head, m.end() - 1)] for m in re.finditer(r'\b(?:requires|ensures)\b\s*[\w-]*\s*\{', head)]
+             for head in heads]
+    return sum(map(len, found)), sum(map(bool, found)), sum(len(c.encode()) for of in found for c in of)
 
 def trust_row(claim, lines, more):
     """A claim's row in the tables of TRUST."""
@@ -417,7 +450,7 @@ def figure_faults(tree, users, top):
     yield from (f'README.md: it has no row | {claim} | .. | {lines:,} |' for claim, lines, _ in counted[:len(FIRST)]
                 if not re.search(rf'(?m)^\| {re.escape(claim)} \|.* \| {lines:,} \|$', readme))
     whole = lines_of(tree.named.values())
-    known = {f'{n:,}' for n in (whole - lines_of(users), *(n for _, n in sums(tree, users)))}
+    known = {f'{n:,}' for n in (whole - lines_of(of_all(tree, users)), *(n for _, n in sums(tree, users)))}
     yield from (f'docs/TRUST.md: it lacks: {words} {n:,} lines' for words, n in sums(tree, users)
                 if f'{words} {n:,} lines' not in ' '.join(trust.split()))
     told = known | {f'{lines or more:,}' for _, lines, more in counted}
@@ -427,7 +460,7 @@ def figure_faults(tree, users, top):
 
 def write_figures(tree, users, top):
     """Puts the counts of lines of this tree into both pages, and names each page that it changes."""
-    counted, all_users = [*claims(tree, users)], lines_of(users)
+    counted, all_users = [*claims(tree, users)], lines_of(of_all(tree, users))
     forms = [('(' + words.replace(' ', r'\s') + r'\s)[\d,]+(?=\slines)', rf'\g<1>{n:,}') for words, n in sums(tree, users)]
     forms += [(r'(?<=The other )[\d,]+(?= lines)', f'{lines_of(tree.named.values()) - all_users:,}')]
     forms += [(rf'(?m)^\| \*\*{re.escape(row[0])}\*\*: .*$', trust_row(*row)) for row in counted]

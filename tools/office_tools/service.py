@@ -149,12 +149,7 @@ class Service:
 
     def kept(self) -> Mapping[str, Kept]:
         """What is kept of each sender, in the setup's order."""
-        found = {}
-        for line in self.good_text("/kept").splitlines():
-            parts = KEPT_LINE.fullmatch(line)
-            if parts is None:
-                raise self.strange("/kept")
-            found[parts[1]] = Kept(int(parts[2]), int(parts[3] or 0), int(parts[4] or 0))
+        found = kept_in(self.good_text("/kept"))
         if not found:
             raise self.strange("/kept")
         return found
@@ -207,6 +202,13 @@ class Service:
         """The update of a finished run."""
         path = f"/update/{run}"
         return reports.read_update(self.good_text(path), self.url + path)
+
+
+def kept_in(told: str) -> Mapping[str, Kept]:
+    """What is kept of each sender, as `GET /kept` and `office mail` tell it; nothing where no office tells so."""
+    found = [KEPT_LINE.fullmatch(line) for line in told.splitlines()]
+    return {} if None in found else {parts[1]: Kept(int(parts[2]), int(parts[3] or 0), int(parts[4] or 0))
+                                     for parts in found if parts}
 
 
 def split_url(url: str) -> urllib.parse.SplitResult:

@@ -102,7 +102,8 @@ WHY = {
 KEPT = {
     ("rt", 2): "From: rt\nNumber: 2\nKind: hint\nHint: block libgreet\n",
     ("rt", 8): "From: rt\nNumber: 8\nKind: hint\nHint: easy stuck/2-1\n",
-    ("rt", 9): "From: rt\nNumber: 9\nKind: hint\nHint: easy libgreet/2.0-1 stuck/2-1\n",
+    ("rt", 9): ("From: rt\nNumber: 9\nKind: hint\nBy: Ada Low <ada@example.org>\nComment: goes\n with app\n"
+                "Hint: easy libgreet/2.0-1 stuck/2-1\n"),
     ("ftp", 2): "From: ftp\nNumber: 2\nKind: upload\nSource: greeter\nVersion: 0.9-2\nUrgency: low\nDay: 2025-03-01\n"}
 
 
@@ -116,6 +117,9 @@ BLOCK = """stuck stuck 2-1 uninstallable amd64 greeter
 unstable nothing
 """
 
+BAG = ""
+UNSTABLE = "unstable {finished}\n"
+
 
 def routes(finished: int) -> Mapping[str, str]:
     """What the office answers once so many of the runs are finished."""
@@ -127,6 +131,7 @@ def routes(finished: int) -> Mapping[str, str]:
         found |= {f"/excuses/{run}": EXCUSES[run], f"/update/{run}": UPDATES[run]}
     for source, told in WHY.get(finished, {}).items():
         found[f"/why/{source}"] = f"why {finished} {source}\n{told}"
+    found |= {"/bag/ftp/1": BAG, "/bag/rt/1": BAG, "/unstable": UNSTABLE.format(finished=finished)}
     return found | {f"/kept/{sender}/{number}": text for (sender, number), text in KEPT.items()}
 
 

@@ -16,8 +16,9 @@ import urllib.parse
 
 from helpers import EXAMPLES, example, needs_office, office, Serving, SETUP, tool, TOOLS
 from pages_office import EXCUSES, FakeOffice, routes, RUNS, TESTING, UPDATES
-from office_tools import faults
-from office_tools.pages import command, site
+from office_tools import faults, reports
+from office_tools.pages import command, hints, parts, site, verdicts
+from office_tools.pages.patterns import Patterns
 
 MANY = 1500  # sources of the test that kills the command
 
@@ -74,7 +75,7 @@ class Pages(unittest.TestCase):
     def row(self, name, source):
         """The cells of a source's row in a list."""
         cells = self.page(name).cells
-        width = {"testing.html": 3}.get(name, 4 if name.startswith("run/") else 5)
+        width = {"testing.html": 3}.get(name, 4 if name.startswith("run/") else 6)
         rows = [cells[place:place + width] for place in range(0, len(cells), width)]
         return next(row for row in rows if row[0] == source)
 
@@ -126,12 +127,11 @@ class AllRuns(Pages):
     def test_first_page_counts_what_does_not_move(self):
         self.make("--url", self.office.url)
         cells = self.page("index.html").cells
-        counts = dict(zip(cells[:20:2], cells[1:20:2]))
+        counts = dict(zip(cells, cells[1:]))
         self.assertEqual([counts[name] for name in (
             "too young", "new release-critical bug", "missing on an architecture", "blocked by a hint")], ["1"] * 4)
         self.assertEqual(counts["no binary package of this version"], "0")
-        self.assertEqual(counts["waits, since its move would break a package"], "1")
-        self.assertIn("greeter on amd64", cells)
+        self.assertEqual([counts[title] for title in verdicts.TITLES.values()], ["1", "0", "1", "1"])
         self.assertIn("Run 2", cells)
         self.assertIn("Run 1", cells)
 
@@ -142,14 +142,14 @@ class AllRuns(Pages):
         self.assertEqual(self.row("excuses.html", "libgreet")[3], "15 of 10 daysenough since 2025-03-15")
         self.assertIn("https://bugs.example.org/?id=1042", self.page("excuses.html").links)
         self.assertIn("https://bugs.example.org/?id=1042", self.page("source/app.html").links)
-        self.assertIn("hint 2: block libgreet", self.row("excuses.html", "libgreet")[4])
+        self.assertIn("hint 2: block libgreet", self.row("excuses.html", "libgreet")[5])
 
     def test_lists_by_reason_and_outcome(self):
         self.make("--url", self.office.url)
         for word, names in {"age": ["app"], "buggy": ["app"], "missingbuild": ["libgreet"], "block": ["libgreet"],
                             "wait": ["stuck"], "no-binaries": [], "remove": [], "refused": []}.items():
-            self.assertEqual(self.page(f"excuses-{word}.html").cells[::5], names, word)
-        self.assertEqual(self.page("excuses.html").cells[::5], ["app", "libgreet", "stuck"])
+            self.assertEqual(self.page(f"excuses-{word}.html").cells[::6], names, word)
+        self.assertEqual(self.page("excuses.html").cells[::6], ["app", "libgreet", "stuck"])
 
     def test_why_has_numbered_lines_and_links(self):
         self.make("--url", self.office.url)
@@ -214,7 +214,7 @@ class AllRuns(Pages):
         self.make("--url", self.office.url)
         stamps, asked = self.stamps(), len(self.office.asked)
         self.make("--url", self.office.url)
-        self.assertEqual(self.office.asked[asked:], ["/runs", "/hints"])
+        self.assertEqual(self.office.asked[asked:], ["/runs", "/hints", "/kept"])
         self.assertEqual(self.stamps(), stamps)
 
     def test_a_new_run_changes_the_pages_that_it_changes(self):
@@ -224,8 +224,8 @@ class AllRuns(Pages):
         self.make("--url", self.office.url)
         later = self.stamps()
         same = {name for name, stamp in stamps.items() if later.get(name) == stamp}
-        # Run 3 tells the same of app and libgreet but for their ages; run 2 gets the way to the next one.
-        for name in ("source/app.html", "source/libgreet.html", "source/greeter.html", "run/1.html", "style.css"):
+        # Run 3 says the same of app but for its age. Nothing waits for libgreet and greeter any more.
+        for name in ("source/app.html", "run/1.html", "style.css"):
             self.assertIn(name, same)
         for name in ("source/stuck.html", "run/2.html", "index.html", "excuses.html", "excuses.json", "testing.html"):
             self.assertNotIn(name, same)
@@ -241,7 +241,7 @@ class AllRuns(Pages):
         other = self.enterContext(tempfile.TemporaryDirectory())
         self.make("--url", self.office.url, folder=other)
         # Each knows when it fetched the run, and behind which run it was told an answer first.
-        found = [{name: re.sub(b"Told first behind .*", b"", data) for name, data in self.files(folder).items()
+        found = [{name: re.sub(b"First answered after .*", b"", data) for name, data in self.files(folder).items()
                   if name not in ("index.html", "excuses.json")} for folder in (self.folder, other)]
         self.assertEqual(*found)
 
@@ -250,11 +250,11 @@ class AllRuns(Pages):
         self.finish_third()
         self.make("--url", self.office.url)
         self.assertIn("/why/libgreet", self.office.asked[self.office.asked.index("/excuses/3"):])
-        self.assertIn("Told first behind <a href=\"../run/2.html\">run 2</a>", self.read("source/libgreet.html"))
+        self.assertIn("First answered after <a href=\"../run/2.html\">run 2</a>", self.read("source/libgreet.html"))
         self.office.answers["/why/libgreet"] = self.office.answers["/why/libgreet"].replace("by rt 2", "by rt 9")
         shutil.rmtree(os.path.join(self.folder, ".state"))
         self.make("--url", self.office.url)
-        self.assertIn("Told first behind <a href=\"../run/3.html\">run 3</a>", self.read("source/libgreet.html"))
+        self.assertIn("First answered after <a href=\"../run/3.html\">run 3</a>", self.read("source/libgreet.html"))
 
     def test_a_run_that_is_finished_between_two_questions(self):
         self.office.first["/testing"] = TESTING[3]
@@ -265,15 +265,15 @@ class AllRuns(Pages):
     def test_an_answer_of_a_later_run_is_left(self):
         self.office.answers["/why/stuck"] = "why 3 stuck\n"
         self.make("--url", self.office.url)
-        self.assertNotIn("What the office answers", self.read("source/stuck.html"))
+        self.assertNotIn("First answered", self.read("source/stuck.html"))
 
     def test_an_answer_about_another_excuse_is_left(self):
         self.make("--url", self.office.url)
         self.finish_third()
         self.office.answers["/excuses/3"] = EXCUSES[3].replace(" missing on all\n", "")
         self.make("--url", self.office.url, "--why-seconds", "0")
-        self.assertNotIn("What the office answers", self.read("source/libgreet.html"))
-        self.assertIn("What the office answers", self.read("source/app.html"))
+        self.assertNotIn("First answered", self.read("source/libgreet.html"))
+        self.assertIn("First answered", self.read("source/app.html"))
 
     def test_what_is_asked_first(self):
         self.make("--url", self.office.url)
@@ -290,13 +290,88 @@ class AllRuns(Pages):
         self.make("--url", self.office.url)
         cells = self.page("hints.html").cells
         self.assertEqual([cells[place:place + 5] for place in range(0, len(cells), 5)], [
-            ["2", "block", "libgreet", "in force", "yes"], ["9", "easy", "libgreet/2.0-1", "in force", "new"],
-            ["9", "easy", "stuck/2-0", "unstable has 2-1", "new"]])
+            ["2", "block", "libgreet: in force", "stands", "-"],
+            ["9, new", "easy", "libgreet/2.0-1: in forcestuck/2-0: unstable has 2-1",
+             "refused by run 2: it would leave app uninstallable on amd64",
+             "Ada Low <ada@example.org>: goes with app"]])
         self.assertIn("source/stuck.html", self.page("hints.html").links)
         # What is told of hints changes between two runs, too.
         self.office.answers["/hints"] = "hints 2\nrt 2 covered block libgreet: in force\n"
         self.make("--url", self.office.url)
         self.assertEqual(len(self.page("hints.html").cells), 5)
+
+    def test_stale_hints_are_ready_to_be_taken_back(self):
+        self.office.answers["/hints"] = (
+            "hints 2\nrt 8 covered easy stuck/2-1: moved\nrt 8 covered easy app/1-1: moved\n"
+            "rt 9 covered unblock grater/1-1: no source\nrt 2 covered block libgreet: in force\n")
+        self.make("--url", self.office.url)
+        copied = re.findall('<pre class="copy">(.*?)</pre>', self.read("hints.html"), re.S)
+        # The sender's greatest number is 9.
+        self.assertEqual(copied, ["From: rt\nNumber: 10\nKind: unhint\nCancels: 8\n",
+                                  "From: rt\nNumber: 11\nKind: unhint\nCancels: 9\n"])
+        self.assertIn("Hint 8: all that it names has moved", self.read("hints.html"))
+
+    def test_a_hint_that_run_after_run_refuses_is_stale(self):
+        change = reports.read_update(UPDATES[2]).changes[0]
+        item = reports.HintItem(9, True, "easy", "app/1-1", reports.ItemStanding.IN_FORCE)
+        long = "3 runs in a row refused it: it would leave app uninstallable on amd64"
+        for since, due in (2, ""), (1, long):
+            refusal = hints.Refusal(hints.refused_because(change), 3, since)
+            self.assertEqual(hints.stale_because([item], refusal), due)
+
+    def test_proposed_hints_are_ready_to_be_copied(self):
+        self.office.answers["/propose"] = "easy app/1-1 stuck/2-1\n"
+        self.make("--url", self.office.url)
+        copied = re.findall('<pre class="copy">(.*?)</pre>', self.read("hints.html"), re.S)
+        self.assertEqual(copied[:2], ["easy app/1-1 stuck/2-1\n",
+                                      "From: rt\nNumber: 10\nKind: hint\nHint: easy app/1-1 stuck/2-1\n"])
+
+    def test_a_block_is_named_before_the_office_is_asked_about_the_source(self):
+        self.make("--url", self.office.url, "--why-seconds", "0")
+        page = self.page("source/libgreet.html")
+        self.assertIn("Blocked by a hint (hint 2: block libgreet)", page.items)
+        self.assertIn("../hints.html#hint-2", page.links)
+        self.assertIn("Not asked yet", self.read("source/libgreet.html"))
+        self.make("--url", self.office.url)
+        self.assertNotIn("Not asked yet", self.read("source/libgreet.html"))
+
+    def test_what_has_to_be_mended(self):
+        """The last numbered line of what the office proposes for stuck says what nothing meets."""
+        self.make("--url", self.office.url)
+        cells = self.page("index.html").cells
+        self.assertEqual(cells[:5], ["greeter", "greeter", "libgreet1", "1", "stuck"])
+        # Without that it is the last line of why the source can't move alone.
+        self.office.answers["/propose/stuck"] = ""
+        shutil.rmtree(os.path.join(self.folder, ".state"))
+        self.make("--url", self.office.url)
+        self.assertEqual(self.page("index.html").cells[:5], ["libgreet1", "libgreet", "libgreet-doc", "1", "stuck"])
+
+    def test_a_source_that_left_the_archive(self):
+        self.office.answers["/excuses/2"] = EXCUSES[2].replace(
+            " missing on all\n blocked\n", " no binaries\n removal asked\n").replace("libgreet 1.2-1 ", "libgreet - ")
+        self.make("--url", self.office.url)
+        self.assertEqual(self.page("excuses.html").cells[::6], ["app", "stuck"])
+        self.assertEqual(self.page("excuses-remove.html").cells, [])
+        self.assertEqual(self.page("excuses-gone.html").cells[::6], ["libgreet"])
+
+    def test_where_links_lead_out(self):
+        self.make("--url", self.office.url, "--tracker", "https://t.example.org/%s", "--builds",
+                  "https://b.example.org/%s/%a", "--changelog", "https://c.example.org/%p/%s/%v")
+        links = self.page("source/libgreet.html").links
+        for link in ("https://t.example.org/libgreet", "https://b.example.org/libgreet/",
+                     "https://b.example.org/libgreet/all", "https://c.example.org/libg/libgreet/2.0-1"):
+            self.assertIn(link, links)
+        self.assertEqual(Patterns(changelog="%p %s %v").changes("g++-12", "2:1.0+b1"), "g g%2B%2B-12 1.0%2Bb1")
+        self.make("--url", self.office.url, "--tracker", "", "--builds", "", "--changelog", "")
+        self.assertFalse([link for link in self.page("source/libgreet.html").links if "debian.org" in link])
+
+    def test_all_names_have_a_list_and_are_in_the_index(self):
+        self.make("--url", self.office.url)
+        page = self.page("names-libg.html")
+        self.assertEqual(page.items[-3:], ["libgreet", "libgreet-doc of libgreet", "libgreet1 of libgreet"])
+        # app, greeter, libgreet, stuck; each but the packages shares nothing with the name before it.
+        self.assertEqual(self.read("names.js"), "window.officeNames = `0app\n0greeter\n0libgreet\n0stuck`;\n")
+        self.assertEqual(self.read("packages.js"), "window.officePackages = `\n\n8-doc 81\n`;\n")
 
     def test_what_is_proposed_for_one_source(self):
         self.make("--url", self.office.url)
@@ -359,10 +434,10 @@ class AllRuns(Pages):
         self.assertEqual(self.files(), {})
 
     def test_long_lists_have_parts(self):
-        with unittest.mock.patch.object(site, "ROWS", 2):
+        with unittest.mock.patch.object(parts, "MOST_ROWS", 2):
             self.make("--url", self.office.url)
-        self.assertEqual(self.page("excuses.html").cells[::5], ["app", "libgreet"])
-        self.assertEqual(self.page("excuses-2.html").cells[::5], ["stuck"])
+        self.assertEqual(self.page("excuses.html").cells[::6], ["app", "libgreet"])
+        self.assertEqual(self.page("excuses-2.html").cells[::6], ["stuck"])
         self.assert_links()
         self.finish_third()
         self.make("--url", self.office.url)
@@ -473,7 +548,8 @@ class Kills(Pages):
         self.assertNotIn("index.html", self.files())
         self.assert_whole()
         self.make("--url", self.office.url, "--why-seconds", "0")
-        self.assertEqual(len(os.listdir(os.path.join(self.folder, "source"))), MANY)
+        pages = [name for name in os.listdir(os.path.join(self.folder, "source")) if name.endswith(".html")]
+        self.assertEqual(len(pages), MANY)
         self.assertFalse(os.path.exists(os.path.join(self.folder, ".new")))
         self.assertEqual(self.office.asked.count("/excuses/1"), 1)
         self.assert_links()
@@ -496,7 +572,8 @@ class Faults(Pages):
         self.assertEqual(self.status("--url", "http://127.0.0.1:1", "--db", "store.db", self.folder), 2)
         self.assertEqual(self.status("--db", "store.db", self.folder), 2)
         self.assertEqual(self.status("--excuses", "excuses", self.folder), 2)
-        self.assertEqual(self.status("--bugs", "https://bugs.example.org", self.folder), 2)
+        for word in "bugs", "tracker", "builds", "changelog":
+            self.assertEqual(self.status("--" + word, "https://example.org", self.folder), 2)
         for seconds in "nan", "-1", "inf", "soon":
             self.assertEqual(self.status("--why-seconds=" + seconds, self.folder), 2)
         self.assertEqual(self.status(self.folder + "/none"), 1)

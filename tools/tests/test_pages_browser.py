@@ -32,13 +32,13 @@ class Script(unittest.TestCase):
         told = subprocess.run([BROWSER, "--headless", "--no-sandbox", "--disable-gpu", "--virtual-time-budget=2000",
                                "--dump-dom", f"file://{self.folder}/tried.html{fragment}"],
                               capture_output=True, text=True, timeout=120, check=True).stdout
-        rows = re.findall(r"<tr([^>]*)><td><a [^>]*>([^<]*)</a>", told)
+        rows = re.findall(r"<tr([^>]*)><td[^>]*><a [^>]*>([^<]*)</a>", told)
         return [name for attributes, name in rows if "hidden" not in attributes], told
 
     def test_a_view_is_kept_in_the_address(self):
         self.assertEqual(self.seen("excuses.html")[0], ["app", "libgreet", "stuck"])
         self.assertEqual(self.seen("excuses.html", "#reason=block")[0], ["libgreet"])
-        self.assertEqual(self.seen("excuses.html", "#outcome=wait")[0], ["stuck"])
+        self.assertEqual(self.seen("excuses.html", "#verdict=waits")[0], ["stuck"])
         names, told = self.seen("excuses.html", "#words=1042%20app")
         self.assertEqual(names, ["app"])
         self.assertIn("1 of 3 sources", told)
@@ -58,6 +58,20 @@ class Script(unittest.TestCase):
         self.assertEqual(names, ["libgreet", "stuck", "app"])
         self.assertIn('aria-sort="descending"', told)
         self.assertEqual(self.seen("excuses.html", "", press % "Source" * 2)[0], ["stuck", "libgreet", "app"])
+
+    def test_names_are_found(self):
+        """By a part of a source's name, and by that of a package, which leads to its source."""
+        does = ("const field = document.getElementById('go'); field.value = '%s'; "
+                "field.dispatchEvent(new Event('input', {bubbles: true}));")
+        for text, count, found in (
+                ("greet", "4 names have it.", ["greeter", "libgreet", "libgreet1 of libgreet",
+                                               "libgreet-doc of libgreet"]),
+                ("libgreet-", "1 name has it.", ["libgreet-doc of libgreet"]), ("grater", "No names have it.", [])):
+            _, told = self.seen("excuses.html", "", does % text)
+            self.assertIn(f">{count}</output>", told)
+            shown = re.search('<ul class="found".*?</ul>', told, re.S)[0]
+            self.assertEqual([re.sub("<[^>]*>", "", item) for item in re.findall("<li>.*?</li>", shown)], found)
+        self.assertIn('href="source/libgreet.html"', self.seen("excuses.html", "", does % "libgreet1")[1])
 
     def test_forms_are_shown_by_the_script(self):
         _, told = self.seen("excuses.html")

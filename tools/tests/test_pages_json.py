@@ -10,7 +10,7 @@ import unittest
 
 from helpers import TOP
 from office_tools.pages import command
-from office_tools.pages.excuses_json import verdict
+from office_tools.pages.verdicts import verdict
 
 EXCUSES = """excuses 7 2025-04-01
 accepted 2 3

@@ -179,7 +179,8 @@ impl Client {
             let rest = self.reply.get(self.sent..).unwrap_or(&[]);
             if rest.is_empty() {
                 self.stream.shutdown(Shutdown::Write)?;
-                self.enter(Stage::Leaving, now);
+                self.stage = Stage::Leaving;
+                self.since = now;
                 return Ok(());
             }
             match self.stream.write(rest) {
@@ -208,11 +209,6 @@ impl Client {
         }
         self.stage = Stage::Gone;
         Ok(())
-    }
-
-    fn enter(&mut self, stage: Stage, now: Instant) {
-        self.stage = stage;
-        self.since = now;
     }
 
     /// Whether the request is worth a look: something came that wasn't looked at, and the last look is long enough ago.
@@ -270,11 +266,12 @@ impl Client {
         self.sent = if self.is_invited { CONTINUE.len() } else { 0 };
         self.reply = reply;
         self.request.clear();
-        if self.reply.is_empty() {
-            self.stage = Stage::Gone;
+        self.since = now;
+        self.stage = if self.reply.is_empty() {
+            Stage::Gone
         } else {
-            self.enter(Stage::Taking, now);
-        }
+            Stage::Taking
+        };
     }
 
     /// Tells a client to send the body if it waits for that and wasn't told yet.

@@ -20,8 +20,8 @@ tell = functools.partial(faults.tell, NAME)
 def parser() -> argparse.ArgumentParser:
     """The command's words."""
     words = argparse.ArgumentParser(
-        prog=NAME, description="Mails a running office a release-critical bug for each autopkgtest that testing passes and "
-                               "a version in unstable fails. If the test passes later, the bug is lifted.",
+        prog=NAME, description="Mails a running office a release-critical bug for each autopkgtest that testing passes "
+                               "and a version in unstable fails. If the test passes later, the bug is lifted.",
         epilog="Status 0: the office has all of it. 1: with --dry-run something would be sent. 2: the words are wrong. "
                "3: refused: a file can't be read, or the office refused a message. 4: no office answers.")
     words.add_argument("--url", default=URL, help=f"the service ({URL})")

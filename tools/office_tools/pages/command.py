@@ -2,19 +2,24 @@
 import argparse
 import contextlib
 import fcntl
+import hashlib
 import math
 import os
+import time
 from typing import Iterator, Sequence
 
 from office_tools.faults import Fault, cause_of
 from office_tools.pages.fetching import fetch, fetch_answers
+from office_tools.pages.kept_mail import read_mail
+from office_tools.pages.more_pages import Extras
 from office_tools.pages.offices import FileOffice, NAME, Office, ServiceOffice, StoreOffice
+from office_tools.pages.patterns import BUGS, BUILDS, CHANGELOG, Patterns, TRACKER
+from office_tools.pages.people import read_people
 from office_tools.pages.site import Site
 from office_tools.pages.state import State
 
 WRONG_WORDS = 2
 URL = "http://127.0.0.1:8080"
-BUGS = "https://bugs.debian.org/%s"
 SECONDS = 3.0
 
 
@@ -44,6 +49,18 @@ def words_of(words: Sequence[str]) -> argparse.Namespace:
     parser.add_argument("--testing", metavar="FILE", help="with --excuses: what is in testing after that run")
     parser.add_argument("--bugs", metavar="URL", default=BUGS,
                         help="where bugs are found; %%s stands for a bug's number (%(default)s)")
+    parser.add_argument("--tracker", metavar="URL", default=TRACKER,
+                        help="where a source is tracked; %%s stands for its name (%(default)s)")
+    parser.add_argument("--builds", metavar="URL", default=BUILDS,
+                        help="where a source's builds are; %%s stands for its name, %%a for an architecture "
+                             "(%(default)s)")
+    parser.add_argument("--changelog", metavar="URL", default=CHANGELOG,
+                        help="where changelogs are; %%s stands for a source's name, %%v for its version without the "
+                             "epoch, %%p for its folder in a pool (%(default)s)")
+    parser.add_argument("--maintainers", metavar="FILE",
+                        help="who maintains each source: paragraphs of Sources, or lines SOURCE<TAB>NAME <MAIL>")
+    parser.add_argument("--address", metavar="URL", default="",
+                        help="where the pages are read, for the links and identifiers of feeds")
     parser.add_argument("--state", metavar="FOLDER", help="where fetched reports are kept (FOLDER/.state)")
     parser.add_argument("--why-seconds", metavar="N", type=seconds_of, default=SECONDS,
                         help="how long the office is asked at most why sources don't move (%(default)s)")
@@ -83,27 +100,45 @@ def main(words: Sequence[str]) -> int:
     """Fetches what is new, and writes the pages that changed."""
     asked = words_of(words)
     office = office_of(asked)
-    if "%s" not in asked.bugs:
-        raise Fault(f"--bugs {asked.bugs}: %s is missing, which stands for a bug's number", WRONG_WORDS)
+    patterns, extras = patterns_of(asked), extras_of(asked)
     if not os.path.isdir(asked.folder):
         raise Fault(f"{asked.folder}: there is no such folder")
     try:
-        make(office, asked.folder, asked.state or os.path.join(asked.folder, ".state"), asked)
+        make(office, asked.folder, asked.state or os.path.join(asked.folder, ".state"),
+             (patterns, extras), asked.why_seconds)
     except OSError as fault:
         raise Fault(f"{fault.filename or asked.folder}: {cause_of(fault)}") from fault
     return 0
 
 
-def make(office: Office, folder: str, kept: str, asked: argparse.Namespace) -> None:
+def patterns_of(asked: argparse.Namespace) -> Patterns:
+    """The patterns of links that the words state."""
+    patterns = Patterns(asked.bugs, asked.tracker, asked.builds, asked.changelog)
+    for word, pattern in vars(patterns).items():
+        if pattern and "%s" not in pattern:
+            stands = "a bug's number" if word == "bugs" else "a source's name"
+            raise Fault(f"--{word} {pattern}: %s is missing, which stands for {stands}", WRONG_WORDS)
+    return patterns
+
+
+def extras_of(asked: argparse.Namespace) -> Extras:
+    """The address of the pages, and who maintains what by a file."""
+    address = asked.address if not asked.address or asked.address.endswith("/") else asked.address + "/"
+    people = read_people(asked.maintainers) if asked.maintainers else {}
+    return Extras(address, people, hashlib.blake2b(repr(people).encode(), digest_size=16).hexdigest())
+
+
+def make(office: Office, folder: str, kept: str, look: tuple[Patterns, Extras], why_seconds: float) -> None:
     """Fetches what is new into the folder of what is kept, and writes the pages that changed."""
     os.makedirs(kept, exist_ok=True)
     with alone(kept), contextlib.closing(State(os.path.join(kept, "state.db"))) as state:
         newest = fetch(office, state)
         if newest is None:
             return
+        read_mail(office, state, newest.number, time.monotonic() + why_seconds)
         # The pages of a new run are there before sources are asked about, which takes longer.
-        site = Site(folder, state, asked.bugs)
+        site = Site(folder, state, *look)
         site.build(newest)
-        names = fetch_answers(office, state, newest, asked.why_seconds)
+        names = fetch_answers(office, state, newest, why_seconds)
         if names:
             site.build_answers(newest, names)

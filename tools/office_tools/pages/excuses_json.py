@@ -5,12 +5,8 @@ from typing import Any, Mapping, Sequence
 
 from office_tools.pages.outcomes import NOTHING, outcomes_of, reason_words, SourceOutcome
 from office_tools.pages.sentences import excuse_sentences, old_enough, outcome_sentence
+from office_tools.pages.verdicts import APPROVAL, PASS, PERMANENTLY, TEMPORARILY, verdict
 from office_tools.reports import Excuse, Excuses, ReasonKind, Update
-
-PASS = "PASS"
-APPROVAL = "REJECTED_NEEDS_APPROVAL"
-TEMPORARILY = "REJECTED_TEMPORARILY"
-PERMANENTLY = "REJECTED_PERMANENTLY"
 
 
 def excuses_json(excuses: Excuses, update: Update, made: str) -> str:
@@ -43,7 +39,7 @@ def source_json(excuse: Excuse, outcomes: Sequence[SourceOutcome], date: datetim
         "age-days-needed": excuse.needed,
         "reason": [reason.text for reason in excuse.reasons],
         "reasons": words,
-        "migration-policy-verdict": verdict(set(words)),
+        "migration-policy-verdict": verdict(words),
         "policy_info": policies(excuse),
         "outcome": outcomes[-1].as_json(),
         "excuses": told_of(excuse, outcomes)}
@@ -58,15 +54,6 @@ def told_of(excuse: Excuse, outcomes: Sequence[SourceOutcome]) -> list[str]:
     """The sentences that `grep-excuses` prints."""
     told = [*excuse_sentences(excuse), "A candidate" if excuse.is_candidate else "Not a candidate"]
     return told + [sentence for sentence in map(outcome_sentence, outcomes) if sentence]
-
-
-def verdict(words: set[str]) -> str:
-    """What keeps a source out: nothing, the release team, time alone, or what its maintainer has to mend."""
-    if not words:
-        return PASS
-    if "block" in words:
-        return APPROVAL
-    return TEMPORARILY if words == {"age"} else PERMANENTLY
 
 
 def policies(excuse: Excuse) -> Mapping[str, Any]:

@@ -9,12 +9,12 @@ from office_tools import reports
 from office_tools.faults import Fault, tell
 from office_tools.pages.offices import finished_in, NAME, Office
 from office_tools.pages.outcomes import NOTHING, outcome_in, outcomes_of, SourceOutcome, What
-from office_tools.pages.state import Event, KeptRun, Proposal, State, Why
+from office_tools.pages.state import Event, KeptRun, Proposal, SentHint, State, Why
 from office_tools.pages.told import behind_excuse
 from office_tools.reports import Excuse
 
 AT_ONCE = 100  # answers about sources that are kept at once
-HINTS, PROPOSED = "hints", "proposed"  # what is kept as it was told
+HINTS, PROPOSED, NEXT_HINT = "hints", "proposed", "next hint"  # what is kept as it was told
 TURNS = 3  # how often testing is asked for, if a run is finished between two questions
 
 
@@ -46,8 +46,9 @@ def fetch(office: Office, state: State) -> Optional[Newest]:
             return None
         newest = read_run(state.run(state.runs()[-1].number))
         if fetch_testing(office, state, newest.number):
-            fetch_hints(office, state)
             fetch_told(office, state, newest.number)
+            fetch_hints(office, state)
+            fetch_unstable(office, state, newest.number)
             return newest
     raise Fault(f"a run was finished between two questions, {TURNS} times in a row")
 
@@ -133,6 +134,10 @@ def fetch_told(office: Office, state: State, newest: int) -> None:
     hints = office.hints()
     if hints is not None:
         state.keep_told(HINTS, newest, hints)
+        read = reports.read_hints(hints)
+        state.ask_hints({item.number for item in read.items})
+        label = office.next_hint(read.sender) if read.sender else None
+        state.keep_told(NEXT_HINT, newest, f"{label.sender} {label.number}" if label else "")
     proposed = state.told(PROPOSED)
     if proposed is None or proposed[0] != newest:
         told = office.proposed()
@@ -144,6 +149,16 @@ def without_age(excuse: Excuse) -> str:
     """What an excuse says but for its age, which changes from day to day."""
     return " ".join([excuse.testing or "-", excuse.unstable, str(excuse.needed),
                      *(reason.text for reason in excuse.reasons)])
+
+
+def fetch_unstable(office: Office, state: State, newest: int) -> None:
+    """Keeps what is in unstable, once a run. What is told behind a later run waits for the next call."""
+    kept = state.unstable()
+    if kept is not None and kept[0] == newest:
+        return
+    told = office.unstable()
+    if told is not None and told.startswith(f"unstable {newest}\n"):
+        state.keep_unstable(newest, told)
 
 
 def sources_to_ask(newest: Newest, whys: Mapping[str, Why]) -> Sequence[str]:
@@ -228,8 +243,8 @@ def keep_answers(state: State, whys: Mapping[str, Why]) -> None:
 
 
 def fetch_hints(office: Office, state: State) -> None:
-    """Asks for the text of each hint that is wanted, once."""
-    found = {number: office.hint(number) or "" for number in state.wanted_hints()}
+    """Asks for each hint that is wanted, once."""
+    found = {number: office.hint(number) or SentHint() for number in state.wanted_hints()}
     if found:
         state.keep_hints(found)
 

@@ -2,14 +2,15 @@
 import http.client
 import re
 import time
-from typing import Iterator, Mapping, Optional, Protocol, Sequence
+from typing import Iterable, Iterator, Mapping, Optional, Protocol, Sequence
 
-from office_tools import program, reports
+from office_tools import bags, program, reports
 from office_tools.faults import Fault, tell
 from office_tools.files import read_bytes
-from office_tools.messages import Kind, kind_of, paragraphs
+from office_tools.messages import Kind, kind_of, Label, label_of, paragraphs
 from office_tools.pages.outcomes import run_of
-from office_tools.service import NO_ROUTE, Service
+from office_tools.pages.state import SentHint
+from office_tools.service import kept_in, NO_ROUTE, Service
 
 NAME = "office-pages"
 AT_ONCE = 100  # sources about which the program is asked by one command, which opens the store once
@@ -30,11 +31,23 @@ class Office(Protocol):
     def testing(self) -> Optional[str]:
         """What is in testing, where it can be had."""
 
+    def unstable(self) -> Optional[str]:
+        """What the next run sees of unstable over all mail that is kept without a gap, where it can be had."""
+
+    def kept_mail(self) -> Optional[Mapping[str, int]]:
+        """Up to which number the mail of each sender is kept without a gap, in the setup's order, if it can be had."""
+
+    def letters(self, sender: str, first: int, last: int) -> Iterator[tuple[int, bytes]]:
+        """The messages of a sender from one number to another, between which none is missing."""
+
     def why(self, sources: Sequence[str], until: float) -> Iterator[tuple[str, str]]:
         """Of each source in turn what the last run says of it. None is asked about after that time (`monotonic`)."""
 
-    def hint(self, number: int) -> Optional[str]:
-        """The text of a hint of the release team, where it can be had."""
+    def hint(self, number: int) -> Optional[SentHint]:
+        """A hint of the release team, where it can be had."""
+
+    def next_hint(self, sender: str) -> Optional[Label]:
+        """The first number behind all that the release team sent, where it can be had."""
 
     def hints(self) -> Optional[str]:
         """The hints in force, where they can be had."""
@@ -63,21 +76,45 @@ class ServiceOffice:
     def testing(self) -> Optional[str]:
         return self.service.good_text("/testing")
 
+    def unstable(self) -> Optional[str]:
+        return self.newer("/unstable")
+
+    def kept_mail(self) -> Optional[Mapping[str, int]]:
+        return {sender: kept.unbroken for sender, kept in self.service.kept().items()}
+
+    def letters(self, sender: str, first: int, last: int) -> Iterator[tuple[int, bytes]]:
+        while first <= last:
+            path = f"/bag/{sender}/{first}"
+            reply = self.service.get(path)
+            if reply.status == http.client.NOT_FOUND and reply.text == NO_ROUTE:
+                return
+            if not reply.is_good:
+                raise self.service.bad(path, reply)
+            texts = list(bags.messages_in(reply.body))
+            if not texts:
+                return
+            yield from ((first + place, text) for place, text in enumerate(texts) if first + place <= last)
+            first += len(texts)
+
     def why(self, sources: Sequence[str], until: float) -> Iterator[tuple[str, str]]:
         for source in sources:
             if time.monotonic() >= until:
                 return
             yield source, self.service.good_text(f"/why/{source}")
 
-    def hint(self, number: int) -> Optional[str]:
+    def hint(self, number: int) -> Optional[SentHint]:
         # No route names the sender of hints, so each sender is asked until one has a hint under the number.
         for sender in [self.release] if self.release else self.service.kept():
             text = self.service.kept_text(sender, number)
-            wish = hint_in(text) if text is not None else None
-            if wish is not None:
+            hint = hint_in(text) if text is not None else None
+            if hint is not None:
                 self.release = sender
-                return wish
+                return hint
         return None
+
+    def next_hint(self, sender: str) -> Optional[Label]:
+        kept = self.service.kept().get(sender)
+        return Label(sender, kept.greatest + 1) if kept else None
 
     def hints(self) -> Optional[str]:
         return self.newer("/hints")
@@ -100,10 +137,12 @@ class ServiceOffice:
         return None
 
 
-def hint_in(text: bytes) -> Optional[str]:
-    """What a message asks for, where it is a hint."""
+def hint_in(text: bytes) -> Optional[SentHint]:
+    """A message as a hint, where it is one. Its fields `By` and `Comment` are for people: the office reads neither."""
     for paragraph in paragraphs(text):
-        return paragraph.value("Hint") if kind_of(paragraph) is Kind.HINT else None
+        if kind_of(paragraph) is Kind.HINT:
+            return SentHint(*(" ".join((paragraph.value(name) or "").split()) for name in ("Hint", "By", "Comment")))
+        break
     return None
 
 
@@ -112,7 +151,8 @@ class StoreOffice:
 
     def __init__(self, setup: str, store: str) -> None:
         self.options = ["--conf", setup, "--db", store]
-        self.wishes: Optional[Mapping[int, str]] = None
+        self.sent: Optional[Mapping[int, SentHint]] = None
+        self.mail: Optional[dict[str, dict[int, bytes]]] = None
 
     def told(self, *words: str) -> str:
         """What a command of the program prints."""
@@ -130,6 +170,26 @@ class StoreOffice:
     def testing(self) -> Optional[str]:
         return self.told("report", "testing")
 
+    def unstable(self) -> Optional[str]:
+        return self.told("report", "unstable")
+
+    def kept_mail(self) -> Optional[Mapping[str, int]]:
+        return {sender: kept.unbroken for sender, kept in kept_in(self.told("mail")).items()}
+
+    def letters(self, sender: str, first: int, last: int) -> Iterator[tuple[int, bytes]]:
+        found = self.all_mail().get(sender, {})
+        return ((number, found[number]) for number in range(first, last + 1) if number in found)
+
+    def all_mail(self) -> Mapping[str, Mapping[int, bytes]]:
+        """All kept mail, which is printed once, by sender and number."""
+        if self.mail is None:
+            self.mail = {}
+            for text in bags.messages_in(program.output(["export", *self.options])):
+                label = label_of(text)
+                if label is not None:
+                    self.mail.setdefault(label.sender, {})[label.number] = text
+        return self.mail
+
     def why(self, sources: Sequence[str], until: float) -> Iterator[tuple[str, str]]:
         for place in range(0, len(sources), AT_ONCE):
             if time.monotonic() >= until:
@@ -141,11 +201,14 @@ class StoreOffice:
                 if len(head) == 3:
                     yield head[2], part
 
-    def hint(self, number: int) -> Optional[str]:
-        if self.wishes is None:
-            found = re.finditer(r"(?m)^\S+ (\d+) hint (.+)$", self.told("mail", "--list"))
-            self.wishes = {int(match[1]): match[2] for match in found}
-        return self.wishes.get(number)
+    def hint(self, number: int) -> Optional[SentHint]:
+        if self.sent is None:
+            self.sent = dict(hints_in(text for of in self.all_mail().values() for text in of.values()))
+        return self.sent.get(number)
+
+    def next_hint(self, sender: str) -> Optional[Label]:
+        kept = kept_in(self.told("mail")).get(sender)
+        return Label(sender, kept.greatest + 1) if kept else None
 
     def hints(self) -> Optional[str]:
         return self.told("hints")
@@ -154,6 +217,16 @@ class StoreOffice:
         # If nothing is proposed, or the source isn't freed, the status is 1.
         ran = program.run(["propose", *([source] if source else []), *self.options])
         return ran.stdout.decode() if ran.returncode in (0, 1) else None
+
+
+def hints_in(texts: Iterable[bytes]) -> Iterator[tuple[int, SentHint]]:
+    """The hints among messages, by their numbers."""
+    for text in texts:
+        # Most messages are builds, which take far longer to read.
+        if b"hint" in text.lower():
+            label, hint = label_of(text), hint_in(text)
+            if label and hint:
+                yield label.number, hint
 
 
 class FileOffice:
@@ -184,10 +257,22 @@ class FileOffice:
     def testing(self) -> Optional[str]:
         return self.in_testing
 
+    def unstable(self) -> Optional[str]:
+        return None
+
+    def kept_mail(self) -> Optional[Mapping[str, int]]:
+        return None
+
+    def letters(self, sender: str, first: int, last: int) -> Iterator[tuple[int, bytes]]:
+        return iter(())
+
     def why(self, sources: Sequence[str], until: float) -> Iterator[tuple[str, str]]:
         return iter(())
 
-    def hint(self, number: int) -> Optional[str]:
+    def hint(self, number: int) -> Optional[SentHint]:
+        return None
+
+    def next_hint(self, sender: str) -> Optional[Label]:
         return None
 
     def hints(self) -> Optional[str]:

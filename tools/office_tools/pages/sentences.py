@@ -3,7 +3,7 @@ import datetime
 from typing import Mapping, Sequence
 
 from office_tools.pages.outcomes import SourceOutcome, What
-from office_tools.reports import Excuse, Offender, Reason, ReasonKind, Word
+from office_tools.reports import Change, Excuse, Offender, Reason, ReasonKind, Word
 
 REASON_TITLES: Mapping[str, str] = {
     "age": "too young",
@@ -18,6 +18,11 @@ OUTCOME_TITLES: Mapping[str, str] = {
     "refused": "a hint for it was refused",
     "removed": "removed from testing",
     "none": "nothing was tried"}
+
+LIST_TITLES: Mapping[str, str] = {
+    **REASON_TITLES, **OUTCOME_TITLES, "young": "too young, and nothing else", "rejected": "something to mend",
+    "gone": "taken out of the archive"}
+"""What the lists of sources that don't move are called."""
 
 
 def reason_sentence(reason: Reason, excuse: Excuse) -> str:
@@ -46,6 +51,14 @@ def excuse_sentences(excuse: Excuse) -> Sequence[str]:
 def breaks(offender: Offender) -> str:
     """What speaks against a change."""
     return f"would leave {offender.package} uninstallable on {offender.architecture}"
+
+
+def refused_because(change: Change) -> str:
+    """Why a run refused a hint."""
+    if change.offender is not None:
+        return "it " + breaks(change.offender)
+    item = change.items[0]
+    return f"{item.source} {item.version} isn't a candidate"
 
 
 def outcome_sentence(outcome: SourceOutcome) -> str:

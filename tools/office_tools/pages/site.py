@@ -4,39 +4,36 @@ All that changed is written into a folder beside, and then moved file by file: s
 new ones, and a call that is ended in the middle leaves whole ones.
 """
 import contextlib
+import ctypes
 import dataclasses
 import hashlib
 import os
 import re
 import shutil
 from dataclasses import dataclass
-from typing import Any, Callable, Collection, Iterable, Iterator, Mapping, Optional, Sequence, TypeVar
+from typing import Any, Collection, Iterable, Iterator, Mapping, Optional, Sequence
 
 import jinja2
 
-from office_tools.pages import views
+from office_tools.pages import hints, mending, names, verdicts, views
 from office_tools.pages.excuses_json import excuses_json
 from office_tools.pages.fetching import Newest, read_run
+from office_tools.pages.change_pages import Feeds
+from office_tools.pages.day_pages import glance
+from office_tools.pages.kept_mail import KeptMail
+from office_tools.pages.more_pages import Extras, More
 from office_tools.pages.outcomes import counted, reason_words
-from office_tools.pages.sentences import OUTCOME_TITLES, REASON_TITLES
+from office_tools.pages.parts import parts_of, row_texts
+from office_tools.pages.patterns import Patterns
+from office_tools.pages.sections import SectionPage, written
+from office_tools.pages.sentences import LIST_TITLES, REASON_TITLES
 from office_tools.pages.state import State
 from office_tools.pages.told import Line, shortened
 from office_tools.reports import Outcome, Word
 
-ROWS = 5000  # rows of one page: a list that is longer has several
 NEWEST = 20  # runs on the first page
-OFFENDERS = 15  # packages on the first page
-Of = TypeVar("Of")
+OFFENDERS = 15  # what has to be mended on the first page
 HERE = os.path.dirname(os.path.realpath(__file__))
-
-
-@dataclass(frozen=True)
-class Part:
-    """A part of a list in the view of one of them: its page, what it is called, and whether it is that one."""
-
-    link: str
-    title: str
-    is_here: bool
 
 
 @dataclass(frozen=True)
@@ -58,6 +55,15 @@ class Hint:
 
 
 @dataclass(frozen=True)
+class InTesting:
+    """A source in testing: its version, and its packages."""
+
+    name: str
+    version: str
+    binaries: Sequence[str]
+
+
+@dataclass(frozen=True)
 class Moved:
     """A source that moved or waits in a run: its version before and behind."""
 
@@ -71,22 +77,25 @@ class Moved:
 class Site:
     """The folder of the pages."""
 
-    def __init__(self, folder: str, state: State, bugs: str) -> None:
-        self.folder, self.state, self.bugs = folder, state, bugs
+    def __init__(self, folder: str, state: State, patterns: Patterns, extras: Extras = Extras()) -> None:
+        self.folder, self.state, self.patterns, self.extras = folder, state, patterns, extras
         self.templates = jinja2.Environment(
             loader=jinja2.FileSystemLoader(os.path.join(HERE, "templates")), autoescape=True, trim_blocks=True,
             lstrip_blocks=True, auto_reload=False, keep_trailing_newline=True, undefined=jinja2.StrictUndefined)
-        self.look = digest_of([self.bugs, *map(repr, own_files())])
+        self.rows: Any = self.templates.get_template("rows.html").module
+        self.look = digest_of([repr(self.patterns), self.extras.address, *map(repr, own_files())])
         self.facts: Optional[views.Facts] = None
         self.digests = state.digests()
         self.digests_now: dict[str, str] = {}
         self.beside = os.path.join(folder, ".new")
         shutil.rmtree(self.beside, ignore_errors=True)
         self.written: list[str] = []
+        self.folders: set[str] = set()
 
     def build(self, newest: Newest) -> None:
         """Writes all pages that changed, and takes away those that there is no reason for any more."""
-        if self.state.built() == self.look and os.path.exists(os.path.join(self.folder, "index.html")):
+        is_there = os.path.exists(os.path.join(self.folder, "index.html"))
+        if is_there and self.state.built() == self.look + self.extras.digest:
             return
         facts = self.facts_of(newest)
         self.digests_now = {}
@@ -94,9 +103,11 @@ class Site:
         self.write_sources(facts, facts.names)
         self.write_runs(facts)
         self.write_testing(facts)
-        self.put("hints.html", self.page("hints.html", {
-            "run": newest.kept.run, "rows": views.standing_rows(facts, facts.links("source/")), "up": ""}))
+        self.write_names(facts)
+        self.write_hints(facts)
         self.put("excuses.json", excuses_json(newest.excuses, newest.update, newest.kept.fetched).encode())
+        more = More(facts, self.state, self.extras)
+        self.write_more(more.pages(), more.files())
         self.write_lists(facts)
         self.move_all()
 
@@ -105,14 +116,17 @@ class Site:
         facts = dataclasses.replace(self.facts_of(newest), whys=self.state.whys(), hints=self.state.hints(),
                                     proposals=self.state.proposals())
         self.digests_now = dict(self.digests)
-        self.write_sources(facts, names)
+        self.write_sources(facts, facts.waits.touched.intersection(facts.names).union(names))
+        more = More(facts, self.state, self.extras)
+        self.write_more(more.answered_pages(), more.answered_files())
         self.write_lists(facts)
         self.move_all()
 
     def facts_of(self, newest: Newest) -> views.Facts:
         """All that is kept, read once."""
         if self.facts is None:
-            self.facts = views.facts_of(self.state, newest, self.bugs)
+            people = {**KeptMail(self.state).people(), **self.extras.people}
+            self.facts = dataclasses.replace(views.facts_of(self.state, newest, self.patterns), people=people)
         return self.facts
 
     def put(self, path: str, data: bytes) -> None:
@@ -124,10 +138,10 @@ class Site:
                     return
         except FileNotFoundError:
             pass
-        if not self.written:
-            for folder in "source", "run":
-                os.makedirs(os.path.join(self.beside, folder), exist_ok=True)
-                os.makedirs(os.path.join(self.folder, folder), exist_ok=True)
+        for folder in {"", os.path.dirname(path)} - self.folders:
+            os.makedirs(os.path.join(self.beside, folder), exist_ok=True)
+            os.makedirs(os.path.join(self.folder, folder), exist_ok=True)
+            self.folders.add(folder)
         with open(os.path.join(self.beside, path), "wb") as file:
             file.write(data)
         self.written.append(path)
@@ -145,7 +159,7 @@ class Site:
         if self.written:
             # From here on a later call knows them as pages that it may remove.
             self.state.keep_digests({path: "" for path in self.written})
-            os.sync()
+            sync(self.folder)
         for path in self.written:
             self.move(path)
         gone = sorted(set(self.digests) - set(self.digests_now))
@@ -154,8 +168,8 @@ class Site:
                 os.unlink(os.path.join(self.folder, path))
         changed = {path for path, digest in self.digests_now.items() if self.digests.get(path) != digest}
         self.state.keep_digests({path: self.digests_now[path] for path in changed.union(self.written)}, gone)
-        self.state.keep_built(self.look)
-        self.digests, self.written = self.digests_now, []
+        self.state.keep_built(self.look + self.extras.digest)
+        self.digests, self.written, self.folders = self.digests_now, [], set()
         shutil.rmtree(self.beside, ignore_errors=True)
 
     def move(self, path: str) -> None:
@@ -174,13 +188,18 @@ class Site:
 
     def write_sources(self, facts: views.Facts, names: Collection[str]) -> None:
         """A page of each of these sources."""
-        links = facts.links("")
+        links, feeds = facts.links(""), Feeds(facts, self.extras.address)
         for name in sorted(names):
             source = views.source_of(facts, name, links)
             path, digest = f"source/{name}.html", digest_of([self.look, repr(source)])
+            if source.has_feed:
+                self.digests_now.setdefault(f"source/{name}.xml", "")
             if not self.is_there(path, digest):
-                history = views.history_of(facts, self.state.events(name))
-                self.put(path, self.page("source.html", {"source": source, "history": history, "up": "../"}))
+                events = self.state.events(name)
+                history = views.history_of(facts, events)
+                self.put(path, self.page("source_more.html", {"source": source, "history": history, "up": "../"}))
+                if source.has_feed:
+                    self.put(f"source/{name}.xml", feeds.of_source(name, events))
             self.digests_now[path] = digest
 
     def write_runs(self, facts: views.Facts) -> None:
@@ -208,59 +227,99 @@ class Site:
         run = read.kept.run
         counts = counted(map(reason_words, read.excuses.excuses))
         values = {**values, "run": run, "hints": hints_of(facts, read), "up": "../",
-                  "counts": [(REASON_TITLES[word], count) for word, count in counts.items()]}
-        for parts, rows in parts_of(str(run.number), moved_in(read), lambda row: row.name):
-            here = next(part for part in parts if part.is_here)
-            self.put(f"run/{here.link}", self.page("run.html", {
-                **values, "rows": rows, "list": parts, "is_first": parts[0].is_here}))
+                  "counts": [(word, REASON_TITLES[word], count) for word, count in counts.items()]}
+        rows = row_texts(moved_in(read), lambda row: row.name, self.rows.moved)
+        for link, parts, shown in parts_of(str(run.number), rows):
+            self.put(f"run/{link}", self.page("run.html", {
+                **values, "rows": shown, "list": parts, "is_first": parts[0].is_here}))
 
     def write_testing(self, facts: views.Facts) -> None:
         """What is in testing."""
         sources = facts.testing.sources if facts.testing else {}
-        rows = [(name, version, facts.binaries.get(name, ())) for name, version in sources.items()]
-        for parts, some in parts_of("testing", rows, lambda row: row[0]):
-            here = next(part for part in parts if part.is_here)
-            self.put(here.link, self.page("testing.html", {
-                "run": facts.newest.kept.run, "rows": some, "list": parts, "number": len(rows), "up": "",
+        rows = row_texts([InTesting(name, version, facts.binaries.get(name, ())) for name, version in sources.items()],
+                         lambda row: row.name, self.rows.standing)
+        for link, parts, shown in parts_of("testing", rows):
+            self.put(link, self.page("testing.html", {
+                "run": facts.newest.kept.run, "rows": shown, "list": parts, "number": len(rows), "up": "",
                 "is_known": facts.testing is not None}))
 
-    def write_lists(self, facts: views.Facts) -> None:
-        """The sources that don't move, all of them and by each reason and outcome, and last the first page."""
-        rows = views.rows_of(facts)
-        run = facts.newest.kept.run
-        titles = {**REASON_TITLES, **OUTCOME_TITLES}
-        some = {word: [row for row in rows if word in row.words] for word in titles}
-        counts = [Count("excuses.html", "all", len(rows))]
-        counts += [Count(f"excuses-{word}.html", title, len(some[word])) for word, title in titles.items()]
-        some[""] = list(rows)
-        for word, of_word in some.items():
-            values = {"run": run, "title": f"Sources that don't move: {titles[word]}" if word else
-                      "Sources that don't move", "number": len(of_word), "lists": counts, "up": "",
-                      "here": f"excuses-{word}.html" if word else "excuses.html",
-                      "reasons": REASON_TITLES, "outcomes": OUTCOME_TITLES}
-            for parts, shown in parts_of(f"excuses-{word}" if word else "excuses", of_word, lambda row: row.name):
-                here = next(part for part in parts if part.is_here)
-                self.put(here.link, self.page("excuses.html", {**values, "rows": shown, "list": parts}))
-        self.write_front(facts, len(rows), counts[1:])
+    def write_more(self, pages: Iterable[SectionPage], files: Iterable[tuple[str, bytes]]) -> None:
+        """Pages of sections, and files beside pages."""
+        for page in pages:
+            for path, data in written(self.templates, page):
+                self.put(path, data)
+        for path, data in files:
+            self.put(path, data)
 
-    def write_front(self, facts: views.Facts, unmoved: int, counts: Sequence[Count]) -> None:
+    def write_hints(self, facts: views.Facts) -> None:
+        """The hints in force, the proposed ones, and those that may be taken back."""
+        shown = hints.shown_hints(facts.standing, facts.hints, facts.refusals, facts.links("source/"))
+        proposed, label = hints.proposed_lines(self.state, facts.newest.number), hints.next_label(self.state)
+        stale = [hint for hint in shown if hint.stale]
+        self.put("hints.html", self.page("hints.html", {
+            "run": facts.newest.kept.run, "hints": shown, "label": label, "is_asked": proposed is not None,
+            "proposed": hints.proposed_copies(proposed or (), label), "lines": proposed,
+            "stale": hints.unhint_copies(stale, label), "up": ""}))
+
+    def write_names(self, facts: views.Facts) -> None:
+        """All names of sources and packages: lists by their beginning, and what the search looks through."""
+        found = names.names_of(facts.names, facts.packages)
+        for path, data in names.index_files(facts.names, facts.packages).items():
+            self.put(path, data)
+        lists = names.by_beginning(found)
+        letters = {letter: f"names-{letter}.html" for letter in lists}
+        values = {"letters": letters.items(), "number": len(found), "up": ""}
+        self.put("names.html", self.page("names.html", {**values, "here": "", "rows": (), "list": ()}))
+        for letter, some in lists.items():
+            rows = row_texts(some, lambda row: row.name, self.rows.name)
+            for link, parts, shown in parts_of(f"names-{letter}", rows):
+                self.put(link, self.page("names.html", {**values, "here": letter, "rows": shown, "list": parts}))
+
+    def write_lists(self, facts: views.Facts) -> None:
+        """The sources that don't move, all of them and by each reason, outcome and verdict, and last the first page."""
+        rows = views.rows_of(facts)
+        texts = {row.name: row for row in row_texts(rows, lambda row: row.name, self.rows.excuse)}
+        some = {word: [row for row in rows if word in row.words] for word in LIST_TITLES}
+        some[""] = [row for row in rows if verdicts.GONE not in row.words]
+        counts = {word: Count(list_link(word), LIST_TITLES.get(word, "all"), len(some[word]))
+                  for word in ("", *LIST_TITLES)}
+        for word, of_word in some.items():
+            values = {"run": facts.newest.kept.run, "word": word, "number": len(of_word), "lists": counts.values(),
+                      "title": f"Sources that don't move: {LIST_TITLES[word]}" if word else "Sources that don't move",
+                      "up": "", "here": list_link(word), "reasons": REASON_TITLES, "verdicts": verdicts.TITLES}
+            for link, parts, shown in parts_of(list_link(word).removesuffix(".html"),
+                                               [texts[row.name] for row in of_word]):
+                self.put(link, self.page("excuses.html", {**values, "rows": shown, "list": parts}))
+        self.write_front(facts, counts)
+
+    def write_front(self, facts: views.Facts, counts: Mapping[str, Count]) -> None:
         """The first page."""
-        offenders = views.offenders_of(facts, facts.links("source/"))
-        run = facts.newest.kept.run
-        self.put("index.html", self.page("front.html", {
-            "run": run, "unmoved": unmoved, "moved": run.excuses - unmoved, "fetched": facts.newest.kept.fetched,
-            "counts": counts, "offenders": offenders[:OFFENDERS], "more_offenders": len(offenders[OFFENDERS:]),
+        links = facts.links("source/")
+        run, found = facts.newest.kept.run, mending.mending_of(facts, links)
+        is_asked = found.ranked or found.grouped
+        self.put("index.html", self.page("front_more.html", {
+            "glance": glance(facts),
+            "run": run, "counts": counts, "moved": run.excuses - counts[""].number - counts[verdicts.GONE].number,
+            "fetched": facts.newest.kept.fetched, "refused": facts.refusals, "reasons": REASON_TITLES,
+            "verdicts": {word: (counts[verdicts.LISTS[word]], title) for word, title in verdicts.TITLES.items()},
+            "mending": found, "most": OFFENDERS,
+            "offenders": [] if is_asked else views.offenders_of(facts, links)[:OFFENDERS],
             "runs": facts.runs[:-NEWEST - 1:-1], "up": ""}))
 
 
-def parts_of(name: str, rows: Sequence[Of],
-             named: Callable[[Of], str]) -> Iterator[tuple[Sequence[Part], Sequence[Of]]]:
-    """The parts of a list, with the rows of each, of which there is one at least."""
-    cut = [rows[place:place + ROWS] for place in range(0, len(rows), ROWS)] or [rows]
-    titles = [f"{named(some[0])} to {named(some[-1])}" if some else "" for some in cut]
-    links = [f"{name}.html", *(f"{name}-{number}.html" for number in range(2, len(cut) + 1))]
-    for place, some in enumerate(cut):
-        yield [Part(link, title, other == place) for other, (link, title) in enumerate(zip(links, titles))], some
+def sync(folder: str) -> None:
+    """Writes what the file system of a folder holds to its disk, and waits for no other disk of the machine."""
+    number = os.open(folder, os.O_RDONLY)
+    try:
+        if ctypes.CDLL(None, use_errno=True).syncfs(number):
+            raise OSError(ctypes.get_errno(), os.strerror(ctypes.get_errno()), folder)
+    finally:
+        os.close(number)
+
+
+def list_link(word: str) -> str:
+    """The page of a list of sources that don't move; that of all has an empty word."""
+    return f"excuses-{word}.html" if word else "excuses.html"
 
 
 def hints_of(facts: views.Facts, read: Newest) -> Sequence[Hint]:
@@ -271,7 +330,7 @@ def hints_of(facts: views.Facts, read: Newest) -> Sequence[Hint]:
         if change.hint is None:
             continue
         outcome = views.change_line(change, links)
-        text = facts.hints.get(change.hint, "") or " ".join(
+        text = facts.hint_texts.get(change.hint, "") or " ".join(
             f"{item.source}/{item.version}" for item in change.items)
         found.append(Hint(f"{change.word.value.capitalize()} hint {change.hint}", shortened(text), outcome))
     return found

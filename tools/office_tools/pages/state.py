@@ -14,7 +14,7 @@ from typing import Iterable, Iterator, Mapping, Optional, Sequence
 from office_tools.faults import Fault
 from office_tools.reports import Run
 
-SCHEMA = 2
+SCHEMA = 3
 
 TABLES = """
 CREATE TABLE run (number INTEGER PRIMARY KEY, line TEXT NOT NULL, fetched TEXT NOT NULL, excuses BLOB NOT NULL,
@@ -24,14 +24,27 @@ CREATE TABLE event (source TEXT NOT NULL, run INTEGER NOT NULL, testing TEXT NOT
 CREATE TABLE last (source TEXT PRIMARY KEY, run INTEGER NOT NULL, testing TEXT NOT NULL, unstable TEXT NOT NULL,
     reasons TEXT NOT NULL, outcome TEXT NOT NULL) STRICT, WITHOUT ROWID;
 CREATE TABLE testing (run INTEGER PRIMARY KEY, told BLOB NOT NULL) STRICT;
+CREATE TABLE unstable (run INTEGER PRIMARY KEY, told BLOB NOT NULL) STRICT;
 CREATE TABLE why (source TEXT PRIMARY KEY, run INTEGER NOT NULL, since INTEGER NOT NULL, excuse TEXT NOT NULL,
     told TEXT NOT NULL) STRICT;
 CREATE TABLE told (name TEXT PRIMARY KEY, run INTEGER NOT NULL, told TEXT NOT NULL) STRICT;
 CREATE TABLE proposal (source TEXT PRIMARY KEY, run INTEGER NOT NULL, excuse TEXT NOT NULL, told TEXT NOT NULL) STRICT;
-CREATE TABLE hint (number INTEGER PRIMARY KEY, told TEXT) STRICT;
+CREATE TABLE hint (number INTEGER PRIMARY KEY, told TEXT, sent_by TEXT NOT NULL DEFAULT '', comment TEXT NOT NULL
+    DEFAULT '') STRICT;
+CREATE TABLE mail_read (sender TEXT PRIMARY KEY, number INTEGER NOT NULL) STRICT, WITHOUT ROWID;
+CREATE TABLE paragraph (package TEXT NOT NULL, architecture TEXT NOT NULL, version TEXT NOT NULL,
+    place INTEGER NOT NULL, source TEXT NOT NULL, source_version TEXT NOT NULL, relation INTEGER NOT NULL,
+    provides TEXT NOT NULL, PRIMARY KEY (package, architecture, version)) STRICT, WITHOUT ROWID;
+CREATE INDEX paragraph_relation ON paragraph (relation);
+CREATE TABLE relation (id INTEGER PRIMARY KEY, clauses TEXT NOT NULL) STRICT;
+CREATE TABLE need (name TEXT NOT NULL, relation INTEGER NOT NULL, PRIMARY KEY (name, relation)) STRICT, WITHOUT ROWID;
+CREATE TABLE person (source TEXT PRIMARY KEY, maintainer TEXT NOT NULL, uploaders TEXT NOT NULL) STRICT, WITHOUT ROWID;
 CREATE TABLE page (path TEXT PRIMARY KEY, digest TEXT NOT NULL) STRICT;
 CREATE TABLE built (made_by TEXT NOT NULL) STRICT;
 """
+
+MAIL_TABLES = ("mail_read", "paragraph", "relation", "need", "person")
+"""What is read of the kept mail."""
 
 
 @dataclass(frozen=True)
@@ -83,6 +96,23 @@ class Proposal:
     run: int
     excuse: str
     told: str
+
+
+@dataclass(frozen=True)
+class SentHint:
+    """A hint as it was sent: what it asks, and who sent it for what, if its fields `By` and `Comment` say so.
+
+    All are empty if its message couldn't be had.
+    """
+
+    text: str = ""
+    by: str = ""
+    comment: str = ""
+
+    @property
+    def note(self) -> str:
+        """Who sent it, and for what."""
+        return ": ".join(filter(None, [self.by, self.comment]))
 
 
 class State:
@@ -143,10 +173,12 @@ class State:
         return KeptRun(run_in(found[0]), found[1], unpacked(found[2]), unpacked(found[3]))
 
     def drop_from(self, number: int) -> None:
-        """Drops all runs from this one on, and what was asked behind them."""
+        """Drops all runs from this one on, what was asked behind them, and what was read of the mail."""
         with self.transaction():
+            for table in MAIL_TABLES:
+                self.database.execute(f"DELETE FROM {table}")
             self.database.execute("DELETE FROM run WHERE number >= ?", (number,))
-            for table in "event", "last", "testing", "why", "told", "proposal":
+            for table in "event", "last", "testing", "unstable", "why", "told", "proposal":
                 self.database.execute(f"DELETE FROM {table} WHERE run >= ?", (number,))
             # Of the columns beside max(run) SQLite gives those of the row that has it.
             self.database.execute("INSERT OR IGNORE INTO last SELECT source, max(run), testing, unstable, reasons, "
@@ -166,6 +198,12 @@ class State:
             self.want_hints(hints)
             self.database.execute("DELETE FROM built")
 
+    def update(self, number: int) -> str:
+        """The update of a kept run."""
+        with self.faults():
+            found = self.database.execute("SELECT updated FROM run WHERE number = ?", (number,)).fetchone()
+        return unpacked(found[0])
+
     def last_events(self) -> Mapping[str, Event]:
         """The last event of each source."""
         with self.faults():
@@ -178,17 +216,43 @@ class State:
                                           "WHERE source = ? ORDER BY run DESC", (source,))
             return [Event(*parts) for parts in found]
 
+    def events_from(self, run: int) -> Mapping[str, Sequence[Event]]:
+        """The events of each source that has one from this run on, in the order of runs."""
+        found: dict[str, list[Event]] = {}
+        with self.faults():
+            for source, *parts in self.database.execute(
+                    "SELECT source, run, testing, unstable, reasons, outcome FROM event WHERE source IN "
+                    "(SELECT source FROM last WHERE run >= ?) ORDER BY source, run", (run,)):
+                found.setdefault(source, []).append(Event(*parts))
+        return found
+
     def testing(self) -> Optional[tuple[int, str]]:
         """What is in testing after a run, with the run's number."""
-        with self.faults():
-            found = self.database.execute("SELECT run, told FROM testing").fetchone()
-        return (found[0], unpacked(found[1])) if found else None
+        return self.suite("testing")
 
     def keep_testing(self, run: int, told: str) -> None:
         """Keeps what is in testing after a run, in the place of what was kept."""
+        self.keep_suite("testing", run, told)
+
+    def unstable(self) -> Optional[tuple[int, str]]:
+        """What the office said of unstable when this run was the newest one."""
+        return self.suite("unstable")
+
+    def keep_unstable(self, run: int, told: str) -> None:
+        """Keeps what is in unstable, in the place of what was kept."""
+        self.keep_suite("unstable", run, told)
+
+    def suite(self, table: str) -> Optional[tuple[int, str]]:
+        """The text of a suite, and of which run it is."""
+        with self.faults():
+            found = self.database.execute(f"SELECT run, told FROM {table}").fetchone()
+        return (found[0], unpacked(found[1])) if found else None
+
+    def keep_suite(self, table: str, run: int, told: str) -> None:
+        """Keeps the text of a suite."""
         with self.transaction():
-            self.database.execute("DELETE FROM testing")
-            self.database.execute("INSERT INTO testing VALUES (?, ?)", (run, packed(told)))
+            self.database.execute(f"DELETE FROM {table}")
+            self.database.execute(f"INSERT INTO {table} VALUES (?, ?)", (run, packed(told)))
             self.database.execute("DELETE FROM built")
 
     def whys(self) -> Mapping[str, Why]:
@@ -233,7 +297,15 @@ class State:
 
     def want_hints(self, numbers: Iterable[int]) -> None:
         """Keeps within a transaction that the texts of these hints are wanted."""
-        self.database.executemany("INSERT OR IGNORE INTO hint VALUES (?, NULL)", ((number,) for number in numbers))
+        self.database.executemany("INSERT OR IGNORE INTO hint (number) VALUES (?)", ((number,) for number in numbers))
+
+    def ask_hints(self, numbers: Iterable[int]) -> None:
+        """Keeps that these hints are wanted, if some of them aren't known yet."""
+        with self.faults():
+            known = {number for number, in self.database.execute("SELECT number FROM hint")}
+        if not known.issuperset(numbers):
+            with self.transaction():
+                self.want_hints(numbers)
 
     def wanted_hints(self) -> Sequence[int]:
         """The hints whose texts weren't asked for yet."""
@@ -241,15 +313,17 @@ class State:
             found = self.database.execute("SELECT number FROM hint WHERE told IS NULL ORDER BY number").fetchall()
         return [number for number, in found]
 
-    def hints(self) -> Mapping[int, str]:
-        """The texts of hints by their numbers; an empty one couldn't be had."""
+    def hints(self) -> Mapping[int, SentHint]:
+        """Hints by their numbers."""
         with self.faults():
-            return dict(self.database.execute("SELECT number, told FROM hint WHERE told IS NOT NULL").fetchall())
+            found = self.database.execute("SELECT number, told, sent_by, comment FROM hint WHERE told IS NOT NULL")
+            return {number: SentHint(*parts) for number, *parts in found}
 
-    def keep_hints(self, hints: Mapping[int, str]) -> None:
-        """Keeps texts of hints."""
+    def keep_hints(self, hints: Mapping[int, SentHint]) -> None:
+        """Keeps hints."""
         with self.transaction():
-            self.database.executemany("INSERT OR REPLACE INTO hint VALUES (?, ?)", hints.items())
+            self.database.executemany("INSERT OR REPLACE INTO hint VALUES (?, ?, ?, ?)", (
+                (number, hint.text, hint.by, hint.comment) for number, hint in hints.items()))
             self.database.execute("DELETE FROM built")
 
     def digests(self) -> Mapping[str, str]:

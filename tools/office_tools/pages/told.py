@@ -28,13 +28,15 @@ class Line:
 class Links:
     """Where names lead: a source to its page, a package of testing to that of its source, a bug to its tracker.
 
-    Each gives an empty text for a name that leads nowhere. `hints` are the texts of hints by number.
+    Each gives an empty text for a name that leads nowhere. `hints` are the texts of hints by number, and `hint` gives
+    where a hint in force is shown.
     """
 
     source: Callable[[str], str]
     package: Callable[[str], str]
     bug: Callable[[str], str]
     hints: Mapping[int, str]
+    hint: Callable[[int], str]
 
 
 STEP = re.compile(r"(\d+) (\S+ \S+ of )(\S+)( (?:comes in|in testing), needs .*: )(nothing|[^:]*)")

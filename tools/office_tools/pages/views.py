@@ -2,22 +2,36 @@
 import collections
 import datetime
 import functools
-from dataclasses import dataclass
-from typing import Mapping, Optional, Sequence
+import re
+from dataclasses import dataclass, field
+from typing import Callable, Mapping, Optional, Sequence
 
 from office_tools import reports
 from office_tools.pages.fetching import HINTS, PROPOSED, hints_named, Newest, sources_in, without_age
+from office_tools.pages.hints import Refusal, refusals_of
+from office_tools.pages.kept_mail import Person
 from office_tools.pages.outcomes import NOTHING, outcome_in, outcomes_of, reason_words, SourceOutcome, What
-from office_tools.pages.sentences import breaks, old_enough, outcome_sentence, reason_sentence
-from office_tools.pages.state import Event, Proposal, State, Why
+from office_tools.pages.patterns import Patterns
+from office_tools.pages.people import page_of
+from office_tools.pages.sentences import breaks, old_enough, outcome_sentence, reason_sentence, refused_because
+from office_tools.pages.state import Event, Proposal, SentHint, State, Why
 from office_tools.pages.told import Line, linked, lines_of, Links, Piece, shortened
+from office_tools.pages.verdicts import word_of, words_of
+from office_tools.pages.waits import Wait, Waits, sources_of, waits_of
 from office_tools.reports import Excuse, Reason, ReasonKind
 
 HINT_LINES: Mapping[ReasonKind, str] = {
     ReasonKind.TOO_YOUNG: "old enough ", ReasonKind.BLOCKED: "blocked ", ReasonKind.REMOVAL: "removal asked "}
 """What the lines begin with that name the hints behind a reason."""
 
+BLOCK_ALL = "block-all"
+ASKING: Mapping[str, ReasonKind] = {
+    "block": ReasonKind.BLOCKED, BLOCK_ALL: ReasonKind.BLOCKED, "remove": ReasonKind.REMOVAL}
+"""The reason that a hint of these words gives."""
+
+MOST_WAITING = 100  # sources on the page of one that they wait for
 NO_GROUP = "No hint: the office found no group that frees it."
+NOT_ASKED = "Not asked yet: a later call asks."
 
 
 @dataclass(frozen=True)
@@ -28,7 +42,7 @@ class Standing:
     date: str
     testing: str
     unstable: str
-    told: str
+    told: Sequence[Piece]
     has_moved: bool
 
 
@@ -36,22 +50,31 @@ class Standing:
 class Source:
     """What the page of a source shows.
 
-    `unstable` and `age` are empty where it has no excuse, or moved in the newest run. `told` is what keeps it out, and
-    what the newest run did with it if that was no move. `lines` are what the office answered about it, the
-    same since run `since`. `last` is its last event. What is told here stays the same from run to run as long as the
-    source stands the same.
+    `unstable` and `age` are empty where it has no excuse, or moved in the newest run, and `verdict` where no report of
+    the newest run names it. `told` is what keeps it out, and what the newest run did with it if that was no move.
+    `lines` are what the office answered about it, the same since run `since`. `ways` lead out of the pages. `last` is
+    its last event. `waits` are the sources that it waits for, and `waited` the first of the `waiting` ones that wait
+    for it. `people` are its maintainer and uploaders. It has a feed unless nothing happened to it since the first run.
+    What is told here stays the same from run to run as long as the source stands the same.
     """
 
     name: str
     testing: str
     unstable: str
     age: str
+    verdict: str
     told: Sequence[Line]
     lines: Sequence[Line]
     since: Optional[int]
     proposal: Sequence[str]
     binaries: Sequence[str]
+    ways: Sequence[Piece]
     last: Optional[Event]
+    waits: Sequence[Line] = ()
+    waited: Sequence[Line] = ()
+    waiting: int = 0
+    people: Sequence[Piece] = ()
+    has_feed: bool = False
 
 
 @dataclass(frozen=True)
@@ -65,38 +88,34 @@ class Row:
     needed: int
     day: str
     words: Sequence[str]
+    verdict: str
     told: Sequence[Line]
 
 
 @dataclass(frozen=True)
-class Item:
-    """An item of a hint in force, as the list of hints shows it, and how it stands."""
-
-    number: int
-    words: str
-    is_covered: bool
-    item: Piece
-    standing: str
-
-
-@dataclass(frozen=True)
 class Facts:
-    """All that is kept, read, and what is counted of it once."""
+    """All that is kept, read, and what is counted of it once.
+
+    `standing` are the items of the hints in force, and `refusals` the hints that the newest run refused. `proposed` are
+    the proposed hints by source, if the office was asked for them.
+    """
 
     newest: Newest
     runs: Sequence[reports.Run]
     testing: Optional[reports.Testing]
     last: Mapping[str, Event]
     whys: Mapping[str, Why]
-    hints: Mapping[int, str]
+    hints: Mapping[int, SentHint]
     standing: Sequence[reports.HintItem]
-    proposed: Mapping[str, str]
+    refusals: Mapping[int, Refusal]
+    proposed: Optional[Mapping[str, str]]
     proposals: Mapping[str, Proposal]
-    bugs: str
+    patterns: Patterns
     outcomes: Mapping[str, Sequence[SourceOutcome]]
     excuses: Mapping[str, Excuse]
     binaries: Mapping[str, Sequence[str]]
     packages: Mapping[str, str]
+    people: Mapping[str, Person] = field(default_factory=dict)
 
     @property
     def date(self) -> datetime.date:
@@ -110,18 +129,58 @@ class Facts:
         return frozenset([*in_testing, *self.excuses, *self.last, *self.outcomes])
 
     @functools.cached_property
+    def in_force(self) -> frozenset[int]:
+        """The numbers of the hints in force."""
+        return frozenset(item.number for item in self.standing)
+
+    @functools.cached_property
     def dates(self) -> Mapping[int, str]:
         """The day of each run."""
         return {run.number: run.date.isoformat() for run in self.runs}
 
+    @functools.cached_property
+    def unmoved(self) -> frozenset[str]:
+        """The sources with an excuse that didn't move in the newest run."""
+        return frozenset(name for name in self.excuses
+                         if self.outcomes.get(name, NOTHING)[-1].what is not What.ACCEPT)
+
+    @functools.cached_property
+    def waits(self) -> Waits:
+        """What the waiting sources of the newest run wait for."""
+        waiting: dict[str, tuple[Optional[str], str, str]] = {}
+        for name, outcomes in self.outcomes.items():
+            offender = outcomes[-1].offender
+            if outcomes[-1].what is What.WAIT and offender is not None and name in self.excuses:
+                why = why_of(self, self.excuses[name])
+                waiting[name] = (why.told if why else None, offender.package, self.packages.get(offender.package, ""))
+        return waits_of(waiting)
+
     def links(self, folder: str) -> Links:
         """Where names lead. `folder` is the way to the folder of the sources' pages, with a slash at its end."""
+        above = folder.removesuffix("source/") if folder else "../"
         return Links(lambda name: f"{folder}{name}.html" if name in self.names else "",
                      lambda name: f"{folder}{self.packages[name]}.html" if name in self.packages else "",
-                     lambda number: self.bugs.replace("%s", number), self.hints)
+                     self.patterns.bug, self.hint_texts,
+                     lambda number: f"{above}hints.html#hint-{number}")
+
+    @functools.cached_property
+    def hint_texts(self) -> Mapping[int, str]:
+        """What the hints ask, by their numbers."""
+        return {number: hint.text for number, hint in self.hints.items()}
+
+    @functools.cached_property
+    def asking(self) -> Mapping[tuple[ReasonKind, str], Sequence[int]]:
+        """The hints that keep a source out, by the reason and the source, as they are in force now."""
+        found: dict[tuple[ReasonKind, str], list[int]] = {}
+        for item in self.standing:
+            kind = ASKING.get(item.words)
+            if kind and item.is_covered and item.standing is reports.ItemStanding.IN_FORCE:
+                source = "" if item.words == BLOCK_ALL else item.item.partition("/")[0]
+                found.setdefault((kind, source), []).append(item.number)
+        return found
 
 
-def facts_of(state: State, newest: Newest, bugs: str) -> Facts:
+def facts_of(state: State, newest: Newest, patterns: Patterns) -> Facts:
     """All that is kept, read."""
     kept = state.testing()
     testing = reports.read_testing(kept[1]) if kept is not None and kept[0] == newest.number else None
@@ -130,8 +189,9 @@ def facts_of(state: State, newest: Newest, bugs: str) -> Facts:
     proposed = state.told(PROPOSED)
     return Facts(newest, state.runs(), testing, state.last_events(), state.whys(), state.hints(),
                  reports.read_hints(hints[1]).items if hints else (),
-                 sources_in(proposed[1]) if proposed and proposed[0] == newest.number else {},
-                 state.proposals(), bugs,
+                 refusals_of(state, newest.number, newest.update),
+                 sources_in(proposed[1]) if proposed and proposed[0] == newest.number else None,
+                 state.proposals(), patterns,
                  outcomes_of(newest.update), {excuse.source: excuse for excuse in newest.excuses.excuses},
                  binaries_of(rows), {row.package: row.source for row in rows})
 
@@ -154,30 +214,43 @@ def why_of(facts: Facts, excuse: Excuse) -> Optional[Why]:
 def reason_lines(facts: Facts, excuse: Excuse, links: Links) -> Sequence[Line]:
     """A sentence for each reason, with the bug as a link, and with the hints behind it where they are known."""
     why = why_of(facts, excuse)
-    lines = why.told.splitlines() if why else []
-    return tuple(Line((*reason_pieces(reason, excuse, facts.date, links), *hint_pieces(reason, lines, facts.hints)))
+    lines = why.told.splitlines() if why else None
+    return tuple(Line((*reason_pieces(reason, excuse, facts, links), *hint_pieces(facts, reason, excuse, lines, links)))
                  for reason in excuse.reasons)
 
 
-def reason_pieces(reason: Reason, excuse: Excuse, date: datetime.date, links: Links) -> Sequence[Piece]:
+def reason_pieces(reason: Reason, excuse: Excuse, facts: Facts, links: Links) -> Sequence[Piece]:
     """The sentence of a reason. That of the age has its day, which stays from run to run."""
     if reason.kind is ReasonKind.TOO_YOUNG:
-        return (Piece(f"Too young: old enough on {old_enough(excuse, date)}"),)
+        return (Piece(f"Too young: old enough on {old_enough(excuse, facts.date)}"),)
     sentence = reason_sentence(reason, excuse)
-    if reason.bug is None:
-        return (Piece(sentence),)
-    number = str(reason.bug)
-    return (Piece(sentence.removesuffix(number)), Piece("#" + number, links.bug(number)))
+    if reason.bug is not None:
+        number = str(reason.bug)
+        return (Piece(sentence.removesuffix(number)), Piece("#" + number, links.bug(number)))
+    if reason.architecture is not None:
+        link = facts.patterns.logs(excuse.source, reason.architecture)
+        before, _, behind = sentence.partition(reason.architecture)
+        return (Piece(before), Piece(reason.architecture, link), Piece(behind))
+    return (Piece(sentence),)
 
 
-def hint_pieces(reason: Reason, lines: Sequence[str], hints: Mapping[int, str]) -> Sequence[Piece]:
-    """The hints behind a reason, by number and text."""
+def hint_pieces(facts: Facts, reason: Reason, excuse: Excuse, lines: Optional[Sequence[str]],
+                links: Links) -> Sequence[Piece]:
+    """The hints behind a reason, by number and text: those that the office named, else those in force."""
     beginning = HINT_LINES.get(reason.kind)
     if beginning is None:
         return ()
-    numbers = hints_named(line for line in lines if line.startswith(beginning))
-    return tuple(Piece(f" (hint {number}{': ' + shortened(hints[number], 120) if hints.get(number) else ''})")
-                 for number in numbers)
+    if lines is not None:
+        numbers = list(hints_named(line for line in lines if line.startswith(beginning)))
+    else:
+        numbers = [*facts.asking.get((reason.kind, excuse.source), ()), *facts.asking.get((reason.kind, ""), ())]
+    found: list[Piece] = []
+    for number in numbers:
+        hint = facts.hints.get(number, SentHint())
+        told = ": ".join(filter(None, [shortened(hint.text, 120), shortened(hint.note, 200)]))
+        link = links.hint(number) if number in facts.in_force else ""
+        found += [Piece(" ("), Piece(f"hint {number}", link), Piece(f": {told})" if told else ")")]
+    return found
 
 
 def told_of(facts: Facts, excuse: Optional[Excuse], outcomes: Sequence[SourceOutcome], links: Links) -> Sequence[Line]:
@@ -189,9 +262,10 @@ def told_of(facts: Facts, excuse: Optional[Excuse], outcomes: Sequence[SourceOut
 def row_of(facts: Facts, excuse: Excuse, links: Links) -> Row:
     """A source as it stands in a list of those that don't move."""
     outcomes = facts.outcomes.get(excuse.source, NOTHING)
-    words = (*reason_words(excuse), outcomes[-1].what.value)
+    what = outcomes[-1].what
     return Row(excuse.source, excuse.testing or "", excuse.unstable, excuse.age, excuse.needed,
-               old_enough(excuse, facts.date).isoformat(), words, told_of(facts, excuse, outcomes, links))
+               old_enough(excuse, facts.date).isoformat(), words_of(excuse, what),
+               word_of(reason_words(excuse), what), told_of(facts, excuse, outcomes, links))
 
 
 def outcome_line(outcome: SourceOutcome, links: Links) -> Line:
@@ -209,16 +283,17 @@ def change_line(change: reports.Change, links: Links) -> Line:
     if change.outcome is reports.Outcome.ACCEPTED:
         return Line((Piece("accepted"),))
     if change.offender is not None:
-        return Line(tuple(linked("refused: it " + breaks(change.offender), {change.offender.package}, links.package)))
-    item = change.items[0]
-    return Line(tuple(linked(f"refused: {item.source} {item.version} isn't a candidate", {item.source}, links.source)))
+        names, link = {change.offender.package}, links.package
+    else:
+        names, link = {change.items[0].source}, links.source
+    return Line(tuple(linked("refused: " + refused_because(change), names, link)))
 
 
 def moved_sentence(change: reports.Change) -> str:
-    """How a source moved, or why it waits."""
+    """How a source moved, or why it waits, behind the word for it."""
     if change.offender is not None:
-        return "waits: its move " + breaks(change.offender)
-    return "moved alone" if change.hint is None else f"moved in the group of easy hint {change.hint}"
+        return "since its move " + breaks(change.offender)
+    return "alone" if change.hint is None else f"in the group of easy hint {change.hint}"
 
 
 def rows_of(facts: Facts) -> Sequence[Row]:
@@ -236,11 +311,70 @@ def source_of(facts: Facts, name: str, links: Links) -> Source:
     why = why_of(facts, excuse) if excuse else None
     return Source(
         name, testing_version(facts, name), excuse.unstable if excuse else "",
-        age_sentence(excuse, facts.date) if excuse else "",
+        age_sentence(excuse, facts.date) if excuse else "", verdict_of(facts, name),
         () if has_moved else told_of(facts, excuse, outcomes, links),
         lines_of(name, why.told, links) if why else (),
         why.since if why else None,
-        proposal_lines(facts, excuse), facts.binaries.get(name, ()), facts.last.get(name))
+        proposal_lines(facts, excuse), facts.binaries.get(name, ()), ways_out(facts, name, excuse),
+        facts.last.get(name),
+        wait_lines(facts, facts.waits.by_source.get(name, ()), links, lambda wait: wait.other),
+        wait_lines(facts, facts.waits.by_other.get(name, ()), links, lambda wait: wait.source)[:MOST_WAITING],
+        len(sources_of(facts.waits.by_other.get(name, ()))), people_of(facts, name), has_feed(facts, name))
+
+
+def verdict_of(facts: Facts, name: str) -> str:
+    """The word for how a source stands; empty where no report of the newest run names it."""
+    excuse, what = facts.excuses.get(name), facts.outcomes.get(name, NOTHING)[-1].what
+    if excuse is None and what is What.NONE:
+        return ""
+    return word_of(reason_words(excuse) if excuse else (), what)
+
+
+def ways_out(facts: Facts, name: str, excuse: Optional[Excuse]) -> Sequence[Piece]:
+    """Where more is told of a source."""
+    version = excuse.unstable if excuse else testing_version(facts, name)
+    ways = [Piece("Tracker", facts.patterns.source(name)), Piece("Builds", facts.patterns.logs(name)),
+            Piece(f"Changelog of {version}", facts.patterns.changes(name, version) if version else "")]
+    return tuple(way for way in ways if way.link)
+
+
+def has_feed(facts: Facts, name: str) -> bool:
+    """Whether a source has a feed: it has an excuse, or something happened to it since the first run."""
+    last = facts.last.get(name)
+    return name in facts.unmoved or (last is not None and last.run > facts.runs[0].number)
+
+
+def people_of(facts: Facts, name: str) -> Sequence[Piece]:
+    """The maintainer and the uploaders of a source; those with sources that don't move have a page."""
+    person = facts.people.get(name)
+    names = (person.maintainer, *person.uploaders) if person else ()
+    return tuple(Piece(one, f"../people/{page_of(one)}.html" if name in facts.unmoved else "") for one in names)
+
+
+def wait_lines(facts: Facts, waits: Sequence[Wait], links: Links, named: Callable[[Wait], str]) -> Sequence[Line]:
+    """A line for each source at one end of these, by name: what its package needs, and how it stands."""
+    found: dict[str, list[str]] = {}
+    for wait in waits:
+        found.setdefault(named(wait), []).append(wait.why)
+    return [Line((Piece(name, links.source(name)), Piece(f": {'; '.join(whys)} ({standing_of(facts, name)})"))
+                 if name else (Piece("; ".join(whys)),)) for name, whys in sorted(found.items())]
+
+
+def standing_of(facts: Facts, name: str) -> str:
+    """How it stands with a source, in words that stay from run to run as long as that does."""
+    excuse = facts.excuses.get(name)
+    what = facts.outcomes.get(name, NOTHING)[-1].what
+    if what is What.ACCEPT:
+        return "moved"
+    if what is What.REMOVED:
+        return "removed from testing"
+    if excuse is None:
+        return "unstable has nothing newer" if testing_version(facts, name) else "not in testing"
+    if excuse.is_candidate:
+        return f"{excuse.unstable} waits"
+    return f"{excuse.unstable} doesn't move: " + ", ".join(
+        f"too young until {old_enough(excuse, facts.date)}" if reason.kind is ReasonKind.TOO_YOUNG else reason.text
+        for reason in excuse.reasons)
 
 
 def testing_version(facts: Facts, name: str) -> str:
@@ -259,14 +393,22 @@ def age_sentence(excuse: Excuse, date: datetime.date) -> str:
 
 def history_of(facts: Facts, events: Sequence[Event]) -> Sequence[Standing]:
     """How a source stood from run to run, the newest first."""
-    return [Standing(event.run, facts.dates.get(event.run, ""), event.testing, event.unstable, event_sentence(event),
-                     outcome_in(event.outcome).what is What.ACCEPT) for event in events]
+    return [Standing(event.run, facts.dates.get(event.run, ""), event.testing, event.unstable,
+                     event_pieces(event, facts), outcome_in(event.outcome).what is What.ACCEPT) for event in events]
 
 
-def event_sentence(event: Event) -> str:
-    """What kept a source out, or what a run did with it."""
+def event_pieces(event: Event, facts: Facts) -> Sequence[Piece]:
+    """What kept a source out, or what a run did with it, with bugs as links."""
     outcome = outcome_sentence(outcome_in(event.outcome))
-    return "; ".join(filter(None, [event.reasons, outcome])) or "No excuse any more"
+    text = "; ".join(filter(None, [event.reasons, outcome])) or "No excuse any more"
+    parts = re.split(r"(?<=new bug )(\d+)", text)
+    return [Piece(part, facts.patterns.bug(part) if place % 2 else "") for place, part in enumerate(parts)]
+
+
+def proposal_of(facts: Facts, excuse: Excuse) -> Optional[Proposal]:
+    """What the office proposed for a source, if its excuse is the same but for the age."""
+    proposal = facts.proposals.get(excuse.source)
+    return proposal if proposal is not None and proposal.excuse == without_age(excuse) else None
 
 
 def proposal_lines(facts: Facts, excuse: Optional[Excuse]) -> Sequence[str]:
@@ -275,20 +417,15 @@ def proposal_lines(facts: Facts, excuse: Optional[Excuse]) -> Sequence[str]:
     That is the hint of its group, else what it answered for this source alone: the hints on which it rests, and what
     shows that no group frees it.
     """
-    if excuse is None or facts.outcomes.get(excuse.source, NOTHING)[-1].what is not What.WAIT:
+    is_waiting = excuse is not None and facts.outcomes.get(excuse.source, NOTHING)[-1].what is What.WAIT
+    if excuse is None or facts.proposed is None or not is_waiting:
         return ()
     if excuse.source in facts.proposed:
         return (shortened(facts.proposed[excuse.source]),)
-    proposal = facts.proposals.get(excuse.source)
-    if proposal is None or proposal.excuse != without_age(excuse):
-        return ()
+    proposal = proposal_of(facts, excuse)
+    if proposal is None:
+        return (NOT_ASKED,)
     return tuple(map(shortened, proposal.told.splitlines())) or (NO_GROUP,)
-
-
-def standing_rows(facts: Facts, links: Links) -> Sequence[Item]:
-    """The items of the hints in force, by the hints' numbers."""
-    return [Item(item.number, item.words, item.is_covered, Piece(item.item, links.source(item.item.partition("/")[0])),
-                 f"unstable has {item.other}" if item.other else item.standing.value) for item in facts.standing]
 
 
 def offenders_of(facts: Facts, links: Links) -> Sequence[tuple[int, Piece, str]]:

@@ -1,13 +1,89 @@
 "use strict";
-// What the pages do by script alone: the way to a source by its name, and search, filters and sorting over a table.
-// Without it all forms stay hidden, and the tables stand as they are.
+// What the pages do by script alone: the search for a name, and search, filters and sorting over a table. Without it all
+// forms stay hidden, the tables stay as they are, and the lists of all names lead to each source.
 
-for (const form of document.querySelectorAll("form.go")) {
+const MOST_FOUND = 20;
+
+// All names with their sources, of the two files of the index (names.py says how they are written).
+function unpack(sources, packages) {
+  const grown = (before, text) => before.slice(0, parseInt(text[0], 36)) + text.slice(1);
+  const inner = packages.split("\n");
+  const found = [];
+  let source = "";
+  sources.split("\n").forEach((text, place) => {
+    source = grown(source, text);
+    found.push([source, source]);
+    let name = source;
+    for (const part of inner[place].split(" ")) {
+      if (part) found.push([name = grown(name, part), source]);
+    }
+  });
+  return found;
+}
+
+function fetchScript(address) {
+  return new Promise((done, failed) => {
+    const script = document.createElement("script");
+    script.src = address;
+    script.onload = done;
+    script.onerror = failed;
+    document.head.append(script);
+  });
+}
+
+// The names that have a text: the name itself comes first, then those that begin with it, then all others.
+function namesWith(text, names) {
+  const rank = name => name === text ? 0 : name.startsWith(text) ? 1 : 2;
+  return names.filter(([name]) => name.includes(text)).sort(([one], [other]) =>
+    rank(one) - rank(other) || one.length - other.length || (one < other ? -1 : 1));
+}
+
+function makeGo(form) {
+  const field = form.querySelector("input");
+  const list = form.querySelector(".found");
+  const output = form.querySelector("output");
+  let index = null;
+
+  function fetchIndex() {
+    index ??= Promise.all(["names.js", "packages.js"].map(name => fetchScript(form.dataset.up + name)))
+      .then(() => unpack(window.officeNames, window.officePackages));
+    return index;
+  }
+
+  const pageOf = source => form.dataset.up + "source/" + encodeURIComponent(source) + ".html";
+
+  function item([name, source]) {
+    const link = document.createElement("a");
+    link.href = pageOf(source);
+    link.textContent = name;
+    const entry = document.createElement("li");
+    entry.append(link, name === source ? "" : ` of ${source}`);
+    return entry;
+  }
+
+  async function show() {
+    const text = field.value.trim().toLowerCase();
+    let found = [];
+    try {
+      if (text) found = namesWith(text, await fetchIndex());
+    } catch {
+      output.value = "The names couldn't be fetched.";
+      return found;
+    }
+    if (text !== field.value.trim().toLowerCase()) return found;
+    output.value = !text ? "" : found.length === 1 ? "1 name has it." : `${found.length || "No"} names have it.`;
+    list.replaceChildren(...found.slice(0, MOST_FOUND).map(item));
+    return found;
+  }
+
   form.hidden = false;
-  form.addEventListener("submit", event => {
+  field.addEventListener("focus", () => fetchIndex().catch(() => {}), {once: true});
+  field.addEventListener("input", show);
+  form.addEventListener("submit", async event => {
     event.preventDefault();
-    const name = form.querySelector("input").value.trim();
-    if (name) location.href = form.dataset.folder + encodeURIComponent(name) + ".html";
+    const found = await show();
+    const isOne = found.length && (found.length === 1 || found[0][0] === field.value.trim().toLowerCase());
+    if (isOne) location.href = pageOf(found[0][1]);
   });
 }
 
@@ -45,7 +121,10 @@ function makeSearch(form, table) {
   form.hidden = false;
   form.addEventListener("input", ask);
   form.addEventListener("submit", event => event.preventDefault());
-  addEventListener("hashchange", read);
+  addEventListener("hashchange", () => {
+    read();
+    form.scrollIntoView();
+  });
   read();
 }
 
@@ -73,5 +152,8 @@ function makeSorting(table) {
   });
 }
 
+// A count whose link leads to a table shows those rows of it alone that are counted.
+for (const link of document.querySelectorAll("a[data-view]")) link.href = "#" + link.dataset.view;
 for (const form of document.querySelectorAll("form.find")) makeSearch(form, document.querySelector("form.find ~ table"));
 for (const table of document.querySelectorAll("table")) makeSorting(table);
+for (const form of document.querySelectorAll("form.go")) makeGo(form);

@@ -1,0 +1,94 @@
+"""The page of what changed since the run before, and the feeds."""
+import datetime
+from typing import Iterator, Mapping, Sequence
+
+from office_tools.pages import people, views
+from office_tools.pages.atom import atom, Entry, Feed
+from office_tools.pages.changes import Change, Kind, sentence
+from office_tools.pages.sections import cell, Column, line, Section, SectionPage, Table
+from office_tools.pages.state import Event
+from office_tools.pages.told import Piece
+
+RUNS = 20  # runs of a feed
+MOST_ENTRIES = 60  # entries of the feed of a person or of a source
+MOST_NAMES = 60  # names in an entry
+
+
+def change_pages(facts: views.Facts, changes: Mapping[int, Sequence[Change]]) -> Iterator[SectionPage]:
+    """The pages of what is newly stuck, and of what is newly free."""
+    newest = changes.get(facts.newest.number, ())
+    links = facts.links("source/")
+    counts = {kind: sum(change.kind is kind for change in newest) for kind in Kind}
+    told = [line(f"Run {facts.newest.number} of {facts.date}, beside the run before it: ",
+                 Piece(f"{counts[Kind.STUCK]} newly stuck", "changes.html"), ", ",
+                 Piece(f"{counts[Kind.FREE]} newly free", "changes-free.html"), "."),
+            line("A source is stuck if something but time keeps it out: a bug, a block, a missing build, or a package "
+                 "that its move would break.")]
+    if len(facts.runs) < 2:
+        told = [line("There is no run before this one.")]
+    for name, kind, title in ("changes", Kind.STUCK, "Newly stuck"), ("changes-free", Kind.FREE, "Newly free"):
+        columns = (Column("Source"), Column("Version"), Column("Before"), Column("Now"), Column("Maintainer"))
+        rows = [(cell(Piece(change.source, links.source(change.source))), cell(change.after.unstable or "-"),
+                 cell(sentence(change.before)), cell(sentence(change.after)),
+                 cell(facts.people[change.source].maintainer if change.source in facts.people else "-"))
+                for change in newest if change.kind is kind]
+        yield SectionPage(name, f"{title} since the run before", told, (Section(
+            "sources", title, () if rows else (line("None."),), table=(
+                Table(f"{title} sources", "changed", columns, rows),) if rows else ()),), "feed.xml")
+
+
+class Feeds:
+    """The feeds of an office's pages. `site` is the address of the pages, or empty."""
+
+    def __init__(self, facts: views.Facts, site: str) -> None:
+        self.facts, self.site = facts, site
+        self.office = repr(facts.runs[0])
+        self.days: Mapping[int, datetime.date] = {run.number: run.date for run in facts.runs}
+
+    def feed(self, path: str, title: str, page: str, entries: Sequence[Entry]) -> bytes:
+        """A feed of these entries, the newest first."""
+        day = entries[0].day if entries else self.facts.runs[0].date
+        return atom(Feed(path, title, page, day, entries, self.site, self.office))
+
+    def of_all(self, changes: Mapping[int, Sequence[Change]]) -> bytes:
+        """The feed of all sources: an entry for each run."""
+        entries = []
+        for run in self.facts.runs[:-RUNS - 1:-1]:
+            some = changes.get(run.number, ())
+            parts = [f"{run.accepted} moved alone, {run.groups} groups, {run.removed} removed, {run.waiting} wait."]
+            for kind in Kind.STUCK, Kind.FREE:
+                names = [change.source for change in some if change.kind is kind]
+                more = f" and {len(names) - MOST_NAMES} more" if len(names) > MOST_NAMES else ""
+                parts.append(f"{len(names)} {kind.value}: {', '.join(names[:MOST_NAMES])}{more}." if names
+                             else f"None {kind.value}.")
+            entries.append(Entry(f"run {run.number}", f"Run {run.number} of {run.date}", run.date,
+                                 f"run/{run.number}.html", "\n".join(parts)))
+        return self.feed("feed.xml", "Migration to testing", "index.html", entries)
+
+    def of_people(self, changes: Mapping[int, Sequence[Change]]) -> Iterator[tuple[str, bytes]]:
+        """The feed of each person with a source that changed: an entry for each change."""
+        by_source: dict[str, list[Change]] = {}
+        for run in sorted(changes, reverse=True):
+            for change in changes[run]:
+                by_source.setdefault(change.source, []).append(change)
+        titles = people.titles(self.facts.people)
+        for name, sources in people.by_person(self.facts.people, self.facts.unmoved | by_source.keys()).items():
+            found = [change for source, _ in sources for change in by_source.get(source, ())]
+            found.sort(key=lambda change: (-change.after.run, change.source))
+            page = people.page_of(name)
+            yield f"people/{page}.xml", self.feed(f"people/{page}.xml", titles[name], f"people/{page}.html", [
+                self.entry(change) for change in found[:MOST_ENTRIES]])
+
+    def entry(self, change: Change) -> Entry:
+        """The entry of a change."""
+        version = change.after.unstable or change.after.testing
+        return Entry(f"{change.source} {change.after.run}",
+                     f"{change.source} {version}".strip() + f": {change.kind.value} in run {change.after.run}",
+                     self.days[change.after.run], f"source/{change.source}.html",
+                     f"Before: {sentence(change.before)}\nNow: {sentence(change.after)}")
+
+    def of_source(self, name: str, events: Sequence[Event]) -> bytes:
+        """The feed of a source, by its events, the newest first."""
+        entries = [Entry(str(event.run), f"{name} {event.unstable or event.testing}".strip() + f": run {event.run}",
+                         self.days[event.run], f"source/{name}.html", sentence(event)) for event in events]
+        return self.feed(f"source/{name}.xml", name, f"source/{name}.html", entries[:MOST_ENTRIES])

@@ -1,0 +1,52 @@
+"""Lists that are too long for one page, cut into parts."""
+from dataclasses import dataclass
+from typing import Callable, Iterator, Sequence, TypeVar
+
+MOST_ROWS = 5000  # rows of one page
+LARGEST = 400_000  # characters of the rows of one page: so no page has more than half a megabyte
+Of = TypeVar("Of")
+
+
+@dataclass(frozen=True)
+class Part:
+    """A part of a list in the view of one of them: its page, what it is called, and whether it is that one."""
+
+    link: str
+    title: str
+    is_here: bool
+
+
+@dataclass(frozen=True)
+class RowText:
+    """A row of a list: the name by which the list is ordered, and its HTML."""
+
+    name: str
+    text: str
+
+
+def row_texts(rows: Sequence[Of], named: Callable[[Of], str], made: Callable[[Of], str]) -> Sequence[RowText]:
+    """The rows of a list as HTML."""
+    return [RowText(named(row), made(row)) for row in rows]
+
+
+def cut(rows: Sequence[RowText]) -> Iterator[Sequence[RowText]]:
+    """The rows by pages, of which there is one at least."""
+    some: list[RowText] = []
+    size = 0
+    for row in rows:
+        if some and (size + len(row.text) > LARGEST or len(some) == MOST_ROWS):
+            yield some
+            some, size = [], 0
+        some.append(row)
+        size += len(row.text)
+    yield some
+
+
+def parts_of(name: str, rows: Sequence[RowText]) -> Iterator[tuple[str, Sequence[Part], Sequence[str]]]:
+    """The parts of a list: the page of each, all parts as that page shows them, and the HTML of its rows."""
+    pages = list(cut(rows))
+    titles = [f"{some[0].name} to {some[-1].name}" if some else "" for some in pages]
+    links = [f"{name}.html", *(f"{name}-{number}.html" for number in range(2, len(pages) + 1))]
+    for place, some in enumerate(pages):
+        shown = [Part(link, title, other == place) for other, (link, title) in enumerate(zip(links, titles))]
+        yield links[place], shown, [row.text for row in some]

@@ -1,0 +1,86 @@
+"""The pages of people: a list of them, and a page and a feed of each whose sources don't move or changed of late."""
+import collections
+from typing import Iterator, Mapping, Sequence
+
+from office_tools.pages import people, views
+from office_tools.pages.changes import Change, Kind, sentence
+from office_tools.pages.outcomes import NOTHING, What
+from office_tools.pages.sections import cell, Column, line, Section, SectionPage, Table
+from office_tools.pages.told import Links, Piece
+from office_tools.pages.verdicts import TITLES, word_of
+from office_tools.pages.outcomes import reason_words
+
+WORDS = ("waits", "young", "blocked", "rejected", "refused")
+
+
+def unmoved(facts: views.Facts) -> Mapping[str, str]:
+    """The verdict of each source that doesn't move."""
+    found = {}
+    for name, excuse in facts.excuses.items():
+        what = facts.outcomes.get(name, NOTHING)[-1].what
+        if what is not What.ACCEPT:
+            found[name] = word_of(reason_words(excuse), what)
+    return found
+
+
+def people_pages(facts: views.Facts, changes: Mapping[int, Sequence[Change]]) -> Iterator[SectionPage]:
+    """The list of people, and the page of each of them."""
+    verdicts = unmoved(facts)
+    changed = {change.source for some in changes.values() for change in some}
+    found = people.by_person(facts.people, {*verdicts, *changed})
+    titles = people.titles(facts.people)
+    yield list_page(facts, found, titles, verdicts)
+    newest = {change.source: change for change in changes.get(facts.newest.number, ())}
+    links = facts.links("../source/")
+    for name, sources in found.items():
+        yield one_page(facts, (name, titles[name]), sources, (verdicts, newest), links)
+
+
+def list_page(facts: views.Facts, found: Mapping[str, Sequence[tuple[str, bool]]], titles: Mapping[str, str],
+              verdicts: Mapping[str, str]) -> SectionPage:
+    """The list of people with sources that don't move, those with the most that need them first."""
+    rows = []
+    for name, sources in found.items():
+        counts = collections.Counter(verdicts[source] for source, _ in sources if source in verdicts)
+        if counts:
+            rows.append((-counts["rejected"] - counts["waits"], -sum(counts.values()), name, counts))
+    columns = (Column("Maintainer or team"), *(Column(word, True) for word in WORDS))
+    cells = [(cell(Piece(titles[name], f"people/{people.page_of(name)}.html")), *(cell(counts[word]) for word in WORDS))
+             for _, _, name, counts in sorted(rows, key=lambda row: row[:3])]
+    unknown = sum(source not in facts.people for source in verdicts)
+    told = [line("Those with the most sources that wait or are rejected come first. ",
+                 "; ".join(f"{word}: {title}" for word, title in TITLES.items()), ".")]
+    if unknown:
+        told.append(line(f"Of {unknown} of {len(verdicts)} sources that don't move nobody said who maintains them."))
+    return SectionPage("people", "Maintainers and teams", told, (Section(
+        "all", "All with sources that don't move", () if cells else (line("Nobody is known."),), table=(
+            Table("Maintainers and teams, and how many of their sources don't move", "people", columns, cells),)
+        if cells else ()),))
+
+
+def one_page(facts: views.Facts, person: tuple[str, str], sources: Sequence[tuple[str, bool]],
+             known: tuple[Mapping[str, str], Mapping[str, Change]], links: Links) -> SectionPage:
+    """The page of a person: what doesn't move and why, and what is newly stuck or free."""
+    verdicts, newest = known
+    page = people.page_of(person[0])
+    columns = (Column("Source"), Column("Testing"), Column("Unstable"), Column("Verdict"), Column("Why"),
+               Column("It waits for"))
+    rows = []
+    for name, is_maintainer in sources:
+        if name in verdicts:
+            excuse, outcomes = facts.excuses[name], facts.outcomes.get(name, NOTHING)
+            rows.append((cell(Piece(name, links.source(name)), "" if is_maintainer else " (uploader)"),
+                         cell(excuse.testing or "-"), cell(excuse.unstable), cell(verdicts[name]),
+                         views.told_of(facts, excuse, outcomes, links),
+                         views.wait_lines(facts, facts.waits.by_source.get(name, ()), links, lambda wait: wait.other)))
+    items = [line(Piece(name, links.source(name)), f" is {change.kind.value}: {sentence(change.after)}")
+             for name, change in sorted(newest.items()) if change.kind in (Kind.STUCK, Kind.FREE)
+             and name in {source for source, _ in sources}]
+    sections = (
+        Section("changes", f"Newly stuck and newly free in run {facts.newest.number}",
+                () if items else (line("None."),), items=items),
+        Section("sources", "Sources that don't move", () if rows else (line("None."),), table=(
+            Table("Sources that don't move, and why", "excuses", columns, rows),) if rows else ()))
+    return SectionPage(f"people/{page}", person[1], (line("A ", Piece("feed", f"{page}.xml"),
+                                                          " has what is newly stuck, newly free and moved."),),
+                       sections, f"{page}.xml")
