@@ -121,9 +121,9 @@ class Run:
         edits = sum(used for (_, is_edit), used in self.minutes.items() if is_edit)
         proofs = sum(self.minutes.values()) - edits
         return textwrap.fill(
-            f"The run took {self.entries[-1]['at'] / 60:.0f} minutes on {self.cores} cores, of which the prover used "
-            f"{proofs:.0f} processor minutes for proofs and programs and {edits:.0f} for must-fail edits. Its last line "
-            f"was `{self.lines[-1][1]}`.",
+            f"The run took {self.entries[-1]['at'] / 60:.0f} minutes on {self.cores} cores. The prover used "
+            f"{proofs:.0f} processor minutes for proofs and programs, and {edits:.0f} for must-fail edits. "
+            f"The last line was `{self.lines[-1][1]}`.",
             width=120,
         )
 
