@@ -1,4 +1,4 @@
-"""The settings of a day: a file of fields, as the office's setup, and what stands for a field that is missing."""
+"""The settings of a day: a file of fields, like the office's setup, and the value of a missing field."""
 import os
 import shlex
 import urllib.parse
@@ -19,7 +19,7 @@ PATIENCE = 30  # days
 
 @dataclass(frozen=True)
 class Settings:
-    """The words of each step, the folder of what is remembered, and from how many days of waiting on a line is told."""
+    """The words of each step, the folder of what is remembered, and the days of waiting that make a line printed."""
 
     url: str
     setup: str

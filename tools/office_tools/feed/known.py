@@ -19,11 +19,11 @@ FORM = 1
 
 @dataclass
 class Known:
-    """What the mail says up to a number of each sender, all of which was taken in order.
+    """What the mail says up to a number of each sender, all taken in order.
 
     `versions` has each source's greatest version, `packages` each package's greatest one, dropped or not, and `dropped`
-    up to which version it was dropped. `staying` are the packages told under a made-up source, `retold` which senders
-    told a version of a package under a spare name. `hints` are the texts of the release team's messages. `covers` and
+    up to which version it was dropped. `staying` are the packages sent under a made-up source, `retold` which senders
+    sent a version of a package under a spare name. `hints` are the texts of the release team's messages. `covers` and
     `last_day` are those of the orders together. `ends` has the first and the last text of each sender.
     """
 
@@ -50,7 +50,7 @@ class Known:
         return datetime.date.fromisoformat(self.last_day) if self.last_day else datetime.date.min
 
     def bound(self, key: Key) -> str:
-        """The version above which a package has to be told so that it counts; an empty text if there is none."""
+        """The version above which a package has to be sent so that it counts; an empty text if there is none."""
         told, dropped = self.packages.get(key, ""), self.dropped.get(key, "")
         return told if told and (not dropped or versions.compare(told, dropped) > 0) else dropped
 

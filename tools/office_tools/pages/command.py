@@ -1,4 +1,4 @@
-"""The words of the command, and how it goes on."""
+"""The words of the command, and how it continues."""
 import argparse
 import contextlib
 import fcntl
@@ -136,7 +136,7 @@ def make(office: Office, folder: str, kept: str, look: tuple[Patterns, Extras], 
         if newest is None:
             return
         read_mail(office, state, newest.number, time.monotonic() + why_seconds)
-        # The pages of a new run are there before sources are asked about, which takes longer.
+        # The pages of a new run exist before sources are asked about, which takes longer.
         site = Site(folder, state, *look)
         site.build(newest)
         names = fetch_answers(office, state, newest, why_seconds)

@@ -18,7 +18,7 @@ OLD, NEW, NEITHER, MISSING, GONE = "old", "new", "neither", "missing", "gone"
 
 @dataclass(frozen=True)
 class Suite:
-    """A suite as the office told it: the version of each source, and the version and source of each row."""
+    """A suite as the office prints it: the version of each source, and the version and source of each row."""
 
     sources: Mapping[str, str]
     rows: Mapping[Key, tuple[str, str]]
