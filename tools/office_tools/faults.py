@@ -53,7 +53,7 @@ def run(name: str, main: Main) -> NoReturn:
 
 
 def end_quietly(kind: type[BaseException], fault: BaseException, trace: Optional[TracebackType]) -> None:
-    """Prints a sentence in the place of a traceback if an interrupt comes before `run`, while modules are imported."""
+    """Prints a sentence in place of a traceback if an interrupt comes before `run`, while modules are imported."""
     if issubclass(kind, KeyboardInterrupt):
         tell(os.path.basename(sys.argv[0]), "interrupted")
     else:

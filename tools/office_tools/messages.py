@@ -137,7 +137,7 @@ class Paragraph:
         return next((field for field in self.fields if field.name.lower() == asked), None)
 
     def value(self, name: str) -> Optional[str]:
-        """The value of a field, or None where the paragraph hasn't the field."""
+        """The value of a field, or None if the paragraph hasn't the field."""
         found = self.field(name)
         return None if found is None else found.value
 
@@ -306,7 +306,7 @@ def build(label: Label, binaries: Sequence[bytes]) -> bytes:
 
 @dataclass(frozen=True)
 class Range:
-    """The versions of a source that a bug affects: from `found` on, and below `fixed`, where these are known."""
+    """The versions of a source that a bug affects: from `found` on, and below `fixed`, if these are known."""
 
     found: Optional[str] = None
     fixed: Optional[str] = None

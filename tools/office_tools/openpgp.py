@@ -103,7 +103,7 @@ def check(data: bytes, depth: int) -> None:
 
 
 def packets(data: bytes) -> Iterator[Packet]:
-    """The packets of an input, but for those that say nothing."""
+    """The packets of an input, except those that say nothing."""
     while data:
         packet = first(data)
         data = packet.rest

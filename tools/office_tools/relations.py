@@ -109,7 +109,7 @@ def provisions(value: str) -> Sequence[Alternative]:
 
 
 def source_of(value: Optional[str], package: str, version: str) -> tuple[str, str]:
-    """The name and the version of a binary package's source, by its field Source or where it has none."""
+    """The name and the version of a binary package's source, by its field Source or without one."""
     found = SOURCE.fullmatch(package if value is None else value)
     if not found:
         raise Bad(f"bad Source {(value or '')[:60]!r}")

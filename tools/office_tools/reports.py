@@ -165,7 +165,7 @@ class HintItem:
     """An item of a hint in force.
 
     `words` is the hint without its items, as `age-days 3`. `is_covered` says whether a finished run covers the hint.
-    `other` is unstable's version where the item names another one.
+    `other` is unstable's version if the item names another one.
     """
 
     number: int
@@ -245,7 +245,7 @@ class Lines:
         return found
 
     def need(self, form: str, what: str) -> re.Match[str]:
-        """The same, where any other line is a fault."""
+        """The same, but any other line is a fault."""
         found = self.next_is(form)
         if found is None:
             raise self.fault(f"{what} is due here")

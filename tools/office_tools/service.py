@@ -40,7 +40,7 @@ class Reply:
 
     @property
     def told(self) -> str:
-        """The code, and the body where it is a short line, as those of the office are; else the code's own phrase."""
+        """The code, and the body if it is a short line, like those of the office; else the code's own phrase."""
         is_line = self.text.isprintable() and 0 < len(self.text) <= LONGEST_TOLD
         return f"{self.status}: {self.text if is_line else http.client.responses.get(self.status, 'an unknown code')}"
 
@@ -181,7 +181,7 @@ class Service:
         return reports.read_unstable(self.good_text("/unstable"), self.url + "/unstable")
 
     def proposed(self) -> Optional[str]:
-        """The hints for groups that the office proposes, one a line; None where no run is finished."""
+        """The hints for groups that the office proposes, one a line; None if no run is finished."""
         reply = self.get("/propose")
         if reply.status == http.client.NOT_FOUND and reply.text == "refused NoRun":
             return None

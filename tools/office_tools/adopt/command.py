@@ -59,7 +59,7 @@ def letters(setup: str, binaries: Sequence[Binary], sources: Mapping[str, str], 
 
 
 def checked(setup: str, bag: bytes, have: Contents) -> int:
-    """Asks the office what comes of the bag, and prints how its testing differs from the archive's."""
+    """Asks the office for the bag's result, and prints how its testing differs from the archive's."""
     told = program.output(["replay", "--conf", setup], bag).decode()
     refused = [line for line in told.splitlines() if line.startswith("refused ")]
     for line in refused:

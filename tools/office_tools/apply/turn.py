@@ -24,7 +24,7 @@ class Turn:
     evidence: Evidence = field(default_factory=Evidence)
 
     def compare(self) -> int:
-        """Shows what would change: status 0 where nothing would."""
+        """Shows what would change: status 0 if nothing would."""
         plan, have = self.plan()
         found = self.difference(plan.want, have)
         for line in (*(f"would come: {line}" for line in found.missing.lines()),

@@ -29,7 +29,7 @@ SHOWN = 5  # senders that a fault names
 
 
 def folder_for(asked: Optional[str], service: Service) -> str:
-    """The folder of what is remembered of an office; it is made where there is none."""
+    """The folder of what is remembered of an office; it is made if there is none."""
     caches = os.environ.get("XDG_CACHE_HOME") or os.path.expanduser("~/.cache")
     # apt takes a name that doesn't begin at the root as one below its own folder.
     place = os.path.abspath(asked or os.path.join(caches, "office-feed", urllib.parse.quote(service.url, "")))

@@ -43,7 +43,7 @@ class Rebuilds:
 
 
 def fitting(parts: Sequence[bytes]) -> int:
-    """How many of these paragraphs one message takes. Each fits alone, but for a version that makes it longer."""
+    """How many of these paragraphs one message takes. Each fits alone, except a version that makes it longer."""
     room = 60000
     count = 0
     while count < min(len(parts), messages.MOST_BINARIES) and (count == 0 or room >= len(parts[count])):

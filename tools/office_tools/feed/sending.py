@@ -23,7 +23,7 @@ CAUSES = {OTHER_TEXT: "somebody else sends as {sender} too: run it again",
 
 @dataclass(frozen=True)
 class Sending:
-    """A running office, the sender of its orders, and where is written down what is posted."""
+    """A running office, the sender of its orders, and the place where posts are written down."""
 
     service: Service
     runs: str

@@ -84,7 +84,7 @@ class Differing:
         return self.britney == self.office
 
     def lines(self) -> Iterator[str]:
-        """What is printed of it: packages too where the version is the same."""
+        """What is printed of it: packages too if the version is the same."""
         yield f"{self.source}: britney {self.britney or '-'}, office {self.office or '-'}"
         if self.is_rows_alone:
             for word, rows in (("britney", self.only_britney), ("office", self.only_office)):

@@ -101,7 +101,7 @@ def builds_of(binaries: Sequence[Binary], after: int) -> Iterator[bytes]:
 
 
 def hints(setup: str, sent: Sent, texts: Sequence[bytes], day: str) -> Iterator[bytes]:
-    """A hint for each group that the office proposes for a run over these messages, too, but for those sent before."""
+    """A hint for each group that the office proposes for a run over these messages, too, without those sent before."""
     wishes = [wish for wish in proposals.proposed(setup, sent.bag, texts, day) if wish not in sent.hints]
     return proposals.letters(wishes, "rt", sent.last["rt"], day)
 

@@ -32,7 +32,7 @@ def escaped(what: str) -> str:
 
 
 def visible(character: str) -> str:
-    """A character, or its number where it can't be printed."""
+    """A character, or its number if it can't be printed."""
     return character if character.isprintable() else ascii(character)[1:-1]
 
 

@@ -104,7 +104,7 @@ def hint_of_another_source(look: Look) -> Iterator[Warned]:
 
 
 def standing(state: State, word: str, name: str, version: str) -> Optional[str]:
-    """Why an item of a hint isn't in force; None where it is. An item of `block` has no version."""
+    """Why an item of a hint isn't in force; None if it is. An item of `block` has no version."""
     has, moved = state.seen.source(name), state.testing.get(name)
     if has is None:
         return f"no source {name}"

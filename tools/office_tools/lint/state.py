@@ -81,7 +81,7 @@ class Kept(abc.ABC):
 
     @abc.abstractmethod
     def text(self, label: Label) -> Optional[bytes]:
-        """A message, or None where none is kept."""
+        """A message, or None if none is kept."""
 
     @abc.abstractmethod
     def mail(self, sender: str) -> Iterator[bytes]:

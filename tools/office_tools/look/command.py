@@ -57,7 +57,7 @@ def parser() -> argparse.ArgumentParser:
 
 
 def folder_for(asked: Optional[str], service: Service) -> str:
-    """The folder of the copy; it is made where there is none, and locked until this process ends."""
+    """The folder of the copy; it is made if there is none, and locked until this process ends."""
     caches = os.environ.get("XDG_CACHE_HOME") or os.path.expanduser("~/.cache")
     place = os.path.abspath(asked or os.path.join(caches, NAME, urllib.parse.quote(service.url, "")))
     try:
@@ -78,7 +78,7 @@ def files_of(names: Sequence[str]) -> Iterator[str]:
 
 
 def eye_of(asked: argparse.Namespace) -> Optional[Eye]:
-    """The judge over the archive's paragraphs; None where nothing is to be looked at."""
+    """The judge over the archive's paragraphs; None if nothing is to be looked at."""
     if asked.judge == "none":
         return None
     found = judge(asked.judge)

@@ -52,7 +52,7 @@ def place_of(folder: str, source: str, target: str) -> str:
 
 
 def read(path: str) -> Held:
-    """What a file remembers; nothing, where there is none."""
+    """What a file remembers; nothing if there is none."""
     try:
         with open(path, encoding="utf-8") as file:
             told = json.load(file)

@@ -43,8 +43,8 @@ def words_of(words: Sequence[str]) -> argparse.Namespace:
     parser.add_argument("folder", metavar="FOLDER", help="the folder of the pages, which has to be there")
     parser.add_argument("--url", metavar="URL", help=f"the service that is asked ({URL} if nothing else is named)")
     parser.add_argument("--conf", metavar="SETUP", help="with --db: the setup of a store")
-    parser.add_argument("--db", metavar="FILE", help="a store that no office has open, in the place of a service")
-    parser.add_argument("--excuses", metavar="FILE", help="the excuses of one run, in the place of a service")
+    parser.add_argument("--db", metavar="FILE", help="a store that no office has open, in place of a service")
+    parser.add_argument("--excuses", metavar="FILE", help="the excuses of one run, in place of a service")
     parser.add_argument("--update", metavar="FILE", help="with --excuses: the update of the same run")
     parser.add_argument("--testing", metavar="FILE", help="with --excuses: what is in testing after that run")
     parser.add_argument("--bugs", metavar="URL", default=BUGS,

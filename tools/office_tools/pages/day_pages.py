@@ -102,7 +102,7 @@ def calendar_section(facts: views.Facts) -> Section:
 
 
 def names_line(excuses: Sequence[Excuse], links: Links) -> Line:
-    """The names of sources, the first ones alone where there are many."""
+    """The names of sources, only the first ones if there are many."""
     pieces: list[object] = []
     for place, excuse in enumerate(excuses[:MOST_NAMES]):
         pieces += [", " if place else "", Piece(excuse.source, links.source(excuse.source))]

@@ -40,7 +40,7 @@ def read_run(kept: KeptRun) -> Newest:
 
 
 def fetch(office: Office, state: State) -> Optional[Newest]:
-    """Fetches and keeps the reports that aren't kept yet, and gives the newest run; None where no run is finished."""
+    """Fetches and keeps the reports that aren't kept yet, and returns the newest run; None if no run is finished."""
     for _ in range(TURNS):
         if not fetch_runs(office, state):
             return None
@@ -146,7 +146,7 @@ def fetch_told(office: Office, state: State, newest: int) -> None:
 
 
 def without_age(excuse: Excuse) -> str:
-    """What an excuse says but for its age, which changes from day to day."""
+    """What an excuse says except its age, which changes from day to day."""
     return " ".join([excuse.testing or "-", excuse.unstable, str(excuse.needed),
                      *(reason.text for reason in excuse.reasons)])
 

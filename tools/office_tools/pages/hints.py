@@ -130,7 +130,7 @@ def proposed_lines(state: State, newest: int) -> Optional[Sequence[str]]:
 
 
 def next_label(state: State) -> Optional[Label]:
-    """The sender of hints and its next number, where they are known."""
+    """The sender of hints and its next number, if they are known."""
     told = state.told(NEXT_HINT)
     sender, _, number = told[1].partition(" ") if told else ("", "", "")
     return Label(sender, int(number)) if number.isdigit() else None

@@ -29,13 +29,13 @@ class Office(Protocol):
         """The update of a run."""
 
     def testing(self) -> Optional[str]:
-        """What is in testing, where it can be had."""
+        """What is in testing, if available."""
 
     def unstable(self) -> Optional[str]:
         """What the next run sees of unstable over all mail that is kept without a gap, if available."""
 
     def kept_mail(self) -> Optional[Mapping[str, int]]:
-        """Up to which number the mail of each sender is kept without a gap, in the setup's order, if it can be had."""
+        """Up to which number the mail of each sender is kept without a gap, in the setup's order, if available."""
 
     def letters(self, sender: str, first: int, last: int) -> Iterator[tuple[int, bytes]]:
         """The messages of a sender from one number to another, between which none is missing."""
@@ -44,13 +44,13 @@ class Office(Protocol):
         """Of each source in turn what the last run says of it. None is asked about after that time (`monotonic`)."""
 
     def hint(self, number: int) -> Optional[SentHint]:
-        """A hint of the release team, where it can be had."""
+        """A hint of the release team, if available."""
 
     def next_hint(self, sender: str) -> Optional[Label]:
         """The first number after all that the release team sent, if available."""
 
     def hints(self) -> Optional[str]:
-        """The hints in force, where they can be had."""
+        """The hints in force, if available."""
 
     def proposed(self, source: str = "") -> Optional[str]:
         """What it proposes for all groups that can move, or for one source, if available."""
@@ -138,7 +138,7 @@ class ServiceOffice:
 
 
 def hint_in(text: bytes) -> Optional[SentHint]:
-    """A message as a hint, where it is one. Its fields `By` and `Comment` are for people: the office reads neither."""
+    """A message as a hint, if it is one. Its fields `By` and `Comment` are for people: the office reads neither."""
     for paragraph in paragraphs(text):
         if kind_of(paragraph) is Kind.HINT:
             return SentHint(*(" ".join((paragraph.value(name) or "").split()) for name in ("Hint", "By", "Comment")))

@@ -355,7 +355,7 @@ def digest_of(parts: Iterable[str]) -> str:
 
 
 def own_files() -> Iterator[bytes]:
-    """What makes the pages: where it changes, each of them is looked at."""
+    """What makes the pages: if it changes, each of them is looked at."""
     for folder in "", "templates", "static":
         for name in sorted(os.listdir(os.path.join(HERE, folder))):
             if name.endswith((".py", ".html", ".css", ".js")):

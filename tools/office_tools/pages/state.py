@@ -62,7 +62,7 @@ class Event:
 
     @property
     def standing(self) -> tuple[str, ...]:
-        """All but the run: a source has another event only where this differs."""
+        """All but the run: a source has another event only if this differs."""
         return (self.testing, self.unstable, self.reasons, self.outcome)
 
 
@@ -102,7 +102,7 @@ class Proposal:
 class SentHint:
     """A hint as it was sent: what it asks, and who sent it for what, if its fields `By` and `Comment` say so.
 
-    All are empty if its message couldn't be had.
+    All are empty if its message isn't available.
     """
 
     text: str = ""
@@ -231,7 +231,7 @@ class State:
         return self.suite("testing")
 
     def keep_testing(self, run: int, told: str) -> None:
-        """Keeps what is in testing after a run, in the place of what was kept."""
+        """Keeps what is in testing after a run, in place of what was kept."""
         self.keep_suite("testing", run, told)
 
     def unstable(self) -> Optional[tuple[int, str]]:
@@ -239,7 +239,7 @@ class State:
         return self.suite("unstable")
 
     def keep_unstable(self, run: int, told: str) -> None:
-        """Keeps what is in unstable, in the place of what was kept."""
+        """Keeps what is in unstable, in place of what was kept."""
         self.keep_suite("unstable", run, told)
 
     def suite(self, table: str) -> Optional[tuple[int, str]]:
@@ -261,7 +261,7 @@ class State:
             return {source: Why(*parts) for source, *parts in self.database.execute("SELECT * FROM why")}
 
     def keep_whys(self, whys: Mapping[str, Why], hints: Iterable[int]) -> None:
-        """Keeps answers about sources, each in the place of an earlier one, and which hints they name."""
+        """Keeps answers about sources, each in place of an earlier one, and which hints they name."""
         with self.transaction():
             self.database.executemany("INSERT OR REPLACE INTO why VALUES (?, ?, ?, ?, ?)", (
                 (source, why.run, why.since, why.excuse, why.told) for source, why in whys.items()))
@@ -288,7 +288,7 @@ class State:
             return {source: Proposal(*parts) for source, *parts in self.database.execute("SELECT * FROM proposal")}
 
     def keep_proposals(self, proposals: Mapping[str, Proposal]) -> None:
-        """Keeps what was proposed for sources, each in the place of an earlier answer."""
+        """Keeps what was proposed for sources, each in place of an earlier answer."""
         if proposals:
             with self.transaction():
                 self.database.executemany("INSERT OR REPLACE INTO proposal VALUES (?, ?, ?, ?)", (

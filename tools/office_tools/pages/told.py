@@ -71,7 +71,7 @@ def behind_excuse(source: str, told: str) -> Sequence[str]:
 
 
 def change_in(text: str) -> Optional[Change]:
-    """The line as one of an update, where it is one."""
+    """The line as one of an update, if it is one."""
     for form, _, _ in reports.CHANGE_FORMS:
         if form.fullmatch(text):
             return reports.read_change(reports.Lines(text + "\n", "why"))
@@ -114,7 +114,7 @@ def linked(text: str, names: Collection[str], link: Callable[[str], str]) -> lis
 
 
 def shortened(text: str, longest: int = 300) -> str:
-    """A text, cut at a word where it is long."""
+    """A text, cut at a word if it is long."""
     if len(text) <= longest:
         return text
     return text[:longest].rsplit(" ", 1)[0] + f" .. ({len(text.split(' '))} words)"

@@ -206,7 +206,7 @@ def binaries_of(rows: Sequence[reports.Row]) -> Mapping[str, Sequence[str]]:
 
 
 def why_of(facts: Facts, excuse: Excuse) -> Optional[Why]:
-    """What the office answered about a source, if its excuse is the same but for the age."""
+    """What the office answered about a source, if its excuse is the same except the age."""
     why = facts.whys.get(excuse.source)
     return why if why is not None and why.excuse == without_age(excuse) else None
 
@@ -378,7 +378,7 @@ def standing_of(facts: Facts, name: str) -> str:
 
 
 def testing_version(facts: Facts, name: str) -> str:
-    """The version in testing, where it is known."""
+    """The version in testing, if known."""
     if facts.testing is not None:
         return facts.testing.sources.get(name, "")
     excuse = facts.excuses.get(name)
@@ -406,7 +406,7 @@ def event_pieces(event: Event, facts: Facts) -> Sequence[Piece]:
 
 
 def proposal_of(facts: Facts, excuse: Excuse) -> Optional[Proposal]:
-    """What the office proposed for a source, if its excuse is the same but for the age."""
+    """What the office proposed for a source, if its excuse is the same except the age."""
     proposal = facts.proposals.get(excuse.source)
     return proposal if proposal is not None and proposal.excuse == without_age(excuse) else None
 
