@@ -1,4 +1,4 @@
--- Texts of which none stands twice.
+-- Texts that are all different.
 use Rattle.std.specs.Prelude.{Bool, true, not, ◌&&◌, List, [], ◌∷◌}
 use Rattle.std.specs.List.{list_any}
 use Rattle.std.specs.Str.{bytes_eq}
