@@ -14,11 +14,11 @@ use Rattle.office_mail_setup.specs.Steps.{needs, given, each_of}
 use Rattle.office_mail_setup.specs.Values.{days_in, words}
 use Rattle.testing_rules_items.specs.Distinct.{is_distinct}
 
--- what stands in the place of a hint that is none
+-- the fault of a text that isn't a hint
 abbrev pub BadHint : MailFault
 BadHint = BadValue field.Hint
 
--- one at least
+-- at least one
 abbrev pub some_of : {A : Type 0} → List A → Result (List A) MailFault
 some_of [] = Err BadHint
 some_of (x ∷ xs) = Ok (x ∷ xs)
@@ -27,7 +27,7 @@ some_of (x ∷ xs) = Ok (x ∷ xs)
 unfoldable pub name_in : List ℕ → Result (List ℕ) MailFault
 name_in word = if is_package_name word then Ok word else Err BadHint
 
--- a source at a version: a name, `/` and a version, where the first `/` separates them
+-- a source at a version is a name, `/` and a version; the first `/` separates them
 abbrev pub is_slash : ℕ → Bool
 is_slash c = c == char "/"
 
@@ -43,7 +43,7 @@ names_in ws = some_of ws >>= λ texts. each_of name_in texts
 unfoldable pub items_in : List (List ℕ) → Result (List HintItem) MailFault
 items_in ws = some_of ws >>= λ texts. each_of item_in texts
 
--- items of which no two name the same source
+-- items that all name different sources
 unfoldable pub group_in : List (List ℕ) → Result (List HintItem) MailFault
 group_in ws = do
   items ← items_in ws
@@ -58,12 +58,12 @@ aged_in (days ∷ ws) = do
   items ← items_in ws
   Ok (AgeDays n items)
 
--- of what blocks all there is one: `source` alone
+-- only one thing can be blocked as a whole: `source`
 unfoldable pub all_in : List (List ℕ) → Result Hint MailFault
 all_in (what ∷ []) = if bytes_eq what (codes "source") then Ok BlockAll else Err BadHint
 all_in ws = Err BadHint
 
--- the hint that a word and the words after it are
+-- the hint with this word and the words after it
 unfoldable pub hint_of : List ℕ → List (List ℕ) → Result Hint MailFault
 hint_of word ws =
     if bytes_eq word (codes "block") then (names_in ws >>= λ names. Ok (Block names))
@@ -78,6 +78,6 @@ abbrev pub hint_by : List (List ℕ) → Result Hint MailFault
 hint_by [] = Err BadHint
 hint_by (word ∷ ws) = hint_of word ws
 
--- the hint that a text is
+-- the hint in a text
 unfoldable pub hint_in : List ℕ → Result Hint MailFault
 hint_in text = hint_by (words text)

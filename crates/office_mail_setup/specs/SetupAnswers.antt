@@ -1,9 +1,9 @@
--- What calls that read a setup answer, against what is due.
+-- The results of calls that read a setup, compared with the correct ones.
 use Rattle.std.specs.Prelude.{◌≡◌, ⊤, Result, Ok, Err}
 use Rattle.office_mail_setup.specs.declared.setup.SetupFault.{SetupFault}
 use Rattle.office_mail_setup.specs.declared.setup.SetupFault.TheVariants.{NoMemory}
 
--- what a call answers is what is due, unless memory ran out
+-- the result of a call is the correct one, unless memory ran out
 abbrev pub SetupFails : {Y : Type 0} → SetupFault → Result Y SetupFault → Type 0
 SetupFails NoMemory due = ⊤
 SetupFails e due = due ≡ Err e

@@ -1,4 +1,4 @@
--- The text of a setup: a line of its architectures, and a paragraph for each sender.
+-- The text of a setup: a line with its architectures, and a paragraph for each sender.
 use Rattle.std.specs.Prelude.{ℕ, List, [], ◌∷◌, ◌++◌, codes, flat_map}
 use Rattle.office_mail.specs.Lists.{Lists}
 use Rattle.office_mail_setup.specs.declared.setup.Sender.{Sender}
