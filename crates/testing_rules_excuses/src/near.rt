@@ -1,4 +1,4 @@
-//! Sources by name, for names that are asked in order.
+//! Sources by name, for names looked up in order.
 
 ghost use Rattle.std.specs.Prelude.{◌≡◌, option_copied};
 ghost use Rattle.testing_rules_model.specs.Excuses as rules;
@@ -8,8 +8,8 @@ use deb_version::Version;
 use testing_rules_model::{SourceIn, source_place_near};
 use testing_rules_suites::Testing;
 
-/// The source of a name, which is looked for at the place first, and where the next name belongs: so names that are
-/// asked in order are found without a search.
+/// The source of a name. It is first looked for at the given place, which becomes that of the next name: so names in
+/// order are found without a search.
 pub fn source_near<'a>(
     sources: &'a [SourceIn],
     name: &str,
@@ -24,7 +24,7 @@ pub fn source_near<'a>(
     }
 }
 
-/// The source's version in testing, which is looked for at the place first, and where the next name belongs.
+/// The source's version in testing. It is first looked for at the given place, which becomes that of the next name.
 pub fn testing_version_near<'a>(
     testing: &'a Testing,
     name: &str,

@@ -6,7 +6,7 @@ use deb_control::Text;
 use deb_version::Version;
 use std::marker::Model;
 
-/// The first row that a change would break: where, and which package.
+/// The first row that a change would break: its architecture and package.
 #[derive(Drop)]
 pub struct Offender {
     pub arch: u32,

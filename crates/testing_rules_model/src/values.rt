@@ -104,7 +104,7 @@ impl Same for SourceIn {
     }
 }
 
-/// Whether a row that is lent is the same as another. What is cheap to compare comes first.
+/// Whether a borrowed row is the same as another. Cheap comparisons come first.
 pub fn is_row(lent: &LentRow, row: &RowIn) -> bool
     ensures { IsTrue result ↔ (row_of lent.now ≡ row.now) }
 {
