@@ -8,8 +8,8 @@ use deb_version::Version;
 use testing_rules_model::{SourceIn, source_place_near};
 use testing_rules_suites::Testing;
 
-/// The source of a name. It is first looked for at the given place, which becomes that of the next name: so names in
-/// order are found without a search.
+/// The source of a name, and the place to try for the next name. The given place is tried first: names in order need no
+/// search.
 pub fn source_near<'a>(
     sources: &'a [SourceIn],
     name: &str,
@@ -24,7 +24,7 @@ pub fn source_near<'a>(
     }
 }
 
-/// The source's version in testing. It is first looked for at the given place, which becomes that of the next name.
+/// The source's version in testing, and the place to try for the next name. The given place is tried first.
 pub fn testing_version_near<'a>(
     testing: &'a Testing,
     name: &str,

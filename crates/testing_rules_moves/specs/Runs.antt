@@ -32,7 +32,7 @@ pub record Moment : Type 0 where
 abbrev pub after_move : List Text → Moment → Moment
 after_move group m = record { basis = m.basis; suite = move_group m.basis.sources m.basis.rows group m.suite }
 
--- the first row that moving the group would break
+-- what moving the group would break
 abbrev pub broken_by_move : List Text → Moment → Option Offender
 broken_by_move group m = offender_of m.basis.archs m.suite.rows (move_group m.basis.sources m.basis.rows group m.suite).rows group
 
@@ -44,7 +44,7 @@ IsLacking group m clause = Lacks m.basis.archs m.basis.sources m.basis.rows grou
 abbrev pub after_removal : Text → Moment → Moment
 after_removal name m = record { basis = m.basis; suite = remove_source name m.suite }
 
--- the first row that removing the source would break
+-- what removing the source would break
 abbrev pub broken_by_removal : Text → Moment → Option Offender
 broken_by_removal name m = offender_of m.basis.archs m.suite.rows (remove_source name m.suite).rows []
 
