@@ -56,9 +56,10 @@ pub record HasBadVersion (signs : Signs) (text : List ℕ) : Type 0 where
   pub is_word : IsWord ends_version after word rest
   pub unversioned : is_version word ≡ false
 
--- The laws: an alternative is refused for its name, or for a version, exactly if that is its first fault.
+-- The law: an alternative is refused for its name exactly if that is its first fault.
 abbrev pub RefusesBadNames : Type 0
 RefusesBadNames = (signs : Signs) (text : List ℕ) → (alternative_in signs text ≡ Err BadName) ↔ HasBadName text
 
+-- The law: an alternative is refused for a version exactly if that is its first fault.
 abbrev pub RefusesBadVersions : Type 0
 RefusesBadVersions = (signs : Signs) (text : List ℕ) → (alternative_in signs text ≡ Err BadVersion) ↔ HasBadVersion signs text

@@ -83,10 +83,11 @@ as_alternative p = record { name = p.name; relation = option_map (λ (v : List �
 abbrev pub SpellsProvision : List ℕ → Provision → Type 0
 SpellsProvision text provision = SpellsAlternative EqualAlone text (as_alternative provision)
 
--- The laws: a text is read as clauses, or provisions, exactly if its items spell them.
+-- The law: a text is read as clauses exactly if its items spell them.
 abbrev pub ReadsSpelledClauses : Type 0
 ReadsSpelledClauses = (text : List ℕ) (clauses : List (List Alternative)) → (clauses_in text ≡ Ok clauses) ↔ EachSpells SpellsClause (items text) clauses
 
+-- The law: a text is read as provisions exactly if its items spell them.
 abbrev pub ReadsSpelledProvisions : Type 0
 ReadsSpelledProvisions = (text : List ℕ) (provisions : List Provision) → (provisions_in text ≡ Ok provisions) ↔ EachSpells SpellsProvision (items text) provisions
 

@@ -14,6 +14,7 @@ use Rattle.office_mail_setup.specs.Steps.{needs, given, each_of}
 use Rattle.office_mail_setup.specs.Values.{number_in, words}
 use Rattle.testing_rules_items.specs.Distinct.{is_distinct}
 
+-- the fault of a text that isn't a list of covers
 abbrev pub BadCovers : MailFault
 BadCovers = BadValue field.Covers
 
@@ -33,6 +34,7 @@ cover_of_words setup (name ∷ number ∷ []) = do
   Ok (name, n)
 cover_of_words setup ws = Err BadCovers
 
+-- the sender's name and the number in an item
 unfoldable pub cover_in : Lists → List ℕ → Result (List ℕ × ℕ) MailFault
 cover_in setup item = cover_of_words setup (words item)
 

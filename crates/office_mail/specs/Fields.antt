@@ -20,10 +20,11 @@ has_fields (field ∷ fields) p = required p field >>= λ text. has_fields field
 unfoldable pub value_in : {A : Type 0} → (List ℕ → Option A) → Paragraph → Field → Result A MailFault
 value_in read p field = required p field >>= λ text. given (read text) (BadValue field)
 
--- the value of an optional field
+-- the value of an optional field's text
 abbrev pub read_if_there : {A : Type 0} → (List ℕ → Option A) → Field → Option (List ℕ) → Result (Option A) MailFault
 read_if_there read field None = Ok None
 read_if_there read field (Some text) = given (read text) (BadValue field) >>= λ value. Ok (Some value)
 
+-- the value of an optional field of a paragraph
 unfoldable pub value_if_there : {A : Type 0} → (List ℕ → Option A) → Paragraph → Field → Result (Option A) MailFault
 value_if_there read p field = read_if_there read field (text_of p field)

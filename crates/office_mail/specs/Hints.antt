@@ -27,19 +27,22 @@ some_of (x ∷ xs) = Ok (x ∷ xs)
 unfoldable pub name_in : List ℕ → Result (List ℕ) MailFault
 name_in word = if is_package_name word then Ok word else Err BadHint
 
--- a source at a version is a name, `/` and a version; the first `/` separates them
+-- the `/` that separates a source's name from its version
 abbrev pub is_slash : ℕ → Bool
 is_slash c = c == char "/"
 
+-- a source at a version: a name, `/` and a version; the first `/` separates them
 unfoldable pub item_in : List ℕ → Result HintItem MailFault
 item_in word =
     if list_any is_slash word && is_package_name (before_first is_slash word) && is_version (after_first is_slash word)
     then Ok (record { name = before_first is_slash word; version = after_first is_slash word })
     else Err BadHint
 
+-- names of sources, at least one
 unfoldable pub names_in : List (List ℕ) → Result (List (List ℕ)) MailFault
 names_in ws = some_of ws >>= λ texts. each_of name_in texts
 
+-- sources at versions, at least one
 unfoldable pub items_in : List (List ℕ) → Result (List HintItem) MailFault
 items_in ws = some_of ws >>= λ texts. each_of item_in texts
 
@@ -74,6 +77,7 @@ hint_of word ws =
     else if bytes_eq word (codes "block-all") then all_in ws
     else Err BadHint
 
+-- the hint in words
 abbrev pub hint_by : List (List ℕ) → Result Hint MailFault
 hint_by [] = Err BadHint
 hint_by (word ∷ ws) = hint_of word ws

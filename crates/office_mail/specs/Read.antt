@@ -34,6 +34,7 @@ use Rattle.office_mail.specs.Covers.{covers_in}
 
 -- The content of each kind of message. Fields are read in the order of the lines, and the first bad one is the fault.
 
+-- an upload: its source, version (Debian Policy 5.6.12) and urgency (5.6.17), and its day
 unfoldable pub upload_of : Paragraph → Result Item MailFault
 upload_of p = do
   source ← value_in package_in p field.Source
@@ -155,6 +156,7 @@ abbrev pub sender_from : ℕ → List ℕ → List Sender → Option (ℕ × Rol
 sender_from place name [] = None
 sender_from place name (s ∷ ss) = if bytes_eq s.name name then Some (place, s.role) else sender_from (place + 1) name ss
 
+-- the sender of a setup with a name, and its place
 unfoldable pub sender_named : Lists → List ℕ → Option (ℕ × Role)
 sender_named setup name = sender_from 0 name setup.senders
 
@@ -167,13 +169,16 @@ most_paragraphs _ = 0
 abbrev pub is_arch : List (List ℕ) → List ℕ → Bool
 is_arch archs name = bytes_eq name (codes "all") || list_any (bytes_eq name) archs
 
+-- a missing architecture, a listed one, or `all`
 abbrev pub is_arch_if_there : List (List ℕ) → Option (List ℕ) → Bool
 is_arch_if_there archs None = true
 is_arch_if_there archs (Some name) = is_arch archs name
 
+-- the paragraph names only known architectures
 unfoldable pub knows_arch : Lists → Paragraph → Bool
 knows_arch setup p = is_arch_if_there setup.archs (text_of p field.Architecture)
 
+-- the architectures in a message of this kind are known
 unfoldable pub knows_archs : Lists → Kind → Paragraph → List Paragraph → Bool
 knows_archs setup kind.Drop first rest = knows_arch setup first
 knows_archs setup kind.Build first rest = list_all (knows_arch setup) rest
@@ -191,6 +196,7 @@ message_of setup from number stated first rest = do
   body ← body_of setup kind first rest
   Ok (record { sender = sender.0; number = n; body = body })
 
+-- the message of the paragraphs, if the first names a sender, a number and a kind
 unfoldable pub paragraphs_say : Lists → Paragraph → List Paragraph → Result Message MailFault
 paragraphs_say setup first rest = do
   from ← required first field.From

@@ -25,6 +25,7 @@ setup_field_name field.Architectures = codes "Architectures"
 setup_field_name field.Sender = codes "Sender"
 setup_field_name field.Role = codes "Role"
 
+-- the value of a field, or the fault that it is missing
 unfoldable pub stated : Paragraph → SetupField → Result (List ℕ) SetupFault
 stated p f = given (value_of p (setup_field_name f)) (MissingField f)
 
@@ -33,9 +34,11 @@ unfoldable pub is_sender_name : List ℕ → Bool
 is_sender_name [] = false
 is_sender_name (c ∷ cs) = nat_le (char "a") c && nat_le c (char "z") && list_all is_qualifier_char cs && nat_le (length cs) 31
 
+-- senders' names: valid and all different
 unfoldable pub are_senders : List (List ℕ) → Bool
 are_senders names = list_all is_sender_name names && is_distinct names
 
+-- the role with this name (this office decides the names)
 unfoldable pub role_named : List ℕ → Option Role
 role_named text =
     if bytes_eq text (codes "upload") then Some Upload

@@ -57,10 +57,11 @@ day_in text =
     then day_if_real (digits_value 10 (take 4 text)) (digits_value 10 (take 2 (drop 5 text))) (digits_value 10 (take 2 (drop 8 text)))
     else None
 
--- the value of a package name (Debian Policy 5.6.1) or of a version (Debian Policy 5.6.12) is its text
+-- a package name (Debian Policy 5.6.1), whose value is its text
 abbrev pub package_in : List ℕ → Option (List ℕ)
 package_in text = some_if (is_package_name text) text
 
+-- a version (Debian Policy 5.6.12), whose value is its text
 abbrev pub version_in : List ℕ → Option (List ℕ)
 version_in text = some_if (is_version text) text
 
@@ -78,6 +79,7 @@ urgency_named word =
 abbrev pub ends_urgency : ℕ → Bool
 ends_urgency c = c == char " " || c == char "\t"
 
+-- the urgency at the front of a text (Debian Policy 5.6.17)
 unfoldable pub urgency_in : List ℕ → Option Urgency
 urgency_in text = urgency_named (before_first ends_urgency text)
 

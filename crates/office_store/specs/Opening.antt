@@ -39,6 +39,7 @@ text_of_one number says [] = None
 text_of_one number says (row ∷ []) = text_by number (says row)
 text_of_one number says (a ∷ b ∷ rows) = None
 
+-- the kept setup's text, for schema number 2
 abbrev pub kept_text : List Row → Option (List ℕ)
 kept_text rows = text_of_one 2 office_in rows
 

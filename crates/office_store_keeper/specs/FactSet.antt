@@ -11,6 +11,7 @@ use Rattle.office_mail.specs.Lists.{Lists}
 use Rattle.office_mail_setup.specs.declared.setup.Role.TheVariants.{Release}
 use Rattle.office_mail.specs.Setup.{place_of_role}
 
+-- a set of rows of facts
 abbrev pub FactSet : Type 0
 FactSet = FinMap row_order ⊤
 
@@ -34,11 +35,12 @@ is_among r rows = list_any (is_row r) rows
 abbrev pub set_of_rows : List FactRow → FactSet
 set_of_rows rows = from_entries (map (λ r. (r, tt)) rows)
 
--- a set without these rows, and below, one with them
+-- a set without these rows
 abbrev pub without_rows : List FactRow → FactSet → FactSet
 without_rows [] facts = facts
 without_rows (r ∷ rs) facts = without_rows rs (remove facts r)
 
+-- a set with these rows
 abbrev pub with_rows : List FactRow → FactSet → FactSet
 with_rows [] facts = facts
 with_rows (r ∷ rs) facts = with_rows rs (insert facts r tt)

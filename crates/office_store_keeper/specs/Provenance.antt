@@ -21,7 +21,7 @@ use Rattle.office_store_keeper.specs.Content.{Content, item_from_one}
 abbrev pub AreOwnTexts : Lists → Kept → Type 0
 AreOwnTexts setup kept = (p : Place) (text : List ℕ) → get kept p ≡ Some text → placed setup text ≡ Some (p, text)
 
--- the source and version named by an upload
+-- the source and version named by an item, if it is an upload
 abbrev pub upload_in_item : Item → Option (List ℕ × List ℕ)
 upload_in_item (Upload source version urgency day) = Some (source, version)
 upload_in_item (Dropped name arch version) = None
@@ -32,11 +32,12 @@ upload_in_item (Unhint number) = None
 upload_in_item (Delays low medium high critical) = None
 upload_in_item Nothing = None
 
+-- the same for a body
 abbrev pub upload_in : Body → Option (List ℕ × List ℕ)
 upload_in (Saying item) = upload_in_item item
 upload_in (Run order) = None
 
--- the binary of a build at a place, counted from 1
+-- the binary at a place of an item, counted from 1, if it is a build
 abbrev pub binary_in_item : ℕ → Item → Option Binary
 binary_in_item place (Upload source version urgency day) = None
 binary_in_item place (Dropped name arch version) = None
@@ -47,6 +48,7 @@ binary_in_item place (Unhint number) = None
 binary_in_item place (Delays low medium high critical) = None
 binary_in_item place Nothing = None
 
+-- the same for a body
 abbrev pub binary_in : ℕ → Body → Option Binary
 binary_in place (Saying item) = binary_in_item place item
 binary_in place (Run order) = None

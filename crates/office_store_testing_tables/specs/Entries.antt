@@ -19,6 +19,7 @@ integer_in (Blob bytes) = None
 
 -- ---- sources
 
+-- the content of a row of sources from its columns, if all are readable
 abbrev pub source_by : Option ℤ → Option (List ℕ) → Option ℕ → Option ℕ → Option (List ℕ × Place)
 source_by None name sender number = None
 source_by (Some rowid) None sender number = None
@@ -36,6 +37,7 @@ source_map rows = from_entries (filter_map source_in rows)
 
 -- ---- rows
 
+-- the content of a row of rows from its columns, if all are readable
 abbrev pub row_by : Option ℤ → Option ℕ → Option (List ℕ) → Option ℕ → Option ℕ → Option ℕ → Option ((ℕ × List ℕ) × (Place × ℕ))
 row_by None arch name sender number place = None
 row_by (Some rowid) None name sender number place = None

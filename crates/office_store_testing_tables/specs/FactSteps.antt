@@ -112,6 +112,7 @@ pub record AddsDelays (db next : Trees) (number : ℕ) : Type 0 where
 abbrev pub CanStand : ℕ → FactRow → Type 0
 CanStand release fact = (may_stand fact.kind fact.place ≡ true) ⊎ (fact ≡ delays_of release fact.number)
 
+-- the tables have a place for each fact
 abbrev pub CanStandEach : ℕ → List FactRow → Type 0
 CanStandEach release facts = (fact : FactRow) → Has facts fact → CanStand release fact
 

@@ -20,6 +20,7 @@ abbrev pub kind_by : Option ℕ → Option FactKind
 kind_by None = None
 kind_by (Some number) = kind_of number
 
+-- the kind in a column
 abbrev pub kind_in : Value → Option FactKind
 kind_in value = kind_by (small_in value)
 
@@ -27,9 +28,11 @@ kind_in value = kind_by (small_in value)
 abbrev pub may_stand : FactKind → ℕ → Bool
 may_stand kind place = not (is_kind kind Delays) && (is_kind kind Build || (place == 0))
 
+-- a fact, if the table of facts may have its row
 abbrev pub fact_of : FactRow → Option (FactRow × ⊤)
 fact_of fact = if may_stand fact.kind fact.place then Some (fact_entry fact) else None
 
+-- the content of a row of facts from its columns, if all are readable
 abbrev pub fact_by : Option ℤ → Option FactKind → Option ℕ → Option ℕ → Option ℕ → Option (FactRow × ⊤)
 fact_by None kind sender number place = None
 fact_by (Some rowid) None sender number place = None
@@ -46,6 +49,7 @@ fact_in row = fact_by (integer_in (column row 0)) (kind_in (column row 1)) (smal
 abbrev pub delays_of : ℕ → ℕ → FactRow
 delays_of release number = record { kind = Delays; sender = release; number = number; place = 0 }
 
+-- the content of a row of the last delays from its columns, if its id is 1
 abbrev pub delays_by : ℕ → Option ℕ → Option ℕ → Option (FactRow × ⊤)
 delays_by release None number = None
 delays_by release (Some id) None = None

@@ -33,6 +33,7 @@ abbrev pub own_by : ℕ → ℕ → Result Message MailFault → Option Message
 own_by sender number (Ok message) = if (message.sender == sender) && (message.number == number) then Some message else None
 own_by sender number (Err fault) = None
 
+-- the message in a kept text, if it has this sender and number
 abbrev pub message_by : Lists → ℕ → ℕ → Option (List ℕ) → Option Message
 message_by setup sender number None = None
 message_by setup sender number (Some text) = own_by sender number (read setup text)
@@ -43,10 +44,12 @@ message_at setup kept sender number = message_by setup sender number (get kept (
 
 -- ---- sources
 
+-- the source of testing from an upload, if it has this name
 abbrev pub source_as : List ℕ → ℕ → ℕ → Option (List ℕ × List ℕ) → Option SourceIn
 source_as name sender number None = None
 source_as name sender number (Some upload) = if bytes_eq upload.0 name then Some (record { name = upload.0; version = upload.1; sender = sender; number = number }) else None
 
+-- the source of testing from a message, if it is an upload with this name
 abbrev pub source_by_message : List ℕ → ℕ → ℕ → Option Message → Option SourceIn
 source_by_message name sender number None = None
 source_by_message name sender number (Some message) = source_as name sender number (upload_in message.body)
@@ -69,6 +72,7 @@ source_of setup kept row = source_by_entry setup kept (source_in row)
 abbrev pub is_arch_place : List (List ℕ) → ℕ → Bool
 is_arch_place archs place = nat_lt place (length archs) || (place == all_place)
 
+-- the row of testing from a binary, if it has this name and architecture
 abbrev pub row_as : List (List ℕ) → ℕ → List ℕ → ℕ → ℕ → ℕ → Option Binary → Option RowIn
 row_as archs arch name sender number place None = None
 row_as archs arch name sender number place (Some binary) =
@@ -76,6 +80,7 @@ row_as archs arch name sender number place (Some binary) =
     then Some (record { arch = arch; binary = binary; sender = sender; number = number; place = place })
     else None
 
+-- the row of testing from a message, if it is a build with such a binary
 abbrev pub row_by_message : List (List ℕ) → ℕ → List ℕ → ℕ → ℕ → ℕ → Option Message → Option RowIn
 row_by_message archs arch name sender number place None = None
 row_by_message archs arch name sender number place (Some message) = row_as archs arch name sender number place (binary_in place message.body)

@@ -57,6 +57,7 @@ abbrev pub small_of : Option ℕ → Option ℕ
 small_of None = None
 small_of (Some n) = if nat_lt n 4_294_967_296 then Some n else None
 
+-- a number of 32 bits in a column
 abbrev pub small_in : Value → Option ℕ
 small_in v = small_of (number_in v)
 
@@ -70,6 +71,7 @@ bytes_in (Blob bytes) = Some bytes
 
 -- ---- mail
 
+-- the content of a row of mail from its columns, if all are readable
 abbrev pub letter_by : Option ℕ → Option ℕ → Option (List ℕ) → Option (Place × List ℕ)
 letter_by None number text = None
 letter_by (Some sender) None text = None
@@ -94,6 +96,7 @@ text_in (Real x) = None
 text_in (Text text) = Some text
 text_in (Blob bytes) = None
 
+-- the content of a row of the office from its columns, if all are readable
 abbrev pub office_by : Option ℕ → Option ℕ → Option (List ℕ) → Option ℕ → Option (ℕ × Said)
 office_by None schema setup finished = None
 office_by (Some id) None setup finished = None
@@ -111,6 +114,7 @@ said_in rows = find nat_cmp 1 (filter_map office_in rows)
 
 -- ---- the reports of runs
 
+-- the content of a row of a finished run from its columns, if all are readable
 abbrev pub run_by : Option ℕ → Option (List ℕ) → Option (List ℕ) → Option (ℕ × Reports)
 run_by None excuses updates = None
 run_by (Some number) None updates = None

@@ -167,7 +167,7 @@ fn push_origins<'g, 'a>(
 }
 
 /// The messages that gave the reason, in the order of the facts. If the bugs are known to be ordered by number, one is
-/// found by binary search. The one error is want of memory.
+/// found by binary search. The only error is running out of memory.
 pub fn origins_by<'g, 'a>(
     alloc: Global,
     said: &'g SourceFacts<'a>,
@@ -183,8 +183,8 @@ pub fn origins_by<'g, 'a>(
     Ok(origins)
 }
 
-/// The messages that gave the reason, in the order of the facts. No message gives `TooYoung` and `NoBinaries`. The one
-/// error is want of memory.
+/// The messages that gave the reason, in the order of the facts. No message gives `TooYoung` and `NoBinaries`. The only
+/// error is running out of memory.
 pub fn origins<'g, 'a>(
     alloc: Global,
     said: &'g SourceFacts<'a>,

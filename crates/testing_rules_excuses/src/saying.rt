@@ -64,7 +64,7 @@ fn version_in<'a>(testing: &'a Testing, name: &str) -> Option<&'a Version>
     version
 }
 
-/// What the facts and testing say about an unstable source. The one error is want of memory.
+/// What the facts and testing say about an unstable source. The only error is running out of memory.
 pub fn said_of<'a>(
     alloc: Global,
     archs: &Archs,

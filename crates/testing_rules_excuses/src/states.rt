@@ -107,7 +107,7 @@ fn is_current_in(sources: &[Box<UploadIn>], row: &LentRow) -> bool
 }
 
 /// The state of a row of unstable, given unstable's sources, the excuses of those that testing doesn't have yet, and
-/// the source in question. The one error is want of memory.
+/// the source in question. The only error is running out of memory.
 pub fn state_of(
     alloc: Global,
     sources: &[Box<UploadIn>],

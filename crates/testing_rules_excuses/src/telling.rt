@@ -266,7 +266,7 @@ fn source_lines(alloc: Global, asked: &LineInput, excuse: Option<&Excuse>) -> Re
 
 /// The origins of an unstable source's reasons, in lines: the message of its upload, then for each reason of its excuse
 /// the day on which it is old enough or the messages that gave the reason. The senders' names are in the order of their
-/// places. The one error is want of memory.
+/// places. The only error is running out of memory.
 pub fn origin_lines(
     alloc: Global,
     senders: &[Text],

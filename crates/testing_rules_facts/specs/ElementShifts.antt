@@ -30,6 +30,7 @@ pub record Shift : Type 0 where
   pub left : List FactRow
   pub came : List FactRow
 
+-- no rows leave or come
 abbrev pub no_shift : Shift
 no_shift = record { left = []; came = [] }
 
@@ -37,6 +38,7 @@ no_shift = record { left = []; came = [] }
 abbrev pub then_shift : Shift → Shift → Shift
 then_shift a b = record { left = a.left ++ b.left; came = a.came ++ b.came }
 
+-- the shift of one build
 abbrev pub shift_build : BuildIn → List BuildIn → Shift
 shift_build b rows = record { left = map build_row (way_given pair_of pair_order build_order b rows); came = map build_row (come_in pair_of pair_order build_order b rows) }
 

@@ -151,7 +151,7 @@ fn begin_above(rows: &[BuildIn], arch: &str, name: &str) -> bool
     }
 }
 
-/// Moves the upper half of a full block to its own block; the lower half stays.
+/// Moves the upper half of a full block to a new block.
 fn upper_half(rows: &mut Vec<BuildIn>, guess: usize, spare: Spare) -> BuildBlock
     requires { vec_len rows.old ≡ 64 }
     ensures rows { rows.new.items ++ result ≡ rows.old.items }
@@ -310,7 +310,7 @@ fn copy_blocks(alloc: Global, blocks: &[BuildBlock]) -> Result<Vec<BuildBlock>, 
     Ok(copies)
 }
 
-/// Makes sure that there are at least this many spares.
+/// Adds spares, up to this many.
 fn top_up(alloc: Global, spares: &mut Vec<Spare>, count: usize) -> Result<(), NoMemory>
     ensures { OnOk result (count ≤ vec_len spares.new) }
 {

@@ -338,7 +338,7 @@ impl Facts {
         }
     }
 
-    /// Adds an upload to the sources, and to the uploads unless it is already there.
+    /// Adds an upload to the sources, and to the uploads if it is new.
     fn take_upload(&mut self, upload: UploadIn) -> Result<(), NoMemory>
         ensures ok { OnOk result (self.new ≡ with_entry (Upload upload) self.old) }
         ensures err { OnErr result (self.new ≡ self.old) }

@@ -1,4 +1,4 @@
-//! Unstable in the form that moves use.
+//! Unstable, for moves.
 
 ghost use Rattle.std.specs.Prelude.{◌≡◌, IfOk, length, option_copied};
 ghost use Rattle.std.specs.List.Sorted.{IsBinarySearchResult, IsSearchInRange};

@@ -29,7 +29,7 @@ pub struct Living {
     pub dead: Vec<DeadSource>,
 }
 
-/// A dead candidate in the form of the result.
+/// A dead candidate, for the result.
 fn dead_source(
     alloc: Global,
     candidate: &Excuse,

@@ -26,7 +26,7 @@ pub enum ArchsFault {
     #[error("too many architectures")]
     TooMany,
 
-    /// A growth of memory was refused.
+    /// An allocation failed.
     #[error("out of memory")]
     NoMemory,
 }
@@ -72,7 +72,7 @@ impl Model for Archs {
 }
 
 impl Archs {
-    /// These architectures. It takes no memory.
+    /// These architectures. It allocates nothing.
     pub fn of(names: Vec<Text>) -> Archs
         requires { IsArchs names.items }
         ensures { result ≡ names.items }

@@ -51,7 +51,7 @@ impl Model for Names {
 }
 
 impl Names {
-    /// These names. It takes no memory.
+    /// These names. It allocates nothing.
     pub fn of(names: Vec<Text>) -> Names
         ensures { result ≡ names.items }
     {
@@ -145,7 +145,7 @@ fn copy_items(alloc: Global, items: &[HintItem]) -> Result<Vec<HintItem>, NoMemo
 }
 
 impl HintItems {
-    /// These items. It takes no memory.
+    /// These items. It allocates nothing.
     pub fn of(items: Vec<HintItem>) -> HintItems
         ensures { result ≡ items.items }
     {
@@ -227,7 +227,7 @@ impl Model for Binaries {
 }
 
 impl Binaries {
-    /// These binaries. It takes no memory.
+    /// These binaries. It allocates nothing.
     pub fn of(binaries: Vec<Binary>) -> Binaries
         ensures { result ≡ binaries.items }
     {
@@ -241,7 +241,7 @@ impl Binaries {
         self.binaries.as_slice()
     }
 
-    /// The binary packages, in order. It takes no memory.
+    /// The binary packages, in order. It allocates nothing.
     pub fn into_vec(self) -> Vec<Binary>
         ensures { result.items ≡ self }
     {

@@ -21,10 +21,11 @@ pub record AreMade (count : FactRow → ℕ) (now put gone : List FactRow) : Typ
 abbrev pub EntryShifts : Type 0
 EntryShifts = (e : FactUpdate) (f : FactLists) → Shifts (rows_of f) (rows_of (with_entry e f)) (shift_of e f)
 
--- Taking a message and trimming log what they change.
+-- Taking a message logs what it changes.
 abbrev pub TakesLog : Type 0
 TakesLog = (count : FactRow → ℕ) (e : FactUpdate) (f : FactLists) → IsChangedFrom count f → IsChangedFrom count (with_entry e f)
 
+-- Trimming logs what it changes.
 abbrev pub TrimsLog : Type 0
 TrimsLog = (count : FactRow → ℕ) (t : Suite) (f : FactLists) → IsChangedFrom count f → IsChangedFrom count (trimmed t f)
 

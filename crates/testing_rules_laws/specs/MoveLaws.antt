@@ -14,8 +14,8 @@ abbrev pub IsUnbroken : ℕ → List Text → List RowAnswer → RowAnswer → T
 IsUnbroken arch group before j =
     is_watched_on arch j.row ≡ true → (is_row_of group j.row ≡ true) ⊎ (was_installable before j.row ≡ true) → j.is_installable ≡ true
 
--- a change has no offender exactly if on each architecture every watched row is installable that came, or was
--- installable before
+-- a change has no offender exactly if on each architecture every watched row that came, or was installable before, is
+-- installable
 abbrev pub AllowedMeans : Type 0
 AllowedMeans =
     (archs : List Text) (old new : List RowIn) (group : List Text)

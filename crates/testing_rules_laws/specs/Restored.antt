@@ -10,7 +10,7 @@ use Rattle.testing_rules_model.specs.declared.fact_row.FactRow.{FactRow}
 use Rattle.testing_rules_model.specs.FactRows.{rows_of, times}
 use Rattle.testing_rules_facts.specs.Restored.{Given, message_of, restored}
 
--- the rows restored one after another
+-- all rows restored in turn
 abbrev pub restored_all : List Given → FactLists → FactLists
 restored_all [] f = f
 restored_all (x ∷ xs) f = restored_all xs (restored x f)

@@ -14,17 +14,19 @@ use Rattle.testing_rules_model.specs.StandsFor.{StandsFor}
 use Rattle.testing_rules_model.specs.Suite.{Suite}
 use Rattle.testing_rules_model.specs.Tells.{Tells}
 
--- Messages that say facts also say them with more rows, if the messages of these rows are among them.
+-- Messages that say facts also say them with one more row, if they include its message.
 abbrev pub RestoredTell : Type 0
 RestoredTell = (x : Given) (f : FactLists) (s : Covered) → Tells f s → Contains s (message_of x) → Tells (restored x f) s
 
+-- The same with more rows, if the messages include those of the rows.
 abbrev pub AllRestoredTell : Type 0
 AllRestoredTell = (xs : List Given) (f : FactLists) (s : Covered) → Tells f s → ((x : Given) → Contains xs x → Contains s (message_of x)) → Tells (restored_all xs f) s
 
--- They also say them with other rows that came and left, and trimmed.
+-- They also say them with other rows that came and left.
 abbrev pub LoggedTell : Type 0
 LoggedTell = (came left : List FactRow) (f : FactLists) (s : Covered) → Tells f s → Tells (record f { came = came; left = left }) s
 
+-- They also say them trimmed.
 abbrev pub TrimmedTell : Type 0
 TrimmedTell = (t : Suite) (f : FactLists) (s : Covered) → Tells f s → Tells (trimmed t f) s
 

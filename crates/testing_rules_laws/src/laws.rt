@@ -47,7 +47,7 @@ pub fn drop_puts_one()
     ensures { DropPutsOne }
 {}
 
-/// The greatest drops decide for each build whether it is above the drops.
+/// The greatest drops decide which builds are above the drops.
 pub fn greatest_drops_decide()
     ensures { GreatestDropsDecide }
 {}

@@ -40,6 +40,7 @@ is_kind k l = number_of k == number_of l
 abbrev pub source_row : UploadIn → FactRow
 source_row u = record { kind = Source; sender = u.sender; number = u.number; place = 0 }
 
+-- the row of an upload above testing's version
 abbrev pub upload_row : UploadIn → FactRow
 upload_row u = record { kind = Upload; sender = u.sender; number = u.number; place = 0 }
 
@@ -51,15 +52,19 @@ build_row b = record { kind = Build; sender = b.sender; number = b.number; place
 abbrev pub drop_row : DropIn → FactRow
 drop_row d = record { kind = Drop; sender = d.sender; number = d.number; place = 0 }
 
+-- the row of a bug's last message
 abbrev pub bug_row : BugIn → FactRow
 bug_row b = record { kind = Bug; sender = b.sender; number = b.number; place = 0 }
 
+-- the row of a hint
 abbrev pub hint_row : HintIn → FactRow
 hint_row h = record { kind = Hint; sender = h.sender; number = h.number; place = 0 }
 
+-- the row of an unhint
 abbrev pub unhint_row : UnhintIn → FactRow
 unhint_row c = record { kind = Unhint; sender = c.sender; number = c.number; place = 0 }
 
+-- the row of the last delays
 abbrev pub delays_row : DelaysIn → FactRow
 delays_row d = record { kind = Delays; sender = d.sender; number = d.number; place = 0 }
 

@@ -22,26 +22,31 @@ put_first key cmp rank x [] = x ∷ []
 put_first key cmp rank x (y ∷ ys) =
     elim (cmp (key x) (key y)) [ Less ↦ x ∷ y ∷ ys | Equal ↦ (if is_lt (rank y x) then y else x) ∷ ys | Greater ↦ y ∷ put_first key cmp rank x ys ]
 
--- sources with one more upload; below, the same for rows and builds, drops, and bugs
+-- unstable's sources with one more upload
 abbrev pub with_upload : UploadIn → List UploadIn → List UploadIn
 with_upload = put_first (λ u. u.source) byte_cmp upload_order
 
+-- unstable's rows with one more build
 abbrev pub with_build : BuildIn → List BuildIn → List BuildIn
 with_build = put_first pair_of pair_order build_order
 
+-- the greatest drops with one more drop
 abbrev pub with_greatest : DropIn → List DropIn → List DropIn
 with_greatest = put_first drop_pair pair_order drop_order
 
+-- the states of bugs with one more message
 abbrev pub with_bug : BugIn → List BugIn → List BugIn
 with_bug = put_first (λ b. b.bug) nat_cmp bug_order
 
--- hints with one more; below, unhints, and the last of two messages on delays
+-- the hints with one more hint
 abbrev pub with_hint : HintIn → List HintIn → List HintIn
 with_hint = put_by (λ h. h) hint_order
 
+-- the unhints with one more unhint
 abbrev pub with_unhint : UnhintIn → List UnhintIn → List UnhintIn
 with_unhint = put_by (λ c. c) unhint_order
 
+-- the last of two messages on delays
 abbrev pub with_delays : DelaysIn → Option DelaysIn → Option DelaysIn
 with_delays = lesser delays_order
 

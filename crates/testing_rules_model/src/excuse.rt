@@ -69,7 +69,7 @@ impl Model for Excuses {
 }
 
 impl Reasons {
-    /// These reasons. It takes no memory.
+    /// These reasons. It allocates nothing.
     pub fn new(reasons: Vec<Reason>) -> Reasons
         ensures { result ≡ reasons.items }
     {
@@ -85,7 +85,7 @@ impl Reasons {
 }
 
 impl Excuses {
-    /// These excuses. It takes no memory.
+    /// These excuses. It allocates nothing.
     pub fn of(excuses: Vec<Excuse>) -> Excuses
         ensures { result ≡ excuses.items }
     {

@@ -76,7 +76,7 @@ impl Model for FactRows {
 }
 
 impl FactRows {
-    /// These rows. It takes no memory.
+    /// These rows. It allocates nothing.
     pub fn of(rows: Vec<FactRow>) -> FactRows
         ensures { result ≡ rows.items }
     {

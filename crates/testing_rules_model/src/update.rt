@@ -99,7 +99,7 @@ impl Model for Update {
 }
 
 impl MovedItems {
-    /// These sources. It takes no memory.
+    /// These sources. It allocates nothing.
     pub fn new(items: Vec<Moved>) -> MovedItems
         ensures { result ≡ items.items }
     {
@@ -115,7 +115,7 @@ impl MovedItems {
 }
 
 impl Update {
-    /// These decisions. It takes no memory.
+    /// These decisions. It allocates nothing.
     pub fn of(decisions: Vec<Decision>) -> Update
         ensures { result ≡ decisions.items }
     {

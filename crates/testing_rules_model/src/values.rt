@@ -8,7 +8,7 @@ use deb_version::Version;
 
 /// A value that can be compared with another.
 pub trait Same {
-    /// Whether the two are the same. It takes no memory.
+    /// Whether the two are the same. It allocates nothing.
     fn is_same(&self, other: &Self) -> bool
         ensures { IsTrue result ↔ (self.now ≡ other.now) };
 }

@@ -50,9 +50,9 @@ fn group_breaks<'a>(
     Ok((offender, same))
 }
 
-/// What moving the group as one over testing would break, if any. Testing is unchanged, and keeps the
-/// suites for the next call or run. If it has them, the cost is a copy of testing and what the move touches; else also
-/// one judgement of all its rows. The one error is want of memory.
+/// What moving the group as one over testing would break, if any. Testing is unchanged, and keeps the suites for the
+/// next call or run. If it has them, the cost is a copy of testing and what the move touches; else also one judgement
+/// of all its rows. The only error is running out of memory.
 pub fn broken_by_group(
     alloc: Global,
     archs: &Archs,
@@ -94,8 +94,8 @@ fn removal_breaks<'a>(
     Ok((offender, same))
 }
 
-/// What removing the source from testing would break, if any. Testing is unchanged, and keeps the suites
-/// for the next call or run. It costs as much as `broken_by_group`. The one error is want of memory.
+/// What removing the source from testing would break, if any. Testing is unchanged, and keeps the suites for the next
+/// call or run. It costs as much as `broken_by_group`. The only error is running out of memory.
 pub fn broken_by_removal(
     alloc: Global,
     archs: &Archs,

@@ -77,7 +77,7 @@ fn groups_over<'a>(
 }
 
 /// Testing after all removals and all groups of the hints in force, before any source moves alone, by the facts and the
-/// excuses of a run. The one error is want of memory.
+/// excuses of a run. The only error is running out of memory.
 pub fn hinted(
     alloc: Global,
     archs: &Archs,
@@ -92,7 +92,7 @@ pub fn hinted(
 }
 
 /// Testing at the turn of the group of the hint with the number: after all removals, and the groups of the hints in
-/// force with smaller numbers, by the facts and the excuses of a run. The one error is want of memory.
+/// force with smaller numbers, by the facts and the excuses of a run. The only error is running out of memory.
 pub fn at_group(
     alloc: Global,
     archs: &Archs,
@@ -151,7 +151,7 @@ fn removals_over<'a>(
 }
 
 /// Testing at the turn of a removal of the hint with the number: after the removals of the hints in force with smaller
-/// numbers, and the earlier items of its own hint, by the facts of a run. The one error is want of memory.
+/// numbers, and the earlier items of its own hint, by the facts of a run. The only error is running out of memory.
 pub fn at_removal(
     alloc: Global,
     archs: &Archs,

@@ -65,7 +65,7 @@ fn is_bearer(rows: &[LentRow], steps: &[Step], clause: &Clause, number: usize) -
     }
 }
 
-/// The numbers of the lines whose rows meet the clause, among these numbers.
+/// Of these numbers, those of lines whose rows meet the clause.
 fn bearers_among(
     alloc: Global,
     rows: &[LentRow],

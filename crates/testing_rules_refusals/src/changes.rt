@@ -292,7 +292,7 @@ fn removal_by_suites(
 /// line on the hint. Testing is unchanged, and keeps the suites for the next call or run. If it has them, the cost is a
 /// few looks at each row of testing and of unstable, and what the move and the offender's clauses touch; else also one
 /// judgement of all rows. If two rows with the offender's name are on its architecture, that architecture and each one
-/// before it are judged from scratch. The one error is want of memory.
+/// before it are judged from scratch. The only error is running out of memory.
 pub fn group_refusal(
     alloc: Global,
     archs: &Archs,
@@ -318,7 +318,7 @@ pub fn group_refusal(
 
 /// Why the source can't be removed from testing, in lines, by the facts and the excuses of a run. There is no answer
 /// exactly if that breaks nothing. Over the testing at the removal's turn, the offender is that of the run's line on
-/// it. Testing is unchanged, and the cost is that of `group_refusal`. The one error is want of memory.
+/// it. Testing is unchanged, and the cost is that of `group_refusal`. The only error is running out of memory.
 pub fn removal_refusal(
     alloc: Global,
     archs: &Archs,

@@ -91,8 +91,8 @@ fn refusal_on<'a>(
 
 /// The first row that a change from the old rows to the new ones breaks, for a moving group, with the proof that it
 /// isn't installable then. There is none exactly if the change breaks nothing. It costs two judgements of the
-/// offender's architecture and of each one before it, and what clauses reach from the offender. The one error is want
-/// of memory.
+/// offender's architecture and of each one before it, and what clauses reach from the offender. The only error is
+/// running out of memory.
 pub fn refused<'a>(
     alloc: Global,
     archs: &Archs,

@@ -122,7 +122,7 @@ pub(crate) fn steps_for(
 
 /// The proof that an offender's row isn't installable after a change, if no other row on its architecture has its name
 /// and if steps are found. It costs a few passes over the rows there and the steps, a look at each step that has a name
-/// of a row, and the cost of the rows that clauses reach from it. The one error is want of memory.
+/// of a row, and the cost of the rows that clauses reach from it. The only error is running out of memory.
 pub fn shown_of<'a>(
     alloc: Global,
     new: &[LentRow<'a>],

@@ -579,7 +579,7 @@ fn text_over_rows(
 /// after its removals and its groups. The suspects are what a search considers dead, by round. Their blocks are tested,
 /// so nothing depends on the search: there is no text if it was wrong, or if the source isn't a suspect. A block costs
 /// a few looks at each row of testing and of unstable and at each excuse, and what its clauses touch; if the offender's
-/// row is one of testing that stays, also one judgement of its architecture. The one error is want of memory.
+/// row is one of testing that stays, also one judgement of its architecture. The only error is running out of memory.
 pub fn stuck_text(
     alloc: Global,
     archs: &Archs,

@@ -224,7 +224,7 @@ fn push_help(
     push_offers(alloc, text, telling, &line.offers)
 }
 
-/// Adds a line and the lines that belong to it.
+/// Adds a line and its help.
 #[tactic(auto, using(crate::proofs::Helping::helped, crate::proofs::Helping::unhelped))]
 fn push_told(
     alloc: Global,
@@ -262,7 +262,7 @@ fn push_each_told(
 
 /// The text of a proof that a row isn't installable: its lines, in order. After a line with an unmet clause it has the
 /// leaving rows of testing that met the clause before, and the state of each row of unstable that would meet it. The
-/// one error is want of memory.
+/// only error is running out of memory.
 pub fn refusal_text(alloc: Global, telling: &Telling, told: &[Told]) -> Result<Text, NoMemory>
     requires { AreBySource (unboxed telling.now.unstable.sources.now) }
     ensures { IfOk result (λ text. text ≡ texts.refusal_text (known_of telling.now) (map told_of told.now)) }

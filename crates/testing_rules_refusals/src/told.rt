@@ -95,7 +95,7 @@ fn lines_of<'a>(alloc: Global, shown: &Shown<'_, 'a>) -> Result<Vec<Told<'a>>, A
 }
 
 /// The proof of a refusal, line by line, with the offender first, given testing's rows before the change and
-/// unstable's. The one error is want of memory.
+/// unstable's. The only error is running out of memory.
 pub fn refusal_lines<'a>(
     alloc: Global,
     refusal: &Refusal<'a>,

@@ -9,6 +9,7 @@ use Rattle.testing_rules_reports.specs.Changes.{is_inner, behind}
 abbrev pub is_space : ℕ → Bool
 is_space c = c == 32
 
+-- the words of a line, separated by spaces
 abbrev pub words : List ℕ → List (List ℕ)
 words line = slice_split is_space line
 

@@ -9,5 +9,6 @@ use Rattle.testing_rules_model.specs.JudgedRows.{row_of}
 abbrev pub answer : RowAnswer → Answer
 answer j = record { row = row_of j.row; is_installable = j.is_installable }
 
+-- the answers, with their rows in place of the references
 abbrev pub answers : List RowAnswer → List Answer
 answers judged = map answer judged

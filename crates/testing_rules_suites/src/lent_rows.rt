@@ -166,7 +166,7 @@ fn are_by_key(rows: &[LentRow]) -> bool
 }
 
 /// The rows of a pool at some places, each put at its key: of those with the same key the last. Rows with different
-/// keys are sorted; only if two have the same key are they put in one by one. The one error is want of memory.
+/// keys are sorted; only if two have the same key are they put in one by one. The only error is running out of memory.
 pub fn rows_in_order<'a>(
     alloc: Global,
     pool: &'a Pool,
