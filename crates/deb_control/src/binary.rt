@@ -208,7 +208,7 @@ fn optional<'a>(paragraph: &Paragraph<'a>, field: BinaryField) -> &'a str
     }
 }
 
-/// The result; a fault names the field.
+/// The result for this field.
 fn in_field<T>(field: BinaryField, outcome: Result<T, RelationFault>) -> Result<T, BinaryFault>
     ensures { result ≡ of_field field outcome }
 {

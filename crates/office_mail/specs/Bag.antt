@@ -16,11 +16,11 @@ header n = codes "mail " ++ decimal n ++ codes "\n"
 abbrev pub framed : List ℕ → List ℕ
 framed message = header (length message) ++ message
 
--- a message with a length that some header line announces
+-- a message announced by some header line
 abbrev pub HasHeader : List ℕ → Type 0
 HasHeader message = length message ≤ 999_999_999
 
--- these bytes are the beginning of some header line
+-- these bytes begin some header line
 abbrev pub BeginsHeader : List ℕ → Type 0
 BeginsHeader bytes = (n : ℕ) × (n ≤ 999_999_999) × IsPrefixOf bytes (header n)
 

@@ -133,7 +133,7 @@ body_of setup kind.Delays first rest = said (delays_of first)
 body_of setup kind.Run first rest = order_of setup first >>= λ order. Ok (Run order)
 body_of setup kind.Nothing first rest = Ok (Saying item.Nothing)
 
--- The checks before reading the content.
+-- The earlier checks.
 
 -- the first field missing from one of these paragraphs is a fault
 unfoldable pub all_have : List Field → List Paragraph → Result Bool MailFault

@@ -48,7 +48,7 @@ role_named text =
     else if bytes_eq text (codes "runs") then Some Runs
     else None
 
--- the number of a role in order
+-- the number of a role
 abbrev pub role_number : Role → ℕ
 role_number Upload = 0
 role_number Build = 1
@@ -64,7 +64,7 @@ same_role a b = role_number a == role_number b
 abbrev pub count_of : Role → List Sender → ℕ
 count_of role senders = count_by (λ (s : Sender). same_role role s.role) senders
 
--- at least one sender each for uploads and builds, and exactly one each for bugs, the release team and runs
+-- uploads and builds have senders; bugs, the release team and runs have exactly one each
 unfoldable pub are_roles : List Sender → Bool
 are_roles senders =
     nat_le 1 (count_of Upload senders) && nat_le 1 (count_of Build senders)

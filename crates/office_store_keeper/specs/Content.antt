@@ -23,7 +23,7 @@ pub record Content : Type 0 where
 abbrev pub no_content : Content
 no_content = record { kept = empty; reports = []; testing = record { sources = []; rows = [] }; facts = empty }
 
--- this text is kept for a sender under a number, and everything else is unchanged
+-- this text is kept for a sender under a number; all else is unchanged
 abbrev pub with_text : Content → ℕ → ℕ → List ℕ → Content
 with_text c sender number text = record { kept = insert c.kept (sender, number) text; reports = c.reports; testing = c.testing; facts = c.facts }
 

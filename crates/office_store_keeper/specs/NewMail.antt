@@ -15,6 +15,6 @@ abbrev pub with_letters : Kept → List NewLetter → Kept
 with_letters kept [] = kept
 with_letters kept (l ∷ ls) = with_letters (insert kept (l.sender, l.number) l.text) ls
 
--- these letters are stored, and everything else is unchanged
+-- these letters are kept; all else is unchanged
 abbrev pub with_mail : Content → List NewLetter → Content
 with_mail c letters = record { kept = with_letters c.kept letters; reports = c.reports; testing = c.testing; facts = c.facts }

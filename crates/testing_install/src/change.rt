@@ -19,7 +19,7 @@ use deb_version::NoMemory;
 use smallvec::SmallVec;
 use std::alloc::Global;
 
-// Marks the row at the place, and adds it to the fresh ones.
+// Marks the row at the place, a fresh one.
 fn mark(marks: &mut Marks, fresh: &mut SmallVec<usize, 4>, place: usize) -> Result<(), NoMemory>
     requires { place < length marks.old.current }
     ensures kept { marks.new.kept ≡ marks.old.kept }

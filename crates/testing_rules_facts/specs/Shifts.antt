@@ -32,6 +32,6 @@ shift_of (Unhint c) f = record { left = map unhint_row (put_over (λ g. g) unhin
 shift_of (Delays d) f = record { left = map delays_row (option_to_list f.delays); came = map delays_row (option_to_list (lesser delays_order d f.delays)) }
 shift_of Nothing f = no_shift
 
--- for each row: how often it is new plus how often it leaves is how often it was old plus how often it comes
+-- for each row, its count among the new rows plus the leaving ones is that among the old rows plus the coming ones
 abbrev pub Shifts : List FactRow → List FactRow → Shift → Type 0
 Shifts old new shift = (r : FactRow) → times r new + times r shift.left ≡ times r old + times r shift.came

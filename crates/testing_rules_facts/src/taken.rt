@@ -125,8 +125,7 @@ pub fn put_upload(sources: &mut Vec<Box<UploadIn>>, upload: Box<UploadIn>) -> Sh
     step.shifted
 }
 
-/// Adds an upload to the uploads, unless it is already there, and returns its row if it was added. There is room for
-/// it.
+/// Adds an upload to the uploads and returns its row, unless it is already there. There is room for it.
 pub fn put_kept(uploads: &mut Vec<UploadIn>, upload: UploadIn) -> Option<FactRow>
     requires order { AreByMessage uploads.old.items }
     requires room { vec_len uploads.old < vec_capacity uploads.old }

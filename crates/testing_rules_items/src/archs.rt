@@ -113,7 +113,7 @@ impl Archs {
         Ok(Archs { names })
     }
 
-    /// The number of listed architectures.
+    /// The number of architectures.
     pub fn len(&self) -> u32
         ensures len { result ≡ length self.now }
         ensures few { result ≤ 16 }

@@ -74,7 +74,7 @@ rows_of f =
     map source_row f.sources ++ (map upload_row f.uploads ++ (map build_row f.rows ++ (map drop_row f.drops
     ++ (map bug_row f.bugs ++ (map hint_row f.hints ++ (map unhint_row f.unhints ++ map delays_row (option_to_list f.delays)))))))
 
--- a possible row of facts: it has a place exactly if it is the row of a paragraph
+-- a possible row of facts: only the row of a paragraph has a place
 pub record IsFactRow (r : FactRow) : Type 0 where
   pub place : (r.kind ≡ Build) ⊎ (r.place ≡ 0)
 

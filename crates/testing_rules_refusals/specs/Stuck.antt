@@ -35,7 +35,7 @@ living excuses t dead = map (λ e. e.source) (filter (is_living t dead) excuses)
 abbrev pub coming_rows : List UploadIn → List RowIn → List Text → List RowIn
 coming_rows sources unstable group = filter (comes_with sources group) unstable
 
--- the rows that may be present once the source has moved, for any choice of moved living sources
+-- the rows that may be present once the source has moved, whichever of the living move
 abbrev pub may_stand : List UploadIn → List RowIn → List Text → Text → Suite → List RowIn
 may_stand sources unstable live name t = filter (λ r. not (bytes_eq r.binary.source name)) t.rows ++ coming_rows sources unstable live
 

@@ -111,7 +111,7 @@ fn push_without(
     Ok(())
 }
 
-/// Adds the lines that aren't among the others, each after a word, in order.
+/// Adds the lines missing from others, each after a word, in order.
 fn push_lacked(
     alloc: Global,
     text: &mut String,

@@ -1,5 +1,5 @@
-//! The rows of a pool, which of them are present in testing, and the suite of each architecture: the part of a run's
-//! suites that isn't specific to the run.
+//! A pool's rows, which of them are present in testing, and each architecture's suite: all that isn't specific to one
+//! run.
 
 ghost use Rattle.std.specs.Prelude.{◌≡◌, ℕ, ◌++◌, ◌-◌, ◌^◌, ◌<◌, ◌≤◌, true, false, Bool, length, take, replicate, filter, [], IfOk, IfSome, List, Option};
 ghost use Rattle.std.specs.List.{All, range_with_len};
@@ -227,7 +227,7 @@ impl CarriedSuites {
         suites.after(alloc, &change)
     }
 
-    /// The number of rows that may be present.
+    /// The number of rows of the pool.
     pub fn len(&self) -> usize
         ensures { result ≡ length self.now.rows }
     {
