@@ -18,7 +18,7 @@ use Rattle.testing_rules_items.specs.Distinct.{is_distinct}
 abbrev pub BadHint : MailFault
 BadHint = BadValue field.Hint
 
--- at least one
+-- the list if it isn't empty, else the fault
 abbrev pub some_of : {A : Type 0} → List A → Result (List A) MailFault
 some_of [] = Err BadHint
 some_of (x ∷ xs) = Ok (x ∷ xs)
@@ -77,7 +77,7 @@ hint_of word ws =
     else if bytes_eq word (codes "block-all") then all_in ws
     else Err BadHint
 
--- the hint in words
+-- the hint in these words
 abbrev pub hint_by : List (List ℕ) → Result Hint MailFault
 hint_by [] = Err BadHint
 hint_by (word ∷ ws) = hint_of word ws

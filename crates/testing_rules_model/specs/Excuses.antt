@@ -211,7 +211,7 @@ abbrev pub excuses_on : List ℕ → Ground → Suite → List UploadIn → List
 excuses_on places g t sources =
     map (λ u. excuse_on places g (testing_version t u.source) u) (filter (λ u. is_news (testing_version t u.source) u.version) sources)
 
--- the input from the covered messages
+-- that input from the covered messages
 abbrev pub ground_of : List Text → Covered → Date → Ground
 ground_of archs s date = record {
   rows = unstable_rows archs s;
