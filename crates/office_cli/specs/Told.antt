@@ -1,5 +1,5 @@
--- Steps: no contract of a call that users make rests on this file.
--- What is printed without a run, and its exit status.
+-- The text and the exit status of commands that make no run.
+-- The claim on other calls rests on the definitions of texts; the others are steps of the proof.
 use Rattle.std.specs.Prelude.{◌≡◌, ◌⊎◌, ◌<◌, ◌==◌, ℕ, List, Option, Some, None, if◌then◌else◌, option_map, length}
 use Rattle.office_core_facts.specs.Outcome.{testing_after, testing_text}
 use Rattle.office_core_facts.specs.OfficeState.{OfficeState}

@@ -83,6 +83,7 @@ text_in Settled = []
 text_in Stopped = []
 text_in Looked = []
 
+-- the texts of all steps, in order (this office decides it)
 abbrev pub texts_in : List Step → List (List ℕ)
 texts_in steps = flat_map text_in steps
 
@@ -96,10 +97,12 @@ settled_by was Settled = true
 settled_by was Stopped = was
 settled_by was Looked = was
 
+-- whether the office is settled after these steps, given whether it was before (this office decides it)
 abbrev pub settled_from : Bool → List Step → Bool
 settled_from was [] = was
 settled_from was (s ∷ ss) = settled_from (settled_by was s) ss
 
+-- whether a new office is settled after these steps
 abbrev pub is_settled : List Step → Bool
 is_settled steps = settled_from false steps
 

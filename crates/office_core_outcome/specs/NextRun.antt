@@ -1,5 +1,5 @@
--- Steps: no contract of a call that users make rests on this file.
--- The run that a trial of hints reports on, once the hints and the run's order have come.
+-- The run that a trial of hints predicts: the hints and the run's order as later mail.
+-- The claim on more calls of the office rests on these definitions, through the law `try_is_next_run`.
 use Rattle.std.specs.Prelude.{◌≡◌, ℕ, ◌+◌, ◌<◌, ◌==◌, if◌then◌else◌, List, length, slice_index, Contains, Some}
 use Rattle.std.specs.FinMap.{get}
 use Rattle.jiff_core.specs.declared.civil.date.Date.{Date}
