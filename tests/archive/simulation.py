@@ -195,7 +195,7 @@ class Simulation:
         return Testing.of(archived(self.stage.archive))
 
     def same_as_office(self, lines: set[str]) -> None:
-        """What is published is the office's testing, except what is held back since it is missing in the archive."""
+        """What is published is the office's testing, but for what is held back since the archive lacks it."""
         want = due(self.stage.office.rows())
         held = set(HELD.findall(self.said)) if self.number <= self.may_hold else set()
         differ = {line for line in want ^ lines if not self.is_excused(line, held)}

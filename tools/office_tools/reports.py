@@ -238,14 +238,14 @@ class Lines:
         self.place = 0
 
     def next_is(self, form: str) -> Optional[re.Match[str]]:
-        """The match of the next line, which is then read, if it is of this form."""
+        """The match of the next line, which is then read, where it is of this form."""
         found = re.fullmatch(form, self.lines[self.place]) if self.is_left() else None
         if found is not None:
             self.place += 1
         return found
 
     def need(self, form: str, what: str) -> re.Match[str]:
-        """The same, but any other line is a fault."""
+        """The same, where any other line is a fault."""
         found = self.next_is(form)
         if found is None:
             raise self.fault(f"{what} is due here")

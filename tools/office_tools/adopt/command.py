@@ -46,7 +46,7 @@ def parser() -> argparse.ArgumentParser:
 
 
 def letters(setup: str, binaries: Sequence[Binary], sources: Mapping[str, str], day: datetime.date) -> Sequence[bytes]:
-    """All mail of the first run; after its order the hints are taken back, since it does all that they ask."""
+    """All mail of the first run; behind its order the hints are taken back, since all that they ask is done by it."""
     sent = Sent()
     arrival = Arrival(Urgency.MEDIUM, max(day - datetime.timedelta(LONG_AGO), datetime.date(1970, 1, 1)).isoformat())
     came = list(mail.uploads(sources, sent, mail.Uploading({}, arrival)))

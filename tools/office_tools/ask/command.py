@@ -16,7 +16,7 @@ SECONDS = 600.0  # a proposal over a large archive takes long, and the service a
 
 FEWEST: Mapping[str, int] = {"why": 1, "try": 1, "propose": 0, "hints": 0, "runs": 0, "waiting": 0, "report": 1,
                              "unstable": 0, "mail": 0, "order": 0}
-"""The questions, and how many words each needs after it."""
+"""The questions, and how many words each needs behind it."""
 
 HAS_WORDS = ("why", "try", "propose", "report")
 OPTIONS: Mapping[str, Sequence[str]] = {"run": ("why",), "hint": ("why",), "day": ("try", "propose", "order"),

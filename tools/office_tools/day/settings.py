@@ -1,4 +1,4 @@
-"""The settings of a day: a file of fields, like the office's setup, and the value of a missing field."""
+"""The settings of a day: a file of fields, as the office's setup, and what stands for a field that is missing."""
 import os
 import shlex
 import urllib.parse

@@ -19,11 +19,11 @@ FORM = 1
 
 @dataclass
 class Known:
-    """What the mail says up to a number of each sender, all taken in order.
+    """What the mail says up to a number of each sender, all of which was taken in order.
 
     `versions` has each source's greatest version, `packages` each package's greatest one, dropped or not, and `dropped`
-    up to which version it was dropped. `staying` are the packages sent under a made-up source, `retold` which senders
-    sent a version of a package under a spare name. `hints` are the texts of the release team's messages. `covers` and
+    up to which version it was dropped. `staying` are the packages told under a made-up source, `retold` which senders
+    told a version of a package under a spare name. `hints` are the texts of the release team's messages. `covers` and
     `last_day` are those of the orders together. `ends` has the first and the last text of each sender.
     """
 

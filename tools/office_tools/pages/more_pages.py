@@ -50,7 +50,7 @@ class More:
         yield from people_pages(self.facts, self.changes)
 
     def files(self) -> Iterator[tuple[str, bytes]]:
-        """All files that aren't pages: the feeds of all and of people, and excuses.yaml."""
+        """All files beside pages: the feeds of all and of people, and excuses.yaml."""
         yield "feed.xml", self.feeds.of_all(self.changes)
         yield from self.feeds.of_people(self.changes)
         yield from self.answered_files()

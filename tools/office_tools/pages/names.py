@@ -43,7 +43,7 @@ def by_beginning(names: Sequence[Name]) -> Mapping[str, Sequence[Name]]:
 
 
 def shortened_by(before: str, name: str) -> str:
-    """A name as the index has it after another one."""
+    """A name as the index has it behind another one."""
     most = min(len(before), len(name), len(DIGITS) - 1)
     shared = next((place for place in range(most) if before[place] != name[place]), most)
     return DIGITS[shared] + name[shared:]

@@ -65,7 +65,7 @@ class InTesting:
 
 @dataclass(frozen=True)
 class Moved:
-    """A source that moved or waits in a run: its version before and after."""
+    """A source that moved or waits in a run: its version before and behind."""
 
     name: str
     before: str
@@ -112,7 +112,7 @@ class Site:
         self.move_all()
 
     def build_answers(self, newest: Newest, names: Collection[str]) -> None:
-        """Writes the pages that answers about these sources change, after `build`."""
+        """Writes the pages that answers about these sources change, behind `build`."""
         facts = dataclasses.replace(self.facts_of(newest), whys=self.state.whys(), hints=self.state.hints(),
                                     proposals=self.state.proposals())
         self.digests_now = dict(self.digests)

@@ -49,7 +49,7 @@ MAIL_TABLES = ("mail_read", "paragraph", "relation", "need", "person")
 
 @dataclass(frozen=True)
 class Event:
-    """From which run on a source has this state: its versions, its reasons, and what the run did with it as JSON.
+    """From which run on a source stands as told: its versions, its reasons, and what the run did with it as JSON.
 
     A version or the reasons may be empty: a source without an excuse has none.
     """

@@ -9,7 +9,7 @@ from office_tools.reports import Change
 
 @dataclass(frozen=True)
 class Piece:
-    """A part of a line: its text, and where it leads; empty if it leads nowhere."""
+    """A part of a line: its text, and where it leads; empty where it leads nowhere."""
 
     text: str
     link: str = ""

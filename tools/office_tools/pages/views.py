@@ -50,12 +50,12 @@ class Standing:
 class Source:
     """What the page of a source shows.
 
-    `unstable` and `age` are empty if it has no excuse, or moved in the newest run, and `verdict` if no report of the
-    newest run names it. `told` is what keeps it out, and what the newest run did with it if that was no move. `lines`
-    are what the office answered about it, the same since run `since`. `ways` lead out of the pages. `last` is its last
-    event. `waits` are the sources that it waits for, and `waited` the first of the `waiting` ones that wait for it.
-    `people` are its maintainer and uploaders. It has a feed unless nothing happened to it since the first run. All this
-    stays the same from run to run as long as the source's state does.
+    `unstable` and `age` are empty where it has no excuse, or moved in the newest run, and `verdict` where no report of
+    the newest run names it. `told` is what keeps it out, and what the newest run did with it if that was no move.
+    `lines` are what the office answered about it, the same since run `since`. `ways` lead out of the pages. `last` is
+    its last event. `waits` are the sources that it waits for, and `waited` the first of the `waiting` ones that wait
+    for it. `people` are its maintainer and uploaders. It has a feed unless nothing happened to it since the first run.
+    What is told here stays the same from run to run as long as the source stands the same.
     """
 
     name: str
@@ -323,7 +323,7 @@ def source_of(facts: Facts, name: str, links: Links) -> Source:
 
 
 def verdict_of(facts: Facts, name: str) -> str:
-    """The word for the state of a source; empty if no report of the newest run names it."""
+    """The word for how a source stands; empty where no report of the newest run names it."""
     excuse, what = facts.excuses.get(name), facts.outcomes.get(name, NOTHING)[-1].what
     if excuse is None and what is What.NONE:
         return ""
@@ -361,7 +361,7 @@ def wait_lines(facts: Facts, waits: Sequence[Wait], links: Links, named: Callabl
 
 
 def standing_of(facts: Facts, name: str) -> str:
-    """The state of a source, in words that stay from run to run as long as it does."""
+    """How it stands with a source, in words that stay from run to run as long as that does."""
     excuse = facts.excuses.get(name)
     what = facts.outcomes.get(name, NOTHING)[-1].what
     if what is What.ACCEPT:
