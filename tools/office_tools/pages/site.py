@@ -147,7 +147,7 @@ class Site:
         self.written.append(path)
 
     def is_there(self, path: str, digest: str) -> bool:
-        """Whether a page made of what the digest says exists."""
+        """Whether a page is there that is made of what the digest says."""
         return self.digests.get(path) == digest and os.path.exists(os.path.join(self.folder, path))
 
     def move_all(self) -> None:
@@ -337,7 +337,7 @@ def hints_of(facts: views.Facts, read: Newest) -> Sequence[Hint]:
 
 
 def moved_in(read: Newest) -> Sequence[Moved]:
-    """The sources that moved in a run, by name, and then those that wait."""
+    """The sources that moved in a run, by name, and behind them those that wait."""
     before = {excuse.source: excuse.testing or "" for excuse in read.excuses.excuses}
     found = []
     for change in read.update.changes:
