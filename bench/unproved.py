@@ -34,7 +34,7 @@ exec {clang} "$@"
 LEFT_OUT = {"-O0", "-fsanitize=address", "-Werror", "module.bc", "-o", "module.o"}
 
 
-# The kit's folders that are made anew. All else in them is linked.
+# The kit's folders that are made again. All else in them is linked.
 FOLDERS = ("", "bin", "toolchain", "toolchain/bin")
 
 

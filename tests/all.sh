@@ -5,8 +5,8 @@
 #
 # OFFICE is the built program, crates/office/out/office. With STEP only each STEPth growth, call and place is tried (1):
 # 23 is a sample. PARTS is the built program that judges itself, crates/cases_program/out/cases_program (see
-# tests/memory/refused.py). What each check prints stands in a file of a new folder, whose name is told, and is printed
-# where the check failed. The exit status is 1 where one failed.
+# tests/memory/refused.py). What each check prints goes to a file of a new folder, whose name is printed; if the check
+# fails, the output is printed too. The exit status is 1 if one failed.
 set -u
 if [ $# -lt 1 ] || [ ! -x "$1" ]; then
     echo "usage: $0 OFFICE [STEP [PARTS]]" >&2

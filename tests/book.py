@@ -4,8 +4,8 @@
 usage: book.py [TOP] [--write | --check]
 
 Which definitions and types the law needs is found by trusted.py. Their texts and comments are those of the files in
-crates/; the chapters and their sentences stand in CHAPTERS. A chapter has the files that begin with one of its paths,
-where the longest path counts. Files come in an order in which what is used follows what uses it. In a file definitions
+crates/; the chapters and their sentences are in CHAPTERS. A chapter has the files that begin with one of its paths;
+the longest path counts. A file follows those that use it. In a file definitions
 keep their order.
   TOP      the top of the repository (the one that this file is in)
   --write  puts the page into docs/BOOK.md; without it the page is printed

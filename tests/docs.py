@@ -6,10 +6,10 @@ usage: docs.py COPY DOCUMENT     (docs.sh makes the copy, and puts the program i
 A document whose blocks have prompts (`$ `, and `# ` for root) has a command on each such line. In any other one a
 command is a line of an indented block whose first word is one of WORDS, a tool's name or a path of the repository. What
 follows a command, up to the next command or the end of the block, is what it prints. In a manual page it is a line of a
-literal display behind a dollar sign. A command goes on where its line ends with a backslash or a bar, where a quote is
-open, and up to the end of a text behind `<<`. What a command prints isn't compared where the document shows nothing. It
-has to end with status 0, but for those of ENDS, and for curl that prints a refusal. Each block starts at the top of the
-copy, with the PATH that the last one left.
+literal display after a dollar sign. A command continues if its line ends with a backslash or a bar, while a quote is
+open, and up to the end of a text after `<<`. If the document shows no output, none is compared. A command has to end
+with status 0, except those of ENDS, and curl that prints a refusal. Each block starts at the top of the copy, with the
+PATH that the last one left.
 
 Only what is in the document is typed. A service that a document starts runs in a terminal of its own, until a line `^C`
 interrupts it or the document ends. So if a document starts a second one on the same port, that fails.
@@ -49,7 +49,7 @@ GIVEN = {'share/man/office.1': 'cp examples/setup.conf setup.conf; cp examples/a
 
 
 class Command:
-    """A command, the line that it starts in, and what the document shows behind it."""
+    """A command, the line that it starts in, and the output that the document shows after it."""
 
     def __init__(self, line, text):
         self.line, self.text, self.shown = line, text, []
@@ -80,7 +80,7 @@ def blocks(document, text):
 
 
 def has_prompts(document, text):
-    """Whether the commands of a document stand behind prompts."""
+    """Whether the commands of a document follow prompts."""
     return document.endswith('.1') or re.search(r'(?m)^    \$ ', text) is not None
 
 
@@ -91,7 +91,7 @@ def is_command(line, is_prompted):
     if is_prompted:
         return line.startswith(('$ ', '# '))
     if re.match(r'rt \d', line):
-        # What `office mail --list` tells of the sender rt.
+        # What `office mail --list` prints of the sender rt.
         return False
     word = line.split(' ')[0]
     is_path = re.fullmatch(r'(share|examples|tests|\.ci)/\S+|/usr/lib/\S+|\.\.', word)
@@ -188,7 +188,7 @@ class Runner:
                 service.wait()
 
     def judge(self, command, status, told):
-        """Counts a command, and tells what is wrong with it."""
+        """Counts a command, and prints what is wrong with it."""
         due, faults = '\n'.join(command.shown).strip('\n'), []
         is_refused = '--fail-with-body' in command.text and due.startswith('refused ')
         end = ENDS.get(command.text, REFUSED if is_refused else 0)

@@ -4,11 +4,11 @@
 #
 # Usage: tests/docs.sh OFFICE
 #
-# OFFICE is the built program. What can't be run here is told with its reason (tests/docs.py lists it). The services that
+# OFFICE is the built program. What can't be run here is reported with its reason (tests/docs.py lists it). The services that
 # a document starts listen on 127.0.0.1:8080, which has to be free, and are ended. With APT=1 in the environment the commands that fetch the
 # lists of a Debian release by apt, and make a report of them, are run too; they need root, the network and some minutes.
 # DOCUMENTS in the environment names some of them alone.
-# The last line is `N passed, N failed`; the exit status is 1 where one failed, and 2 where the words are wrong.
+# The last line is `N passed, N failed`; the exit status is 1 if one failed, and 2 if the words are wrong.
 set -eu
 if [ $# -ne 1 ] || [ ! -x "$1" ]; then
     echo "usage: $0 OFFICE" >&2
@@ -20,7 +20,7 @@ trap 'rm -rf "$work"' EXIT
 trap 'exit 1' HUP INT TERM
 mkdir "$work/bin"
 ln -s "$(realpath -e -- "$1")" "$work/bin/office"
-# At a terminal curl shows no progress; here it is told not to.
+# At a terminal curl shows no progress; this turns it off here.
 echo silent > "$work/.curlrc"
 CURL_HOME=$work
 # The documents call the program and the tools by their names, as they are installed. FIRST_WEEK.md finds them itself.
@@ -34,7 +34,7 @@ for document in ${DOCUMENTS:-README.md docs/MANUAL.md docs/FIRST_WEEK.md share/R
     copy=$work/copy
     rm -rf "$copy"
     mkdir "$copy"
-    # A file that is removed and not yet committed is listed too: what isn't there isn't copied.
+    # A file that is removed and not yet committed is listed too: what is missing isn't copied.
     (cd "$top" && git ls-files -z -co --exclude-standard | tar --null -T - -cf - 2> /dev/null) | tar xf - -C "$copy"
     case $document in
         docs/FIRST_WEEK.md)

@@ -5,7 +5,7 @@
 
 GATE is a checkout in which `.ci/run` runs or has run, CHECKOUT one to work in. Each library that the gate has built of the
 text that CHECKOUT has, and over the same libraries, is linked to its `out/`, with the stamp by which `rt check` takes it.
-Two lines tell which crates got theirs, and which have none yet. It needs the kit of `rt`, whose functions it calls.
+Two lines list which crates got theirs, and which have none yet. It needs the kit of `rt`, whose functions it calls.
 """
 import functools
 import importlib.machinery
@@ -22,7 +22,7 @@ sys.dont_write_bytecode = True
 loader = importlib.machinery.SourceFileLoader("rt", os.path.join(kit, "rt"))
 rt = importlib.util.module_from_spec(importlib.util.spec_from_loader("rt", loader))
 loader.exec_module(rt)
-# (the kit walks each path down to a library anew)
+# (the kit walks each path down to a library again)
 below, stamp = functools.cache(rt.Crate.below), functools.cache(rt.Crate.stamp)
 rt.Crate.below, rt.Crate.stamp = lambda crate: [*below(crate)], lambda crate: stamp(crate)
 

@@ -1,11 +1,11 @@
 #!/bin/sh
-# Runs a sample of each check over the built program with a fault planted at its edge, and tells whether the check saw it.
+# Runs a sample of each check over the built program with a fault planted at its edge, and prints whether it saw it.
 #
 # Usage: tests/planted.sh OFFICE
 #
 # OFFICE is the built program, crates/office/out/office. Each check is run first with no fault planted, and has to pass;
-# then with the fault, and has to end with status 1. faults/plant.c tells the faults. A line for each: `seen`, or
-# `NOT SEEN`. The last line is `N passed, N failed`; the exit status is 1 where one wasn't seen.
+# then with the fault, and has to end with status 1. faults/plant.c lists the faults. A line for each: `seen`, or
+# `NOT SEEN`. The last line is `N passed, N failed`; the exit status is 1 if one wasn't seen.
 set -eu
 if [ $# -ne 1 ] || [ ! -x "$1" ]; then
     echo "usage: $0 OFFICE" >&2

@@ -17,7 +17,7 @@ from pathlib import Path
 
 TOP = Path(__file__).resolve().parents[1]
 LONGEST, RELATIVES = 30, re.compile(r'\b(?:that|which|whose|where)\b', re.I)
-# What to write in the place of these words stands beside them.
+# What to write in the place of these words is next to them.
 WORDS = {
     r'tells?|told|telling': 'prints, reports, lists, says',
     r'behind': 'after',

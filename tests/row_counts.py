@@ -75,7 +75,7 @@ def silenced(lines, is_silenced):
 
 
 def later_bug():
-    """Whether a text is another message on a bug that was told before."""
+    """Whether a text is another message on a bug that was reported before."""
     seen = set()
 
     def is_later(text):

@@ -1,18 +1,18 @@
 #!/usr/bin/env python3
 """Finds each file and each name that docs/TRUST.md and the pages of crates cite, the files that other pages cite, the
-counts of lines that TRUST.md and README.md give, the code that pages quote, the book of the headline (book.py), the
-run bits of scripts, and the program's version in CHANGELOG.md.
+counts of lines that TRUST.md and README.md give, the code that pages quote, the book of the headline (book.py), the run
+bits of scripts, and the program's version in CHANGELOG.md.
 
-usage: trust.py [TOP]     (exit status 0: all are there; 1: a line for each that isn't)
+usage: trust.py [TOP]     (exit status 0: all are found; 1: a line for each that isn't)
 
-A citation stands in backticks. One with a slash is a path, from the top or from `crates/`; so is the name of a file at
-the top. Any other is a name, and has to stand as a whole word in a file that the same part of its row or paragraph
-cites: in a table a name of the columns "call" and "file" in a file of these two, a name of the column "definitions" in
-a file behind it. A name in a paragraph without a file may stand in any source. The counts are those of trusted.py.
-The page of a crate is `crates/NAME/README.md`. Its paths may begin at its own folder too, or at that of a crate whose
-name begins with NAME. The first word of each other citation has to stand in a source of crates/ or tests/.
-A quotation is a fence of Rust whose first line is a comment with a path: the rest of it has to stand in that file, with
-a line of two points where lines are left out.
+A citation is in backticks. One with a slash is a path, from the top or from `crates/`; so is the name of a file at the
+top. Any other is a name, and has to be a whole word in a file that the same part of its row or paragraph cites. In a
+table a name of the columns "call" and "file" is looked for in a file of these two, a name of the column "definitions"
+in a file after it. A name in a paragraph without a file may be in any source. The counts are those of trusted.py. The
+page of a crate is `crates/NAME/README.md`. Its paths may begin at its own folder too, or at that of a crate whose name
+begins with NAME. The first word of each other citation has to be in a source of crates/ or tests/. A quotation is a
+fence of Rust whose first line is a comment with a path. The rest of it has to be in that file, with a line of two
+points where lines are left out.
 """
 import re
 import subprocess
@@ -44,7 +44,7 @@ def texts(path):
     return [f.read_text(errors='replace') for f in files if f.is_file()]
 
 def has(name, places):
-    """Whether a name stands as a whole word in one of the files, or in any source if there are none."""
+    """Whether a name is a whole word in one of the files, or in any source if there are none."""
     word = re.compile(rf"(?<![\w-]){re.escape(name)}(?![\w'-])")
     return any(word.search(text) for place in places or [TOP / 'crates', TOP / 'tests'] for text in texts(place))
 
@@ -62,7 +62,7 @@ def blocks():
             gathered, start = gathered + [line], start if gathered else number
 
 def parts(cells):
-    """The parts of a row or a paragraph in which a name belongs to the files beside it."""
+    """The parts of a row or a paragraph in which a name belongs to the files next to it."""
     if len(cells) == 4:
         yield cells[1] + ' ' + cells[2]
         for chunk in cells[3].split(';'):
@@ -73,7 +73,7 @@ def parts(cells):
         yield cells[0]
 
 def faults_of(number, part):
-    """What a part cites that isn't there."""
+    """What a part cites that is missing."""
     cited = [word for word in re.findall(r'`([^`]+)`', part) if word not in PLAIN]
     paths = [word.split()[0] for word in cited if is_path(word)]
     for path in paths:
@@ -96,7 +96,7 @@ def citations(page):
         yield from ((number, word) for word in re.findall(r'`([^`]+)`', line))
 
 def crate_faults():
-    """What the pages of crates cite that isn't there."""
+    """What the pages of crates cite that is missing."""
     sources = [text for folder in ('crates', 'tests') for text in texts(TOP / folder)]
     words = {word for text in sources for word in re.findall(r"[\w']+", text)}
     for page in pages('crates/*/README.md'):
@@ -110,8 +110,8 @@ def crate_faults():
                 yield f'{page.relative_to(TOP)}:{number}: {name[1]} isn\'t in any source'
 
 def file_faults():
-    """What other pages cite of the repository's files that isn't there: pages, and what is below a folder of the top or
-    of crates/ that isn't built. A folder in capitals, as NAME, stands for any."""
+    """Missing files of the repository that other pages cite: pages, and what is below a folder of the top or of crates/
+    and isn't built. A folder in capitals, like NAME, means any."""
     folders = {folder.name for folder in pages('*', 'crates/*')}
     for page in pages('*.md', 'docs/*.md', 'bench/*.md', 'share/*.md'):
         for number, cited in citations(page) if page != PAGE else []:
@@ -122,7 +122,7 @@ def file_faults():
                 yield f'{page.relative_to(TOP)}:{number}: there is no {cited}'
 
 def quotations():
-    """The quotations of the pages that don't stand in their files, and how many there are."""
+    """The quotations of the pages that aren't in their files, and how many there are."""
     missing, count = [], 0
     for page in pages('*.md', 'docs/*.md', 'crates/*/README.md'):
         for path, code in re.findall(r'(?s)```rust\n// (\S+)\n(.*?)```', page.read_text()):

@@ -6,7 +6,7 @@ usage: trusted.py [TOP] [--claims | --list | --check | --write | --twice | --why
 A public contract is what a caller from outside reads of an item that lib.rt passes on as `pub`, also by `pub use` of
 another crate: a function with its `requires` and `ensures`, a trait, the fields of a type, what its `impl Model` and
 other impls say of it, and its `pub` methods. It reads a type's invariant only where the type has a `pub` field: no
-other caller learns it. From their words it goes on, by `ghost use` and `use`, to definitions and all that these name,
+other caller learns it. From their words it continues, by `ghost use` and `use`, to definitions and all that these name,
 and to what contracts see of types. All others are steps: they serve the proofs.
 It counts lines without comments, blank ones and `use`, twice: from the items of the crates that users call (USERS),
 but for what only crates above call (INNER), which decides what is a step, and from the `pub` items of every crate.
@@ -18,10 +18,10 @@ row for all that was added, which names a definition of ADDED: the claims of FIR
               calls; then what the claims of FIRST need together, and what all need
   --list      each definition, its lines, and whether it is believed, a step, or a step that contracts of a crate cite
   --check     a line for each file whose first line says falsely what it is, for each definition that names one of ADDED
-              elsewhere than in a last row, for each claim whose row in docs/TRUST.md, or of FIRST in README.md, lacks
+              elsewhere than in a last row, for each claim whose row in docs/TRUST.md, or of FIRST in README.md, misses
               or has another count, and for each other count of lines there that is none here; status 1 if there is one
   --write     puts the counts of this tree into both pages
-  --twice     the definitions that stand in two crates under one name with one text
+  --twice     the definitions that are in two crates under one name with one text
   --why=NAME  what names each definition of this name, back to a public contract
 """
 import re
@@ -34,7 +34,7 @@ USERS = ['deb_version', 'deb_control', 'testing_install', 'testing_rules', 'offi
          'office']
 INNER = {('office_core_replay', 'settle_behind')}
 # What is claimed of the first commands and routes, each with the calls and laws whose contracts say it: CRATE::CALL,
-# CRATE::TYPE::METHOD, `crate` alone for all of a crate's calls, and behind a @ the only clause that is meant.
+# CRATE::TYPE::METHOD, `crate` alone for all of a crate's calls, and after a @ the only clause that is meant.
 FIRST = [
     ('the headline', ['office_core::headline']),
     ('.. of calls and whole replays', [
@@ -90,7 +90,7 @@ WORD = re.compile(r"(?<![\w.'-])[^\W\d][\w'-]*(?:\.[\w'-]+)?")
 SIGNATURE = re.compile(r'(?:(?:pub|abbrev|unfoldable|record|data) )*(?P<name>[^\s(){}]+)(?: \(.*?\)| \{.*?\})* :( |$)')
 
 def close(text, start):
-    """The place behind the bracket that closes the one at start."""
+    """The place after the bracket that closes the one at start."""
     depth = 0
     for found in re.compile(r'[][(){}]').finditer(text, start):
         depth += 1 if found[0] in '([{' else -1
@@ -107,7 +107,7 @@ def with_clause(head, name):
     return head[:found[0][0]] + ' '.join(head[start:end] for start, end, kept in found if kept)
 
 def parts(text):
-    """The text cut at the commas that stand in no bracket."""
+    """The text cut at the commas outside brackets."""
     found, depth = [''], 0
     for c in text:
         depth += (c in '([{') - (c in ')]}')
@@ -324,7 +324,7 @@ class Tree:
             self.known[key] = self.reached(*self.started(starts), beside)
         return self.known[key]
     def reached(self, public, first, beside=()):
-        """The definitions that the contracts of the first items reach, of which these are public."""
+        """The definitions that the contracts of the first items reach, given those that are public."""
         whole = self.named_from(public, first, beside)
         return {at: why for at, why in whole.items() if isinstance(at, Definition)}
     def named_from(self, public, first, beside=()):
@@ -367,7 +367,7 @@ def head_fault(file, believed):
     return '' if first else 'its first line does not say what it defines'
 
 def twice(tree):
-    """The definitions that stand in two crates, each with the files that have it."""
+    """The definitions that two crates have, each with its files."""
     same = defaultdict(set)
     for d in tree.named.values():
         same[d.name, ' '.join(d.text.split())].add(d.file.label)
@@ -423,7 +423,7 @@ def of_all(tree, users):
     return set(users).union(*(tree.claimed(starts, ()) for starts in [starts for _, starts in LATER] + [PRIVATE]))
 
 def sums(tree, users):
-    """What the first commands and routes need, and what all claims need, each behind its words in both pages."""
+    """What the first commands and routes need, and what all claims need, each after its words in both pages."""
     return [('the first commands and routes need', lines_of(of_first(tree))),
             ('All claims together need', lines_of(of_all(tree, users)))]
 

@@ -4,7 +4,7 @@ memory, and the ratios.
 
 usage: turns.py OFFICE PLAIN SETUP BAG ROUNDS
 
-It stops where a program fails, or where the two outputs differ.
+It stops if a program fails, or if the two outputs differ.
 """
 import os
 import statistics

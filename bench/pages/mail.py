@@ -4,9 +4,9 @@
 usage: mail.py SOURCES FOLDER
 
 The sources and their binaries are those of ../replay/bag.py, on two architectures. FOLDER gets a bag for each of three
-runs. The first run is over all sources, a tenth of which have a bug, a block, no build at all or none on arm64, so
-that others wait for them. Behind it come newer uploads: of a tenth of the sources, and then of a hundredth. Of these
-some are young, some have a bug, a block or a missing build, and some come without a package that others depend on.
+runs. The first run is over all sources. A tenth of them have a bug, a block, no build at all or none on arm64, so that
+others wait for them. After it come newer uploads: of a tenth of the sources, and then of a hundredth. Of these some are
+young, some have a bug, a block or a missing build, and some come without a package that others depend on.
 """
 import os
 import random

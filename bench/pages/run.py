@@ -1,13 +1,13 @@
 #!/usr/bin/env python3
-"""Times `office-pages` over a service with the reports of an archive: from nothing, behind a run, and with nothing new.
+"""Times `office-pages` over a service with the reports of an archive: from nothing, after a run, and with nothing new.
 
 usage: run.py OFFICE [SOURCES]
 
-OFFICE is the built program. The mail is that of mail.py, of 34,000 sources without another count: three runs. The
-pages are made behind the first run from nothing, and behind each other one, and then once more. For each call it tells
-its seconds by the clock and of processor, the peak of memory, how many files it wrote, and how large the first page and
-the largest one are. KEEP names a folder where the pages stay. WHY is how long the last call asks about sources at most,
-3,600 seconds without it.
+OFFICE is the built program. The mail is that of mail.py, of 34,000 sources without another count: three runs. The pages
+are made after the first run from nothing, and after each other one, and then once more. For each call it prints its
+seconds by the clock and of processor, the peak of memory, and how many files it wrote. It also prints how large the
+first page and the largest one are. KEEP names a folder where the pages stay. WHY is how long the last call asks about
+sources at most, 3,600 seconds without it.
 """
 import os
 import re
@@ -43,7 +43,7 @@ def stamps_of(folder):
 
 
 def call(folder, words):
-    """Calls the command, and tells what it took."""
+    """Calls the command, and prints what it took."""
     before = stamps_of(folder)
     began = time.monotonic()
     process = subprocess.Popen([PAGES, "--url", f"http://127.0.0.1:{PORT}", *words, folder])

@@ -8,14 +8,14 @@ Each source is uploaded and built once: 1.9 binaries on amd64, each with some fo
 Depends on binaries of the sources before it, a few of them far more often than the rest.
 
 mail        the uploads and builds, source by source, and no run
-waiting     the same behind a run order that waits for one message more than there are
+waiting     the same after a run order that waits for one message more than there are
 backwards   as waiting, the last message of each sender first
 idle        as many messages that say nothing, and three runs over all of them
 first       with a run over all sources
 runs        with two runs more, over 500 newer uploads each
 both        as runs, and each binary is built on amd64 and on arm64
 two, four, nine, sixteen
-            as runs on so many architectures: two binaries in five are of `all`, and the others are built on
+            as runs on that many architectures: two binaries in five are of `all`, and the others are built on
             each architecture, in a build of its own
 
 The second call writes the setup of a shape.

@@ -1,5 +1,5 @@
 #!/usr/bin/env python3
-"""Times a replay over a store in a new file beside the same in memory, by turns: medians of processor time (user and
+"""Times a replay over a store in a new file and the same in memory, by turns: medians of processor time (user and
 system) and of the time by the clock, peaks of memory, and ratios. It stops if the two print different texts.
 
 usage: over_file.py OFFICE [SHAPE:SOURCES..]

@@ -1,13 +1,13 @@
 #!/usr/bin/env python3
-"""Times what a running office tells beside its reports: a copy of all mail in parts of bags, the hints, unstable and
-the next order, each beside `GET /testing`, by the service's own processor time.
+"""Times what a running office prints in addition to its reports: a copy of all mail in parts of bags, the hints,
+unstable and the next order, each next to `GET /testing`, by the service's own processor time.
 
 usage: pages.py OFFICE [SOURCES]
 
 OFFICE is the built program, SOURCES how many sources it has: 34,000, as in a Debian release, if it isn't said. The mail
-is that of ../replay/bag.py's shape `runs`, with 200 hints behind it, over a file that is opened once. ROUNDS says how
-often each is asked in turn (5); the figures are medians. The first round is told apart, since a service that was just
-opened makes there what it keeps from then on. `POST /try/DAY` and `GET /propose` are asked once a round, too.
+is that of ../replay/bag.py's shape `runs`, with 200 hints after it, over a file that is opened once. ROUNDS says how
+often each is asked in turn (5); the figures are medians. The first round is printed apart, since a service that was
+just opened makes there what it keeps from then on. `POST /try/DAY` and `GET /propose` are asked once a round, too.
 """
 import os
 import statistics

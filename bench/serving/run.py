@@ -1,5 +1,5 @@
 #!/usr/bin/env python3
-"""Times requests to the service beside a plain server, by the servers' own processor time (user and system), by turns.
+"""Times requests to the service and to a plain server, by the servers' own processor time (user and system), by turns.
 
 usage: run.py OFFICE [SOURCES]
 
@@ -30,7 +30,7 @@ def messages_of(bag):
 
 
 def order_behind(bag, count):
-    """An order that covers what the last one of the bag does, so many numbers later."""
+    """An order that covers what the last one of the bag does, that many numbers later."""
     last = [text for text in messages_of(bag) if b"Kind: run" in text][-1].decode()
     lines = last.split("\n")
     return "\n".join(

@@ -42,7 +42,7 @@ class Server:
             return int(said.read().split()[0])
 
     def time(self, request, count):
-        """Microseconds of processor that one of so many requests takes."""
+        """Microseconds of processor for each of that many requests."""
         before = self.processor_time()
         for _ in range(count):
             self.ask(request)

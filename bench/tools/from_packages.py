@@ -1,12 +1,12 @@
 #!/usr/bin/env python3
-"""Times the next day of office-from-packages, which reads all mail that was sent before, beside the first day.
+"""Times the next day of office-from-packages, which reads all mail that was sent before, and the first day.
 
 usage: from_packages.py [SOURCES | PACKAGES..]
 
-The archive is drawn: 34,000 sources without another count, with nearly twice as many packages, of which some need each
-other. Or it is that of files Packages, whose last one is what the next day has more. By turns the tool makes the bag of
-the first day and, over this bag, that of the next day, on which each 70th source of a drawn archive has a newer
-version. ROUNDS in the environment is how often: 5 without it.
+The archive is drawn: 34,000 sources without another count, with nearly twice as many packages, some needing each other.
+Or it is that of files Packages, the last one having what the next day has more. By turns the tool makes the bag of the
+first day and, over this bag, that of the next day, on which each 70th source of a drawn archive has a newer version.
+ROUNDS in the environment is how often: 5 without it.
 """
 import os
 import random
@@ -19,7 +19,7 @@ TOOL = os.path.join(os.path.dirname(os.path.abspath(__file__)), "..", "..", "too
 
 
 def archive(sources, newer):
-    """A file Packages of so many sources, of which so many have a newer version."""
+    """A file Packages of that many sources, with a newer version for a number of them."""
     drawn = random.Random(1)
     names = [f"source{number:05}" for number in range(sources)]
     changed = set(random.Random(2).sample(names, newer))

@@ -31,12 +31,12 @@ class Day:
 
 
 def upload(source: str, version: str, day: str) -> Letter:
-    """An upload that is told by hand."""
+    """An upload that is sent by hand."""
     return ("hand", "upload", f"Source: {source}", f"Version: {version}", "Urgency: critical", f"Day: {day}")
 
 
 def row(name: str, version: str, architecture: str, source: str, depends: str = "") -> str:
-    """A paragraph of a build that is told by hand."""
+    """A paragraph of a build that is sent by hand."""
     fields = [("Package", name), ("Version", version), ("Architecture", architecture), ("Source", source),
               ("Depends", depends)]
     return "\n" + "\n".join(f"{field}: {value}" for field, value in fields if value)

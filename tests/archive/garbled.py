@@ -184,7 +184,7 @@ WAYS: Sequence[Callable[[random.Random, bytes], bytes]] = (
 
 @dataclass(frozen=True)
 class Reading:
-    """How a tool reads a kind of file: where it stands in the case's folder, and the tool's name with its words."""
+    """How a tool reads a kind of file: its place in the case's folder, and the tool's name with its words."""
 
     place: str
     words: Sequence[str]
@@ -201,7 +201,7 @@ class Bench:
     wrong: int = 0
 
     def readings(self, kind: str) -> Sequence[Reading]:
-        """How files of a kind are read. A good file of each other kind stands in the folder, under its kind's name."""
+        """How files of a kind are read. The folder has a good file of each other kind, under its kind's name."""
         make = ("from-packages", "--no-hints", "--uploaded", DAY, "--run", DAY)
         feeds = ("feed", "--url", self.url, "--dry-run", "--day", DAY, "--cache", "cache")
         take = ("apply", "--testing", "testing")
@@ -290,7 +290,7 @@ def write(path: str, text: bytes) -> None:
 
 
 def ended(reading: Reading, given: str) -> tuple[int, str, str]:
-    """How a tool ends that is run in a process of its own: its status as the system tells it, and both outputs."""
+    """How a tool ends that runs in a process of its own: its status as the system gives it, and both outputs."""
     called = main_of(reading.words[0])
     assert called is not None
     child = os.fork()

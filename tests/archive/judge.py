@@ -1,4 +1,4 @@
-"""The test's own books on an archive: what came when, which bugs and hints stand, and what that means for testing.
+"""The test's own books on an archive: what came when, the bugs and hints in force, and what that means for testing.
 
 They are kept by what the test itself did, by docs/RULES.md, part 12.2, and never by what the office or its tools say.
 """
@@ -187,7 +187,7 @@ class Books:
         return ""
 
     def near(self, source: str, testing: Testing) -> set[str]:
-        """The sources that a move of this one rests on: what it needs, and what needs its packages that would go."""
+        """The sources that this one's move needs: those it needs itself, and those with need of its old packages."""
         own = {name for (name, _), row in self.rows.items() if row[0] == source}
         needed = {name for row in self.rows.values() if row[0] == source for name in names_in(row[2])}
         found = {row[0] for (name, _), row in self.rows.items() if name in needed}

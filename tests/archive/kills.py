@@ -2,11 +2,11 @@
 
 Usage: kills.py OFFICE FOLDER [feeds|days|reprepro|aptly..]
 
-The feed is ended at each fourth message, by turns before the office got it and behind that. Before it runs again, more
+The feed is ended at each fourth message, by turns before the office got it and after that. Before it runs again, more
 comes to unstable, so that what is left to send isn't what was left before. No number may be sent with two texts. The
-apply is ended behind each command of the manager. What clients see then is the old testing or the new one,
-and a second apply makes it the new one. A day is ended with its steps at moments of a seed; the next one that isn't
-ended makes testing the office's.
+apply is ended after each command of the manager. What clients see then is the old testing or the new one, and a second
+apply makes it the new one. A day is ended with its steps at moments of a seed; the next one that isn't ended makes
+testing the office's.
 """
 import os
 import random

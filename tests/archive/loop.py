@@ -1,4 +1,4 @@
-"""The days of the tests over an archive: feed, order, apply; behind each, testing is the office's and can be installed.
+"""The days of the tests over an archive: feed, order, apply; after each, testing is the office's and can be installed.
 
 Usage: loop.py OFFICE FOLDER [reprepro|aptly..]
 """
@@ -92,7 +92,7 @@ def restart(stage: Stage) -> None:
 
 
 def check_refused(stage: Stage) -> None:
-    """What the office wants isn't there any more, or a suite isn't: nothing is changed."""
+    """What the office wants, or a suite, is missing: nothing is changed."""
     digest = stage.digest()
     lacking = os.path.join(stage.folder, "lacking")
     with open(lacking, "w", encoding="utf-8") as file:

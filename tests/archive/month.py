@@ -1,5 +1,5 @@
 #!/usr/bin/python3
-"""A seeded month of a real archive that the office runs, with faults; behind each day testing is looked at.
+"""A seeded month of a real archive that the office runs, with faults; after each day testing is checked.
 
 Usage: month.py OFFICE [--all] [--seed N] [--days N] [--manager reprepro|aptly] [--quiet] [--fault NAME]..
 
@@ -63,7 +63,7 @@ def live(month: Simulation, days: int, begins: Mapping[int, Sequence[Trouble]]) 
 
 
 def is_skipped(month: Simulation, running: list[Steps]) -> bool:
-    """Lets each fault go on, and says whether one of them wants no command to run today."""
+    """Lets each fault continue, and returns whether one of them wants no command to run today."""
     is_asked = False
     for steps in list(running):
         try:

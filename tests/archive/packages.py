@@ -96,7 +96,7 @@ class Upload:
 
 
 def build(upload: Upload, folder: str) -> str:
-    """Builds an upload into a folder of its own below this one, if it isn't there yet, and gives that folder."""
+    """Builds an upload into a folder of its own below this one, unless it exists, and returns that folder."""
     target = os.path.join(folder, upload.name)
     if os.path.isdir(target):
         return target

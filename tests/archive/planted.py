@@ -1,4 +1,4 @@
-"""Tests the tests: commands with a planted fault, each of which a part of them has to see.
+"""Tests the tests: commands with a planted fault, each to be seen by a part of them.
 
 Usage: planted.py OFFICE FOLDER
 """
@@ -27,7 +27,7 @@ faults.run("office-{name}", command.main)
 
 @dataclass(frozen=True)
 class Fault:
-    """A fault: the command that has it, and the part of the tests that has to see it by telling something."""
+    """A fault: the command that has it, and the part of the tests that has to see it, with the line that it prints."""
 
     title: str
     name: str

@@ -77,7 +77,7 @@ def digests(files: Mapping[str, bytes], more: str = "") -> Mapping[str, str]:
 
 
 def plain(version: str) -> str:
-    """A version as it stands in a file's name."""
+    """A version as it is written in a file's name."""
     return version.split(":")[-1]
 
 
@@ -122,7 +122,7 @@ def changes(upload: Upload, architectures: Sequence[str], files: Mapping[str, by
 
 
 def write(upload: Upload, folder: str) -> str:
-    """Writes an upload into a folder of its own below this one, if it isn't there yet, and gives that folder."""
+    """Writes an upload into a folder of its own below this one, unless it exists, and returns that folder."""
     target = os.path.join(folder, upload.name)
     if os.path.isdir(target):
         return target

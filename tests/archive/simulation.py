@@ -1,4 +1,4 @@
-"""A simulated archive that the office runs: its days, what is done on each, and what is looked at behind it."""
+"""A simulated archive that the office runs: its days, what is done on each, and what is checked after it."""
 import os
 import re
 import shlex
@@ -42,7 +42,7 @@ class Ran:
         return Ran(name, ran.returncode, ran.stdout, ran.stderr)
 
     def behind(self, first: "Ran") -> "Ran":
-        """Both, one behind the other."""
+        """Both, one after the other."""
         return Ran(self.name, max(first.status, self.status), first.out + self.out, first.err + self.err)
 
 
@@ -260,7 +260,7 @@ def settings(stage: Stage, setup: str) -> str:
 
 
 def clear(folder: str) -> None:
-    """Takes the copies of a database's log away that a program which was ended left."""
+    """Removes the copies of a database's log that a program which was ended left."""
     for name in os.listdir(folder):
         if name.startswith("store.db-"):
             os.unlink(os.path.join(folder, name))

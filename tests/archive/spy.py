@@ -14,7 +14,7 @@ class Spy:
     """The proxy. `seen` has each message's texts, whether the office got them or not.
 
     Once `armed` with a process and a count, that process is ended by SIGKILL at the message of this count: before the
-    office gets it, or behind that and before it is answered.
+    office gets it, or after that and before it is answered.
     """
 
     def __init__(self, url: str) -> None:

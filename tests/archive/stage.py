@@ -1,4 +1,4 @@
-"""What the tests stand on: a running office, the commands under test, and archives of reprepro and aptly."""
+"""The stage of the tests: a running office, the commands under test, and archives of reprepro and aptly."""
 import hashlib
 import json
 import os
@@ -83,7 +83,7 @@ class Office:
             raise Failed(f"{reply.text}: {text}")
 
     def update(self, number: int) -> Sequence[str]:
-        """The lines of a run's update behind the first."""
+        """The lines of a run's update after the first."""
         return self.service.good_text(f"/update/{number}").splitlines()[1:]
 
     def rows(self) -> set[str]:

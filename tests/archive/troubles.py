@@ -1,7 +1,7 @@
-"""The faults of a month: each begins on a morning, and goes on behind each `yield` on the next one.
+"""The faults of a month: each begins on a morning, and continues after each `yield` on the next one.
 
-Behind a `yield` the day's command is run as on any other day, and testing is looked at. So what was done wrong has to
-be right again by that command alone, or by what a person does here, as a sentence says. `SKIP` is a day without it.
+After a `yield` the day's command is run as on any other day, and testing is checked. So what was done wrong has to be
+right again by that command alone, or by what a person does here, as a sentence says. `SKIP` is a day without it.
 """
 import dataclasses
 import os
@@ -52,7 +52,7 @@ def fresh(month: Simulation, name: str, needed: str = "") -> Kept:
 
 
 def comes(month: Simulation, kept: Kept, urgency: str, **more: object) -> Upload:
-    """A source is uploaded as it stands."""
+    """A source is uploaded as it is."""
     upload = month.world.upload(kept, urgency, **more)  # type: ignore[arg-type]
     month.world.enter(upload)
     month.do(Come(upload))
@@ -85,7 +85,7 @@ def withdraw(month: Simulation, kept: Kept, before: Kept) -> None:
 # What is wrong in the archive
 
 def withdrawn(month: Simulation) -> Steps:
-    """An upload is withdrawn on the next day. It may not move, and all else goes on."""
+    """An upload is withdrawn on the next day. It may not move, and all else continues."""
     kept = settled(month)
     before = dataclasses.replace(kept)
     renewed(month, kept, "medium")
@@ -119,7 +119,7 @@ def withdrawn_late(month: Simulation) -> Steps:
 
 
 def short_index(month: Simulation) -> Steps:
-    """A slip takes a third of unstable away. The archive is put back from its copy behind a refused day."""
+    """A slip takes a third of unstable away. The archive is put back from its copy after a refused day."""
     save(month.stage.folder, month.stage.archive.place)
     month.stage.archive.slip("app")
     refused(month)
@@ -162,7 +162,7 @@ def own_date(month: Simulation) -> Steps:
 
 
 def came_back(month: Simulation) -> Steps:
-    """A source leaves, and comes back some days later as it was. Nothing is told of it again and again."""
+    """A source leaves, and comes back some days later as it was. Nothing is printed about it again and again."""
     kept = fresh(month, f"gone{month.number}")
     yield None
     files = month.stage.built
@@ -186,7 +186,7 @@ def came_back(month: Simulation) -> Steps:
 
 
 def without_source(month: Simulation) -> Steps:
-    """A package comes without its source. It moves, and nothing stands still."""
+    """A package comes without its source. It moves, and nothing gets stuck."""
     name = f"vendor{month.number}"
     paths = []
     for own in BOTH:
@@ -330,7 +330,7 @@ def bad_hint(month: Simulation) -> Steps:
 
 
 def gap(month: Simulation) -> Steps:
-    """A message of the bug tracker is late: no order covers what is behind it without a word, and then it comes."""
+    """A message of the bug tracker is late: no order covers what follows it without a word, and then it comes."""
     kept = settled(month)
     renewed(month, kept, "critical")
     month.world.bugs += 1
@@ -348,7 +348,7 @@ def gap(month: Simulation) -> Steps:
 
 
 def undecided(month: Simulation) -> Steps:
-    """The service was ended behind an order, before it decided. The day's command has that run finished."""
+    """The service was ended after an order, before it decided. The day's command has that run finished."""
     month.day()
     office = month.stage.office
     text = office.service.good_text(f"/order/{month.today}")
@@ -391,7 +391,7 @@ def nothing_run(month: Simulation) -> Steps:
 
 
 def killed_feed(month: Simulation) -> Steps:
-    """The day's command is ended by force, at a message that it posts; by turns before and behind that."""
+    """The day's command is ended by force, at a message that it posts; by turns before and after that."""
     spy = Spy(month.stage.office.url)
     month.stage.url = spy.url
     try:
@@ -463,7 +463,7 @@ def killed_manager(month: Simulation) -> Steps:
 
 
 def unlocked(month: Simulation) -> None:
-    """If reprepro left its lock, the day's command goes on, or says which file a person removes."""
+    """If reprepro left its lock, the day's command continues, or says which file a person removes."""
     lock = os.path.join(month.stage.archive.base, "db/lockfile")
     if not month.is_reprepro or not os.path.exists(lock):
         return
@@ -510,7 +510,7 @@ def clock_back(month: Simulation) -> Steps:
 
 
 def restored(month: Simulation) -> Steps:
-    """The store of three days ago is put back. What it lacks comes back by the command that the refusal names."""
+    """The store of three days ago is put back. Its missing mail comes back by the command that the refusal names."""
     office = month.stage.office
     office.stop()
     save(month.stage.folder, "store.db")

@@ -36,14 +36,14 @@ ALL = [*TWELVE, *UNCLEAN, *NEWER, CALM, *DUET, *RIVALS, *MENDED, *KNOT, *LONES]
 
 
 def told_of(archive: Archive) -> Sequence[str]:
-    """What office-adopt tells of the unclean testing."""
+    """What office-adopt prints about the unclean testing."""
     beside = archive.has_versions
     return [
         "lag-doc all 1-1: left out: 1-2 is newer",
         *(["source lag 1-1: left out: 1-2 is newer"] if beside else []),
-        "lag arm64 1-1: told under lag 1-2: it was built of 1-1",
-        "duo-bad amd64 1-1: told without nosuch: nothing in testing meets it",
-        "duo-bad arm64 1-1: told without nosuch: nothing in testing meets it",
+        "lag arm64 1-1: sent under lag 1-2: it was built of 1-1",
+        "duo-bad amd64 1-1: sent without nosuch: nothing in testing meets it",
+        "duo-bad arm64 1-1: sent without nosuch: nothing in testing meets it",
         *(["left alone: sources of which testing has no package, or packages that stay: lag 1-1"] if beside else []),
         "left alone: older packages of all, with which packages that stay were built: lag-doc 1-1"]
 
@@ -60,7 +60,7 @@ def adopt(program: str, folder: str, archive: Archive) -> str:
 
 
 def adopted(program: str, folder: str, manager: str = "reprepro") -> str:
-    """An office begins with an unclean testing: all of it is there, and the first apply changes nothing.
+    """An office begins with all of an unclean testing, and the first apply changes nothing.
 
     An older package of `all` stays until its source moves on all architectures.
     """
@@ -187,7 +187,7 @@ class Unattended:
                        f"Apply: {' '.join(self.archive.apply_words())}\n")
 
     def day(self, day: str, due: int) -> str:
-        """Runs a day, which has to end with this status, and gives what stands still."""
+        """Runs a day, which has to end with this status, and returns what doesn't move."""
         told = run(os.path.join(COMMANDS, "office-day"), "--conf", os.path.join(self.folder, "day.conf"), "--day", day,
                    may_fail=True, OFFICE=self.office.program)
         expect(f"{day}: {told.stdout}{told.stderr}", due, told.returncode)

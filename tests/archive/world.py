@@ -1,7 +1,7 @@
 """What happens in an archive, drawn by a seed: uploads, rebuilds, transitions, new and removed sources, bugs, hints.
 
-Nothing here asks the office: each event is what people of an archive do. A template's `{source}` and `{binary}` stand
-for the version of the source and of what is built.
+Nothing here asks the office: each event is what people of an archive do. A template's `{source}` and `{binary}` mean
+the version of the source and of what is built.
 """
 import dataclasses
 import datetime
@@ -150,7 +150,7 @@ class World:
         return found
 
     def upload(self, kept: Kept, urgency: str, architectures: Sequence[str] = BOTH, **more: object) -> Upload:
-        """The upload of a source as it stands."""
+        """The upload of a source as it is."""
         rebuild = kept.rebuilds or None
         binary = kept.version + (f"+b{rebuild}" if rebuild else "")
         packages = [dataclasses.replace(package, depends=package.depends.format(binary=binary, source=kept.version))
@@ -209,7 +209,7 @@ class World:
         return self.random.choice(fitting) if fitting else None
 
     def swept(self) -> Iterator[Event]:
-        """Old packages of libraries leave that nothing in unstable needs, two days behind the new ones or later."""
+        """Old packages of libraries leave that nothing in unstable needs, two days after the new ones or later."""
         for package, day in list(self.old.items()):
             if self.today >= day + 2 and not self.needs(package):
                 del self.old[package]

@@ -6,7 +6,7 @@ usage: check.py A..B      a line for each fault, then `N passed, N failed`
 
 A message has a subject of at most 72 characters, which ends without a full stop, then an empty line, and a body with the
 reason. Neither names what the repository hasn't: a section, a finding or an issue by its number, or a page that isn't in
-it. What stands in backticks is code, and isn't looked at. Merges are left out. The exit status is 1 if there is a fault.
+it. What is in backticks is code, and isn't looked at. Merges are left out. The exit status is 1 if there is a fault.
 """
 import os
 import re

@@ -44,7 +44,7 @@ BLOCK = re.compile(r"impl(?:<[^>]*>)? (?:(\w+) for )?(\w+)(?:<[^>]*>)? \{")
 TYPE = re.compile(r"(?m)^(?:pub(?:\([a-z]+\))? )?(?:struct|enum) (\w+)")
 # The body of a function, between its braces, for the function's indentation.
 BODY = r"(?m)^%s(?:\S.* )?\{(|\n(?:.*\n)*?%s)\}$"
-# The prover's verdict on a function. It holds if its proof lacks nothing but those proofs that are holes.
+# The prover's verdict on a function. It holds if its proof needs no more than the proofs that are holes.
 VERDICT = re.compile(r"(?m)^fn (\S+): (.*)$")
 HOLDS = ("no holes", "depends on a hole")
 FAILS = re.compile(r"not proved|no proof(?!: it (?:calls|passes|stands on))")
@@ -112,7 +112,7 @@ def text_of(folder, path):
 
 
 def module_of(file):
-    """The modules of what stands in a source file."""
+    """The modules of what is in a source file."""
     return [it for it in file.removesuffix(".rt").split("/")[1:] if it not in ("lib", "main", "mod")]
 
 
@@ -237,7 +237,7 @@ class Check:
         return function.path in self.verdicts and all(it.startswith(HOLDS) for it in own)
 
     def others_hold(self, changed):
-        """Whether all that is told of is proved, but for these functions."""
+        """Whether all that is reported is proved, except these functions."""
         return all(it.startswith(HOLDS) for path, it in self.verdicts.items() if not is_of(path, changed))
 
     def complaint(self, function):
@@ -257,7 +257,7 @@ class Check:
 
 
 def rounds_of(changes):
-    """The changes in lists in which no function stands twice."""
+    """The changes in lists without a repeated function."""
     left, rounds = changes, []
     while left:
         first = {it.function: it for it in reversed(left)}

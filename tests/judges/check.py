@@ -1,7 +1,7 @@
 #!/usr/bin/env python3
-"""Tells whether the suites of crates/cases_libraries are those that the generator draws, whether the judge says for
-each row of the rules written by hand what its statement says, and whether the end of stdout is what is due. The last
-line is `N passed, N failed`; the exit status is 1 where one failed."""
+"""Checks that the suites of crates/cases_libraries are those that the generator draws, that the judge says for each row
+of the rules written by hand what its statement says, and that the end of stdout is what is due. The last line is `N
+passed, N failed`; the exit status is 1 if one failed."""
 import sys
 sys.dont_write_bytecode = True
 from rows import ROWS, STATEMENTS, SUITES, due_rows, parts, printed, read, rows_of

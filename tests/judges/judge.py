@@ -1,4 +1,4 @@
-"""What a run decides, by its definition: slow and plain, each question asked anew of all mail."""
+"""What a run decides, by its definition: slow and plain, each question put again to all mail."""
 from collections import namedtuple
 from mail import ALL, ARCHS, NAMES
 
@@ -122,7 +122,7 @@ def moved(unstable, suite, group):
 
 
 def offender(suite, change):
-    """The first watched row that came in or was installable, and isn't; none where the change is allowed."""
+    """The first watched row that came in or was installable, and isn't; none if the change is allowed."""
     for arch in LISTED:
         before = installable(suite.rows.values(), arch)
         after = installable(change.after.rows.values(), arch)
@@ -218,14 +218,14 @@ class Turn:
         return [name for name in sorted(self.candidates) if not self.suite.has_at(name, self.candidates[name])]
 
     def is_allowed(self, change):
-        """Makes a change where that is allowed, and gives its offender where it isn't."""
+        """Makes a change if that is allowed, and returns its offender if it isn't."""
         broken = offender(self.suite, change)
         if broken is None:
             self.suite = change.after
         return broken
 
     def removal(self, hint):
-        """A source goes out at its turn, where testing has that version then."""
+        """A source goes out at its turn, if testing has that version then."""
         if self.suite.has_at(hint.name, hint.version):
             what = "%s %s" % (NAMES[hint.name], self.suite.sources[hint.name].text)
             broken = self.is_allowed(removed(self.suite, hint.name))
@@ -233,7 +233,7 @@ class Turn:
                               else "remove %d refuse %s %s" % (hint.number, what, broken))
 
     def group(self, number, items):
-        """The items that aren't in testing move as one, where each is a candidate and the move is allowed."""
+        """The items that aren't in testing move as one, if each is a candidate and the move is allowed."""
         items = [item for item in items if not self.suite.has_at(item.name, item.version)]
         strangers = [item for item in items if item.name not in self.candidates
                      or not is_same(self.candidates[item.name], item.version)]

@@ -17,7 +17,7 @@ VERSIONS = [
     ["3", "3-0"],
 ]
 
-# The architectures that are listed, and `all` behind them.
+# The architectures that are listed, and `all` after them.
 ARCHS = ["amd64", "arm64", "all"]
 ALL = 2
 
@@ -67,7 +67,7 @@ def clauses_of(fields):
 
 
 def built_of(at, place, fields):
-    """The binary of a paragraph. The place behind sender and number is that of the paragraph, from 1."""
+    """The binary of a paragraph. The place after sender and number is that of the paragraph, from 1."""
     source, _, version = fields.get("Source", fields["Package"]).partition(" (")
     return Built(at + (place,), name_of(fields["Package"]), version_of(fields["Version"]),
                  ARCHS.index(fields["Architecture"]), name_of(source),

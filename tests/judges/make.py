@@ -1,6 +1,6 @@
 #!/usr/bin/env python3
 """Writes crates/cases_libraries/data/random_suites, and the end of crates/cases_libraries/stdout: what is due for the
-rows of data/rule_rows beside them, and for these suites."""
+rows of data/rule_rows, and for these suites."""
 import sys
 sys.dont_write_bytecode = True
 from rows import DUE, ROWS, SUITES, due_rows, parts, printed, read

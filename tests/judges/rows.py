@@ -19,12 +19,12 @@ def read(path):
 
 
 def rows_of(text):
-    """The rows of a text: each what it is about, and the lines below that. What stands before the first row is none."""
+    """The rows of a text: each what it is about, and the lines below that. Text before the first row is none."""
     return [row.partition("\n")[::2] for row in ("\n" + text[:-1]).split("\n=== ")[1:]]
 
 
 def parts():
-    """The parts of stdout: what is due for the rows of the low libraries, the last of which is drawn, and for these."""
+    """The parts of stdout: what is due for the rows of the low libraries, the last one drawn, and for these."""
     text, last = read(DUE), "=== %s\n" % rows_of(read(DRAWN))[-1][0]
     end = text.index("\n=== ", text.index(last)) + 1
     return text[:end], text[end:]

@@ -8,7 +8,7 @@ bags: over a store in memory, over a store in a file, and as a service. For each
 meets no refusal: what is printed is what the rules give for the marks that its own lines show, and the exit status is 4
 where anything was lost, else 0. Then the same bag with ample memory, over the same store, leaves the row's testing and
 reports. A check of the store finds it whole, or ends with status 4 and no line. A store of schema 1 is opened so too:
-it is then of schema 1 or 2, and goes on by the delays that were kept.
+it is then of schema 1 or 2, and continues with the kept delays.
 
 PARTS is the built program that judges itself, `crates/cases_program/out/cases_program`: started with the word `memory`,
 it prints a line `PART: right` for each of its parts that may be refused memory. Each of its growths is refused in turn
@@ -156,13 +156,13 @@ class Rules:
         return head.splitlines(True), int(ready), [tuple(pieces[i:i + 2]) for i in range(0, len(pieces) - 1, 2)], pieces[-1]
 
     def testing_after(self, texts, finished):
-        """Testing after so many runs of these texts."""
+        """Testing after that many runs of these texts."""
         orders = [t for t in texts if b"Kind: run" in t]
         later = [t for t in orders if int(re.search(rb"Number: (\d+)", t).group(1)) > finished]
         return self.of([t for t in texts if t not in later])[3]
 
     def fault_of(self, output, status, before=0):
-        """None where an output is right for the marks that its lines show, over a store with so many finished runs of this bag."""
+        """None if an output is right for the marks in its lines, over a store with that many finished runs."""
         if output in (b"", NO_MEMORY):
             return None if status == 4 else "status %d" % status
         lines = output.splitlines(True)

@@ -49,7 +49,7 @@ class Browser:
         self.driver.get(url)
 
     def faults(self):
-        """What is wrong with the open page, and what the console tells of it."""
+        """What is wrong with the open page, and what the console says of it."""
         return [*self.driver.execute_script(self.looks),
                 *(entry["message"] for entry in self.driver.get_log("browser"))]
 

@@ -4,11 +4,10 @@
 usage: draw.py OFFICE FOLDER [LEAVES]
 
 The archive is a part of the Debian release whose lists apt has on this machine: some sources with all that they need,
-and as many more as LEAVES says (300) that need no others, on amd64 and as if it were built on arm64.
-FOLDER gets `setup.conf` and `bag`. The first run
-is over the archive. On each of the nine days after it come newer uploads with different fates, renamed libraries, two
-sources that need each other's new versions, hints with the fields By and Comment, some of which every run refuses,
-removed sources, and an order.
+and as many more as LEAVES says (300) that need no others, on amd64 and as if it were built on arm64. FOLDER gets
+`setup.conf` and `bag`. The first run is over the archive. On each of the nine days after it come newer uploads with
+different fates, renamed libraries, and two sources that need each other's new versions. There are hints with the fields
+By and Comment, some refused by every run, removed sources, and an order.
 """
 import collections
 import os
@@ -58,7 +57,7 @@ def first_names(package):
 
 
 def chosen(leaves):
-    """Packages by source: those of some seeds with all that they need, and of so many more that need no others."""
+    """Packages by source: those of some seeds with all that they need, and of that many more that need no others."""
     every = {package.fields["Package"]: package for package in packages_of_lists()}
     by_source = collections.defaultdict(list)
     for package in every.values():
@@ -113,7 +112,7 @@ def newer(version):
 
 
 def older(day, days):
-    """The day that is so many days before one of March."""
+    """The day that many days before one of March."""
     return f"2025-03-{max(1, int(day[-2:]) - days):02}"
 
 

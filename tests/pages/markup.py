@@ -1,4 +1,4 @@
-"""Faults in the markup of pages, by html5lib: what a checker of accessibility would tell of it without a browser."""
+"""Faults in the markup of pages, by html5lib: what a checker of accessibility would report without a browser."""
 import collections
 import html5lib
 

@@ -8,7 +8,7 @@ from office_tools import reports
 
 
 class Told:
-    """What the office tells after its newest run."""
+    """What the office prints after its newest run."""
 
     def __init__(self, service):
         self.service = service
@@ -56,7 +56,7 @@ def missing(what, due, shown):
 
 
 def anything(_seen):
-    """A page of which nothing is compared."""
+    """A page on which nothing is compared."""
     return []
 
 
@@ -114,7 +114,7 @@ class Kinds:
                                                                       column(seen, "testing", 2)))
 
     def hints(self, seen):
-        """Each item of a hint in force is shown, each refused hint says so, and each proposed one is there to copy."""
+        """Each item of a hint in force is shown, each refused hint says so, and each proposed one can be copied."""
         standing = {str(item.number) for item in self.told.hints.items}
         yield from differences("hints", sorted(standing), sorted(column(seen, "standing", 1)))
         items = [f"{item.item}: " + (f"unstable has {item.other}" if item.other else item.standing.value)

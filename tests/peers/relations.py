@@ -3,7 +3,7 @@
 
 Every Depends, Pre-Depends and Provides of the Packages files that apt has on this machine is read by
 deb_control, through the program in printer/, and by python3-debian. Both are printed in one form. The
-first fields that differ or are refused are told, and then the counts. The exit status is 1 if there is
+first fields that differ or are refused are printed, and then the counts. The exit status is 1 if there is
 such a field, or no field at all.
 
 It needs Debian with apt's lists (`apt-get update`), the package python3-debian (run it by

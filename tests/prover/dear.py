@@ -1,19 +1,19 @@
 #!/usr/bin/env python3
-"""Tells which functions of a crate are dear to prove.
+"""Reports which functions of a crate are dear to prove.
 
   dear.py CRATE [COUNT]
 
-CRATE is a crate's folder, behind a whole `rt check --jobs 1` of it. For each of the COUNT dearest functions, 30 if it
-isn't said, a line has its seconds, the megabytes of the borrow checker's part, and on which parts the seconds went. The
-seconds are those between the times of the files that the check kept. So they hold only behind a check from nothing by
-one job, and a busy machine makes them longer. The megabytes hold on any machine: some two seconds go with each.
+CRATE is a crate's folder, after a whole `rt check --jobs 1` of it. For each of the COUNT dearest functions, 30 if it
+isn't said, a line has its seconds, the megabytes of the borrow checker's part, and the parts that took the seconds. The
+seconds are those between the times of the files that the check kept. So they hold only after a check from nothing by
+one job, and a busy machine makes them longer. The megabytes hold on any machine: each takes some two seconds.
 """
 import collections
 import os
 import re
 import sys
 
-# The first word of a file's name behind the function that it is of.
+# The first word of a file's name after the function that it is of.
 PARTS = re.compile(
     r"(Code|Mir|Proof|Statement|Met|Goals?|Answers\w*|Lts|Reads|Invariants\w*|TheLinks?|Key|Layout|Named|Tie|Symbol"
     r"|Given|Kinds)\b"

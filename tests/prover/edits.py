@@ -1,5 +1,5 @@
 #!/usr/bin/env python3
-"""Tries must-fail edits of a crate one by one, and tells what each check cost and where it was refused.
+"""Tries must-fail edits of a crate one by one, and prints what each check cost and where it was refused.
 
   edits.py CRATE [EDIT..]
 
@@ -47,7 +47,7 @@ def try_edit(crate, edit, kept, stages):
     before = processor_seconds()
     verdict, said = rt.must_fail(crate, edit, ["--jobs", "1", "--stage-times", stages], kept)
     print("%6.1f s  %s\n          %s" % (processor_seconds() - before, said, stages_in(stages)), flush=True)
-    # (kit 13b tells whether it is refused, and 13f how it went)
+    # (kit 13b says whether it is refused, and 13f how it went)
     return verdict in (rt.REFUSED, rt.AT_LIMIT) if hasattr(rt, "REFUSED") else verdict
 
 

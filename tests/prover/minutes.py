@@ -1,5 +1,5 @@
 #!/usr/bin/env python3
-"""Tells what a run of the gate costs, crate by crate, and writes it into `docs/PROVING.md`.
+"""Prints what a run of the gate costs, crate by crate, and writes it into `docs/PROVING.md`.
 
   minutes.py record LOG [COMMAND..]   runs the command (.ci/run) and writes LOG, with the command's exit status
   minutes.py table LOG                prints the table of a run
@@ -7,7 +7,7 @@
 
 A line of LOG is JSON: a line of the command's output with the second in which it came, or what a process of the prover
 had used in that second, every two seconds. A process belongs to a crate's proof if it runs in the crate's folder, and
-to its must-fail edits if it runs in a copy. The processor time that a process uses behind its last sample isn't told.
+to its must-fail edits if it runs in a copy. The processor time of a process after its last sample is missing.
 """
 import collections
 import json
@@ -84,7 +84,7 @@ def record(log, command):
 
 
 class Run:
-    """What a log tells of a run."""
+    """What a log says of a run."""
 
     def __init__(self, log):
         self.entries = [json.loads(line) for line in open(log, encoding="utf-8")]
@@ -102,7 +102,7 @@ class Run:
         return max((it["peak"] for it in self.used if it["crate"] == crate), default=0) / 1e6
 
     def proved_at(self, crate):
-        """The minute in which the run told that the crate is proved, None if it took it from an earlier run."""
+        """The minute in which the run reported that the crate is proved, None if it took it from an earlier run."""
         found = [at for at, line in self.lines if line.startswith(f"rt: {crate} proved")]
         return int(found[0] // 60) if found else None
 
@@ -158,7 +158,7 @@ def table_of(run):
 
 
 def write(run):
-    """Puts a run's table, and the sentence behind it, in the place of those in the page."""
+    """Puts a run's table, and the sentence after it, in place of those in the page."""
     text = PAGE.read_text(encoding="utf-8")
     start = text.index(HEAD)
     behind = re.compile(r"\n\n(?:The run took (?:[^\n]+\n)*)?").search(text, start)

@@ -23,7 +23,7 @@ sys.path.append(str(Path(__file__).resolve().parents[1]))
 from trusted import File, Module, words_of
 
 WHOLE = {'struct', 'enum', 'type', 'const', 'static'}
-# A definition whose equations others see. Any other is a lemma, of which they see the statement alone.
+# A definition whose equations others see. Any other is a lemma; they see only its statement.
 IS_SEEN = re.compile(r'(?:pub )?(?:abbrev|unfoldable|data|record)\b')
 
 
@@ -91,7 +91,7 @@ def parts_of(module):
 
 
 def interface(top, crate):
-    """What crates above can rest on: for each part of a crate where it stands, what it is called and what it says."""
+    """What crates above can rest on: for each part of a crate its place, its name and what it says."""
     folder, found = Path(top) / 'crates' / crate, {}
     for file in files_of(folder / 'specs', crate):
         for at in file.definitions:

@@ -1,4 +1,4 @@
-"""What `office try` tells, by model.py, and what is wrong with a text of `office why`."""
+"""What `office try` prints, by model.py, and what is wrong with a text of `office why`."""
 import copy
 import datetime
 import re
@@ -7,7 +7,7 @@ from model import ARCHS, Office, Refused, SENDERS, satisfies, vcmp
 RELEASE, CLOCK = SENDERS.index("rt"), SENDERS.index("clock")
 NEED = re.compile(r"(\d+) (\S+) (\S+) of (\S+) (comes in|in testing), needs (.+): "
                   r"(nothing|\d+(?: and \d+)*?)(?: and (\d+) more)?")
-# How many numbers of lines a line tells.
+# How many numbers of lines a line prints.
 TOLD = 12
 
 
@@ -28,7 +28,7 @@ def office_after(office, run):
 
 
 def next_run(office, covers, day, hints):
-    """The office behind its next run, of these covers and this day, with these hints behind the covered ones."""
+    """The office after its next run, of these covers and this day, with these hints after the covered ones."""
     late, run = copy.deepcopy(office), office.finished + 1
     last = [run - 1 if s == CLOCK else n for s, n in enumerate(covers)]
     late.kept = {(s, n): text for (s, n), text in office.kept.items() if n <= last[s]}
@@ -44,7 +44,7 @@ def next_run(office, covers, day, hints):
 
 
 def excuse_lines(report):
-    """The lines of excuses, each inner one behind its first line."""
+    """The lines of excuses, each inner one after its first line."""
     lines, front = [], ""
     for line in report.splitlines():
         front = front if line.startswith(" ") else line
@@ -78,8 +78,8 @@ def tried(office, hints, day=None, of_all=False):
 
 
 class TriedText(str):
-    """The text of a trial up to the lines on why hints are refused. It equals each text that goes on with lines that show
-    it."""
+    """The text of a trial up to the lines on why hints are refused. It equals each text that continues with lines that
+    show it."""
 
     def __eq__(self, told):
         due = [change for change in self.late.refused if change.number > self.behind]
@@ -97,8 +97,8 @@ def sent_by(row):
 
 
 def origin_lines(office, source):
-    """How it stands with a source, and where the reasons come from that keep it out, over the testing that an office's last
-    run left."""
+    """The state of a source, and the origin of the reasons that keep it out, over the testing that an office's last run
+    left."""
     known, upload = office.known, office.known.sources.get(source)
     if upload is None:
         return ["unknown " + source]
@@ -137,7 +137,7 @@ def meets(row, clause):
 
 
 def state(known, change, row):
-    """How it stands with a row of unstable, where sources would come in."""
+    """The state of a row of unstable, if sources would come in."""
     of = row["source"]
     if of not in known.sources or vcmp(row["source_version"], known.sources[of][1]) != 0:
         return "isn't current"
@@ -157,7 +157,7 @@ def on(arch, rows):
 
 
 def behind_nothing(known, change, clause):
-    """The lines behind one whose clause nothing meets."""
+    """The lines after one whose clause nothing meets."""
     arch = change.offender[0]
     lines = ["leaves %s %s" % (r["package"], r["version"]) for r in on(arch, change.old) if meets(r, clause)]
     offers = [r for r in on(arch, known.rows) if meets(r, clause)]
@@ -167,12 +167,12 @@ def behind_nothing(known, change, clause):
 
 
 def told_numbers(numbers, more):
-    """The numbers of lines that a line tells, and how many more there are."""
+    """The numbers of lines in a line, and how many more there are."""
     return [int(n) for n in numbers.split(" and ")] if numbers != "nothing" else [], int(more or 0)
 
 
 def groundless_fault(needs, rows):
-    """What is wrong with the numbers of lines, each of which tells the first of those whose rows meet its clause, and
+    """What is wrong with the numbers of lines: each line names the first of those whose rows meet its clause, and
     counts the others; None if nothing is."""
     for number, (_, clause, numbers, more) in enumerate(needs, 1):
         bearers = sorted(id(r) for r in rows if meets(r, clause))
@@ -239,7 +239,7 @@ def reasons_fault(office, due, text):
 
 
 def hint_standing(office, number):
-    """How it stands with a hint of which an office's last run decided nothing."""
+    """The state of a hint on which an office's last run decided nothing."""
     cover = office.covers(office.finished)[0][RELEASE]
     if number > cover or "\nHint: " not in office.kept[RELEASE, number]:
         return "unknown"
@@ -258,8 +258,8 @@ def hint_fault(office, number, text):
 
 
 def why_fault(office, source, said, text):
-    """What is wrong with a text on a source of an office's last run, where these are the lines of its excuse, and those of
-    the update that name it; None if nothing is."""
+    """What is wrong with a text on a source of an office's last run, given the lines of its excuse, and those of the
+    update that name it; None if nothing is."""
     own, named = said
     front = ["why %d %s" % (office.finished, source), *own, *origin_lines(office, source), *named]
     lines = text.splitlines()

@@ -1,6 +1,6 @@
 #!/usr/bin/env python3
-"""Counts what the random rows are about, by what is due for them: counts.py [FILE], by itself of crates/cases_program.
-Exit status 1 where something comes less than ten times."""
+"""Counts what the random rows are about, by what is due for them: counts.py [FILE], without it of crates/cases_program.
+Exit status 1 if something comes less than ten times."""
 import os
 import re
 import sys

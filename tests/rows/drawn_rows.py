@@ -3,7 +3,7 @@
 
 usage: drawn_rows.py [--check]
 
-It writes crates/cases_libraries/data/drawn_rows, and what is due for it, in crates/cases_libraries/stdout: behind what
+It writes crates/cases_libraries/data/drawn_rows, and what is due for it, in crates/cases_libraries/stdout: after what
 is due for the rows of stdin, and before what is due for the rules. With --check it writes nothing, and ends with status
 1 if the files are others.
 """
@@ -38,7 +38,7 @@ def meets(row, clause):
 
 
 def installable(rows, there):
-    """Which of the rows that are there are installable: they are swept until a sweep takes none out."""
+    """Which of the present rows are installable: they are swept until a sweep takes none out."""
     left = list(there)
     while True:
         swept = [is_in and all(any(left[k] and meets(other, clause) for k, other in enumerate(rows)) for clause in row[2])
@@ -116,8 +116,8 @@ def suites():
 
 
 def chains():
-    """Two chains of a thousand packages, each of which needs the next one. Each clause of the first is looked at at most
-    once, and once more if the package that it rests on is taken out; each of the second once."""
+    """Two chains of a thousand packages, each needing the next one. Each clause of the first is looked at at most once,
+    and once more if the package that it rests on is taken out; each of the second once."""
     for last, most, signed, came in ("nowhere", " 1999", "-", "1000 turns, within 1999 looks"), \
             ("p0", "", "+", "0 turns, 1000 looks"):
         about = "=== a chain whose last package needs %s\n" % last
@@ -126,7 +126,7 @@ def chains():
 
 
 def with_due(stated, due):
-    """The text of stdout with what is due for the drawn rows. What stands before them and behind them stays."""
+    """The text of stdout with what is due for the drawn rows. What precedes and follows them stays."""
     before, _, rest = stated.partition(FIRST)
     last = due[-1].partition("\n")[0]
     end = rest.index("\n=== ", rest.index(last + "\n")) + 1

@@ -1,8 +1,8 @@
-"""Which sources that wait some groups would free, by model.py, and what is wrong with a text that says that none does.
+"""Which waiting sources some groups would free, by model.py, and what is wrong with a text that says that none does.
 
-Each run does its standing removals and groups first, then single moves. The state in between is the one that proposals
-are made for: `Behind` is it, of the next run of an office. All sequences of groups from there on are tried, so this is
-for few sources alone.
+Each run does its removals and groups in force first, then single moves. Proposals are made for the state in between.
+`Behind` is it, of the next run of an office. All sequences of groups from there on are tried, so this is for few
+sources alone.
 """
 import itertools
 import re
@@ -14,7 +14,7 @@ STUCK = re.compile(r"stuck (\S+) (\S+) uninstallable (\S+) (\S+)")
 
 
 class Behind:
-    """The next run of an office behind its standing removals and groups: the terms of a trial say what it covers."""
+    """The next run of an office after its removals and groups in force: the terms of a trial say what it covers."""
 
     def __init__(self, office, day=None, of_all=False):
         covers, last = office.covers(office.finished) if office.finished else ([0] * len(SENDERS), None)
@@ -28,7 +28,7 @@ class Behind:
         self.rows, self.sources, self.left = self.late.behind_groups
 
     def with_hints(self, hints):
-        """The office behind its next run with these hints, too."""
+        """The office after its next run with these hints, too."""
         return next_run(self.office, self.covers, self.date, hints)
 
     def change(self, rows, group):
@@ -50,14 +50,14 @@ class Behind:
                         continue
                     after = done | set(group)
                     moved |= after
-                    # What stands says how it goes on: two ways to the same rows and sources are one.
+                    # Where a way leads depends on what is in: two ways to the same rows and sources are one.
                     mark = after, frozenset((key, row["version"], row["source"]) for key, row in new.items())
                     if mark not in seen:
                         seen.add(mark)
                         states.append((new, after))
         return moved
 
-    # What shows that no group frees a source: blocks, each of which rests on the sources of those behind it.
+    # What shows that no group frees a source: blocks, each resting on the sources of those after it.
 
     def living(self, dead):
         return [name for name in self.left if name not in dead]
@@ -74,7 +74,7 @@ class Behind:
         ]
 
     def may_stand(self, name, dead):
-        """The rows that may stand once a source has moved and none of the dead has."""
+        """The rows that may be in testing once a source has moved and none of the dead has."""
         return [row for row in self.rows.values() if row["source"] != name] + self.coming(self.living(dead))
 
     def is_due(self, row, name, dead, arch):
@@ -92,7 +92,7 @@ class Behind:
         )
 
     def behind_nothing(self, name, arch, clause, dead):
-        """The lines behind one whose clause nothing meets that may stand."""
+        """The lines after one whose clause nothing meets that may be in testing."""
         lines = ["leaves %s %s" % (r["package"], r["version"]) for r in on(arch, self.rows) if meets(r, clause)]
         offers = [r for r in on(arch, self.late.known.rows) if meets(r, clause)]
         for row in offers:
@@ -144,7 +144,7 @@ class Behind:
         return None
 
     def stuck_fault(self, lines):
-        """What is wrong with the blocks of a text, each of which rests on those behind it; None if nothing is."""
+        """What is wrong with the blocks of a text, each resting on those after it; None if nothing is."""
         blocks = []
         for line in lines:
             if STUCK.fullmatch(line):

@@ -1,5 +1,5 @@
-"""What a living office tells beside its reports, by model.py: its hints, unstable, the next order, parts of its mail as
-a bag, the replies to mail that is bound to a sender or only looked at, and trials over all mail."""
+"""What a running office prints in addition to its reports, by model.py: its hints, unstable, the next order, and parts
+of its mail as a bag. Also the replies to mail bound to a sender or only looked at, and trials over all mail."""
 from asked import CLOCK, RELEASE, next_run, tried, unbroken
 from model import ARCHS, SENDERS, paragraphs, vcmp
 
@@ -23,7 +23,7 @@ def is_at(version, other):
 
 
 def state_of(word, name, version, unstable, testing):
-    """How it stands with an item of a hint in force; one of `block` has no version."""
+    """The state of an item of a hint in force; one of `block` has no version."""
     if word == "block-all":
         return "in force"
     if unstable is None:
@@ -36,7 +36,7 @@ def state_of(word, name, version, unstable, testing):
 
 
 def hints(office):
-    """Each item of each hint in force, and how it stands."""
+    """Each item of each hint in force, and its state."""
     known = seen(office)
     cover = office.covers(office.finished)[0][RELEASE] if office.finished else 0
     text = "hints %d\n" % office.finished
@@ -125,5 +125,5 @@ def bound_reply(office, name, text, refusal=None):
 
 
 def tried_on(office, wishes, day):
-    """What a trial over all mail tells, on this day or the last run's, whichever is later."""
+    """What a trial over all mail prints, on this day or the last run's, whichever is later."""
     return tried(office, wishes, day, True)[0]

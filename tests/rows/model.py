@@ -91,7 +91,7 @@ def satisfies(row, alt):
 
 
 def installable(rows):
-    """The rows that are left where each row without what it depends on is taken away, again and again."""
+    """The rows that are left if each row without what it depends on is taken away, again and again."""
     live = list(rows)
     while True:
         named = {}

@@ -1,7 +1,7 @@
 #!/usr/bin/env python3
 """Random rows by the built program: opened_again.py OFFICE FIRST-LAST. For each seed the row of reopened_rows.py is replayed
-over a file, one call of the program for what stands between two openings. What is printed, the exit statuses, and the kept
-facts or what a check of the file tells must be what model.py says. The last line counts; the exit status is 1 where a row
+over a file, one call of the program for what is between two openings. What is printed, the exit statuses, and the kept
+facts or what a check prints must be what model.py says. The last line counts; the exit status is 1 where a row
 differs."""
 import difflib
 import os
@@ -32,7 +32,7 @@ def checked(office, store):
 
 
 def came_of(office, lines, folder):
-    """What the program prints for a row over a new store, and then the facts, or what a check tells."""
+    """What the program prints for a row over a new store, and then the facts, or what a check prints."""
     store = os.path.join(folder, "store")
     for end in ("", "-wal", "-shm"):
         if os.path.exists(store + end):

@@ -1,6 +1,6 @@
 #!/usr/bin/env python3
-"""Random rows of offices that are opened again behind every run: reopened_rows.py SEED.. prints the row of each seed, and
-FIRST-LAST stands for all seeds from one to another. What comes next is drawn by what model.py has in testing, so that
+"""Random rows of offices opened again after every run: reopened_rows.py SEED.. prints the row of each seed, and
+FIRST-LAST means all seeds from one to another. What comes next is drawn by what model.py has in testing, so that
 hints, removals, bugs and drops mostly mean something."""
 import random
 import sys

@@ -5,7 +5,7 @@ from model import Office, SENDERS
 
 HERE = os.path.dirname(os.path.abspath(__file__))
 CRATE = os.path.join(HERE, "..", "..", "crates", "cases_program")
-# What the program prints behind the rows: its parts, each with `right`.
+# What the program prints after the rows: its parts, each with `right`.
 PARTS = re.compile(r"\n((?:[a-z]+, [a-z ]+: right\n)+)\Z")
 LETTERS = {"n": "\n", "r": "\r", "f": "\xff", "x": "x" * 65498, "y": "y" * 8167}
 OMITTED = ".."
@@ -18,7 +18,7 @@ def read(folder, name):
 
 
 def printed():
-    """What the program prints for the rows, and what it prints behind them for its parts."""
+    """What the program prints for the rows, and what it prints after them for its parts."""
     text = read(CRATE, "stdout")
     place = PARTS.search(text).start(1)
     return text[:place], text[place:]
@@ -125,7 +125,7 @@ def judged(lines, statement):
 
 
 def agrees(statement, due):
-    """Whether what is due is the statement, where a line `..` stands for any lines."""
+    """Whether what is due is the statement; a line `..` means any lines."""
     form = "".join("(?:.*\n)*?" if line == OMITTED else re.escape(line + "\n") for line in statement.split("\n")[:-1])
     return re.fullmatch(form, due) is not None
 

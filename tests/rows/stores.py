@@ -1,6 +1,6 @@
 #!/usr/bin/env python3
 """Makes stores of worked rows: stores.py OFFICE FOLDER. Each row of bags alone that ends by `> facts` is replayed, one call
-of the program for what stands between two openings. The store of the first one is FOLDER/1.store, and FOLDER/1.facts has
+of the program for what is between two openings. The store of the first one is FOLDER/1.store, and FOLDER/1.facts has
 the lines that are due for its facts, and so on."""
 import os
 import subprocess

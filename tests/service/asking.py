@@ -1,16 +1,16 @@
 #!/usr/bin/env python3
-"""What the asking commands and pages tell, beside tests/rows/model.py.
+"""What the asking commands and pages print, compared with tests/rows/model.py.
 
   asking.py PROGRAM [FIRST-LAST [PORT]]
 
 PROGRAM is the built program, `crates/office/out/office`. For each seed from FIRST to LAST (1-40) some of the mail of
-tests/rows/reopened_rows.py is left out. Then `office waiting` has to tell what the model misses, over the bag and over
+tests/rows/reopened_rows.py is left out. Then `office waiting` has to print what the model misses, over the bag and over
 a store, `office report` the texts of each finished run, `office why` what they say of each source, where its reasons
 come from and why it waits, of the last run and of each earlier one, `office try` what hints would change in the next run, `office runs` and `office mail` what
 they count, `office export` the kept mail, `office check` that all is whole, and the service the same on its pages. The
 bytes of the store's file have to be the same before and after. A copy of a store in which Python's sqlite3 changes a
-text or a row has to be told by `office check`. A replay has to tell refused messages on standard error. Exit status 0
-where all was as it is due.
+text or a row has to be found by `office check`. A replay has to print refused messages on standard error. Exit status 0
+if all was right.
 """
 import os
 import random
@@ -107,7 +107,7 @@ def said(office, run, source):
 
 
 def parted(text, run, sources):
-    """The texts on sources of a run, which stand one behind the other."""
+    """The texts on sources of a run, one after the other."""
     parts, heads = [], ["why %d %s" % (run, source) for source in sources]
     for line in text.splitlines(keepends=True):
         if len(parts) < len(heads) and line == heads[len(parts)] + "\n":
@@ -118,8 +118,8 @@ def parted(text, run, sources):
 
 
 def over_earlier_runs(seed, office, store, sources):
-    """What is told of sources of each run but the last: the same over the store and over its mail, and what is due by the
-    model of an office as that run left it."""
+    """The answers on sources of each run but the last: the same over the store and over its mail, and what is due by
+    the model of an office as that run left it."""
     bag = kept_bag(office)
     for run in range(1, office.finished):
         left = office_after(office, run)
@@ -183,7 +183,7 @@ def texts_of(seed):
 
 
 def drawn_hints(draw, office):
-    """One or two hints, most of which mean something to the next run."""
+    """One or two hints, most meaning something to the next run."""
     names = sorted({paragraphs(text)[0].get("source", "greeter") for text in office.kept.values()})
     known = office.known.sources if office.known else {}
     versions = {name: office.sources.get(name) or (known[name][1] if name in known else "1") for name in names}
@@ -196,7 +196,7 @@ def drawn_hints(draw, office):
 
 
 def over_trials(seed, office, store):
-    """What `office try` tells of hints that are drawn, and of one that is refused."""
+    """What `office try` prints for hints that are drawn, and for one that is refused."""
     draw = random.Random(seed)
     for terms in [], ["--all"], ["--day", "2031-02-03"], ["--all", "--day", "2024-12-31"]:
         hints = drawn_hints(draw, office)
@@ -209,7 +209,7 @@ def over_trials(seed, office, store):
 
 
 def over_a_store(seed, office, store):
-    """What a store with this mail tells, by the commands and by the service. Nothing in its file changes."""
+    """What a store with this mail answers, by the commands and by the service. Nothing in its file changes."""
     before = bytes_of(store)
     due = awaited(office)
     want("%d: waiting over a store" % seed, due, call("waiting", "--conf", CONF, "--db", store))
@@ -243,8 +243,8 @@ def over_a_store(seed, office, store):
 
 
 def by_service(seed, office, store, due, sources):
-    """What the service tells on its pages. Of these sources, and of hints that are tried, it tells what
-    the commands tell."""
+    """What the service answers on its pages. On these sources, and on hints that are tried, it answers what the
+    commands print."""
     stored = ["--conf", CONF, "--db", store]
     pages = [("/waiting", due), ("/testing", office.testing())]
     pages += [("/update/%d" % run, office.reports[run][1]) for run in range(1, office.finished + 1)]
@@ -281,7 +281,7 @@ def one(seed, folder):
 
 
 def words(folder):
-    """Words that name no report, and files that aren't there: refused, and nothing is made."""
+    """Words that name no report, and missing files: refused, and nothing is made."""
     none = os.path.join(folder, "none.store")
     stored = ["--conf", CONF, "--db", none]
     rows = [(["report", "0", "excuses"], 2), (["report", "1"], 2), (["report", "x", "update"], 2),
@@ -314,12 +314,12 @@ def changed_rows(*statements):
     return change
 
 
-# What is changed of the store of examples/archive.bag, which has two runs, and what a check tells of it then.
+# What is changed of the store of examples/archive.bag, which has two runs, and what a check then finds.
 CHANGES = [
     (changed_text(1, 2, b"From", b"Fr\0m"), "mail bd 2"),
     (changed_text(4, 2, b"Number: 2", b"Number: 3"), "mail clock 2"),
     (changed_text(0, 1, b"Day: 2025-03-01", b"Day: 2025-02-01"), "run 1 excuses"),
-    # (rows that name a message which isn't there are refused when the file is opened)
+    # (rows that name a missing message are refused when the file is opened)
     (changed_rows("DELETE FROM fact WHERE sender = 2", "DELETE FROM mail WHERE sender = 2"), "run 1 mail"),
     (changed_rows("UPDATE run SET excuses = excuses || 'more' WHERE number = 1"), "run 1 excuses"),
     (changed_rows("UPDATE run SET excuses = '' WHERE number = 2"), "run 2 excuses"),
@@ -335,8 +335,8 @@ CHANGES = [
 
 
 def differences(folder):
-    """A store that was changed is told by its first difference, and stays as it is. So is one that wasn't. What is told of
-    a source for an earlier run is what the mail gives, and nothing where that run isn't made of it."""
+    """A changed store is reported by its first difference, and stays as it is. So is one that wasn't changed. The
+    answer on a source for an earlier run is what the mail gives, and nothing if that run isn't made of it."""
     made = os.path.join(folder, "made.store")
     with open(os.path.join(EXAMPLES, "archive.bag"), encoding="utf-8") as bag:
         want("the archive", 0, call("replay", "--conf", CONF, "--db", made, bag=bag.read())[1])
@@ -359,7 +359,7 @@ def differences(folder):
 
 
 def refusals():
-    """A replay tells each refused message on standard error, with its place in the bag, and what names it."""
+    """A replay prints each refused message on standard error, with its place in the bag, and what names it."""
     none = "From: ftp\nNumber: 1\nKind: none\n"
     texts = [none, "hello", "From: ftp\nNumber: 2\nKind: upload\n", none, none + "Note: other\n"]
     strange = "From: \x1b[2J\nNumber: 3\nKind: none\n"

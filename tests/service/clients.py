@@ -115,7 +115,7 @@ def slow(port, front, pause):
 
 
 def lingering(port):
-    """Gets its reply, and goes on sending a byte at a time; the seconds until the service serves the next."""
+    """Gets its reply, and continues to send a byte at a time; the seconds until the service serves the next."""
     with connect(port) as client:
         client.sendall(b"GET /status HTTP/1.1\r\nHost: x\r\n\r\n")
         client.recv(65536)
@@ -137,7 +137,7 @@ def lingering(port):
 
 
 def few_files(files):
-    """What makes a program open so many files at most."""
+    """What makes a program open at most that many files."""
     hard = resource.getrlimit(resource.RLIMIT_NOFILE)[1]
     return lambda: resource.setrlimit(resource.RLIMIT_NOFILE, (files, hard))
 

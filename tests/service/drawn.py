@@ -29,7 +29,7 @@ def versions_of(office):
 
 
 def drawn_wishes(draw, office):
-    """One to three hints, most of which mean something."""
+    """One to three hints, most meaning something."""
     versions = versions_of(office)
     names = [*versions, "nobody"]
 
@@ -48,7 +48,7 @@ def drawn_wishes(draw, office):
 
 
 def none(sender, number, size=0):
-    """A message that says nothing, of so many bytes if that is enough."""
+    """A message that says nothing, of that many bytes if that is enough."""
     text = "From: %s\nNumber: %d\nKind: none\n" % (sender, number)
     return text if size <= len(text) + 7 else text + "Note: " + "x" * (size - len(text) - 7) + "\n"
 
@@ -65,7 +65,7 @@ def long_mail(draw, number):
 
 
 def more_mail(draw, office):
-    """Mail behind what an office keeps: hints and their cancelling, long messages, and some behind a gap."""
+    """Mail after what an office keeps: hints and their cancelling, long messages, and some after a gap."""
     number, texts = unbroken(office.kept, RELEASE) + 1, []
     for _ in range(draw.randint(1, 4)):
         for wish in drawn_wishes(draw, office):

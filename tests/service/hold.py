@@ -3,7 +3,7 @@
 
   hold.py PROGRAM [PORT]
 
-PROGRAM is the built program, `crates/office/out/office`. Beside each kind of client another one asks for the status, which
+PROGRAM is the built program, `crates/office/out/office`. With each kind of client another one asks for the status, which
 has to come within a second. Exit status 0 if it did each time, and if the service closed the connections that took too
 long. It takes about a minute and a half.
 """

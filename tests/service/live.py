@@ -1,15 +1,15 @@
 #!/usr/bin/env python3
-"""What a running office tells beside its reports, beside tests/rows/live_pages.py.
+"""What a running office prints in addition to its reports, compared with tests/rows/live_pages.py.
 
   live.py PROGRAM [FIRST-LAST [PORT]]
 
 PROGRAM is the built program, `crates/office/out/office`. For each seed from FIRST to LAST (1-40) some of the mail of
-tests/rows/reopened_rows.py is left out, and hints, long messages and mail behind gaps are put behind it. Then `office
-hints`, `office report unstable` and `office order` have to tell over a store what the model tells, and the file has to
-stay as it is; the service has to tell the same on its pages, and all mail part by part. Messages are posted as mail of
-a sender that is drawn, and looked at without being kept: each reply, what is kept then and what the pages tell behind
-it have to be as the model has them. Hints are tried over all mail on a day. Parts of a bag at their limit are stated, too.
-Exit status 0 where all was as it is due.
+tests/rows/reopened_rows.py is left out, and hints, long messages and mail after gaps are appended. Then `office
+hints`, `office report unstable` and `office order` have to print over a store what the model says, and the file has to
+stay as it is; the service has to say the same on its pages, and all mail part by part. Messages are posted as mail of
+a sender that is drawn, and looked at without being kept: each reply, what is kept then and what the pages say after it
+have to be as the model has them. Hints are tried over all mail on a day. Parts of a bag at their limit are stated, too.
+Exit status 0 if all was right.
 """
 import os
 import random
@@ -92,7 +92,7 @@ PARTS = [
 
 
 def over_a_store(seed, office, store):
-    """What the commands tell over a store, whose file stays as it is."""
+    """What the commands print over a store, whose file stays as it is."""
     before, stored = tries.bytes_of(store), ["--conf", CONF, "--db", store]
     want("%d: hints" % seed, (live.hints(office), 0), call("hints", *stored))
     want("%d: unstable" % seed, (live.unstable(office), 0), call("report", "unstable", *stored))
@@ -114,7 +114,7 @@ def pages_of(office):
 
 
 def trials_of(draw, office):
-    """Trials over all mail, and what is due of them: if no run is finished, the day is that which is named."""
+    """Trials over all mail, and what is due of them: if no run is finished, the day is the named one."""
     trials = []
     for day in ("1970-01-01", "2031-02-03"):
         wishes = drawn_wishes(draw, office)
@@ -154,7 +154,7 @@ def said_of(asked):
 
 
 def by_service(seed, office, store, later):
-    """What the service tells on its pages, and replies to more mail. What it keeps is in the store behind it."""
+    """What the service answers on its pages, and replies to more mail. The store has what it keeps after it."""
     draw = random.Random(seed)
     asked = pages_of(office) + trials_of(draw, office)
     asked += posts_of(draw, office, later)
@@ -205,7 +205,7 @@ def full_parts(folder):
 
 
 def unknown_sources():
-    """What is told of a source that neither a run nor unstable knows."""
+    """The answer on a source that neither a run nor unstable knows."""
     with open(
         os.path.join(os.path.dirname(CONF), "archive.bag"), encoding="utf-8"
     ) as bag, tempfile.TemporaryDirectory() as folder:
@@ -218,8 +218,8 @@ def unknown_sources():
 
 
 def looked_at(folder):
-    """`office lint` tells the refusals of a bag as a replay does, and by its status whether there is one; files that
-    aren't there are refused, and nothing is made."""
+    """`office lint` prints the refusals of a bag like a replay, and its status says whether there is one; missing files
+    are refused, and nothing is made."""
     good, bad = "From: ftp\nNumber: 1\nKind: none\n", REFUSED[2][0]
     for bag, due in [
         (mail([good]), (0, "")),

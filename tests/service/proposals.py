@@ -1,16 +1,15 @@
 #!/usr/bin/env python3
-"""What `office propose` and `GET /propose` tell, beside tests/rows/groups.py.
+"""What `office propose` and `GET /propose` print, compared with tests/rows/groups.py.
 
   proposals.py PROGRAM [FIRST-LAST [PORT]]
 
 PROGRAM is the built program, `crates/office/out/office`. First come worked cases, with all that is printed of them.
-Then each seed from FIRST to LAST (1-60) draws an archive of three to seven sources of which some wait. Each hint that
-is proposed has to be taken by a trial of all of them, and to move its group there, by the model and by the program;
-mailed under the numbers that were told, and covered by the next order, each has to move its group in that run. The
-counts that are told have to be those of that run. A source that is said to be freed has to move by the hints that are
-told of it. Each source that blocks of lines show to be stuck has to wait for good whatever groups are tried, and a
-block has to be right, line by line. What the search finds is counted beside what all sequences of groups move. Exit
-status 0 where all was as it is due.
+Then each seed from FIRST to LAST (1-60) draws an archive of three to seven sources, some of them waiting. Each proposed
+hint has to be accepted by a trial of all of them, and to move its group there, by the model and by the program. Mailed
+under the printed numbers, and covered by the next order, each has to move its group in that run. The printed counts
+have to be those of that run. A source that is said to be freed has to move by the hints printed for it. Each source
+that blocks of lines show to be stuck has to wait for good whatever groups are tried, and a block has to be right, line
+by line. What the search finds is counted against what all sequences of groups move. Exit status 0 if all was right.
 """
 import os
 import random
@@ -38,7 +37,7 @@ TOLD = re.compile(
 
 
 def knot():
-    """Five sources of which none moves alone: two that need each other, one that needs these, and two more."""
+    """Five sources, none moving alone: two that need each other, one that needs these, and two more."""
     letters = Letters()
     for name, depends in [
         ("ping", "pong"),
@@ -53,7 +52,7 @@ def knot():
 
 
 def blocked_knot():
-    """The knot, of which one is blocked."""
+    """The knot, with one of them blocked."""
     letters = knot()
     letters.add("rt", "hint", "Hint: block app")
     return letters
@@ -78,7 +77,7 @@ LEFT = """stuck left 1-1 uninstallable amd64 left
 unstable app 1-1 of app isn't a candidate: blocked
 """
 PING, LAST = "easy ping/1-1 pong/1-1\n", "easy app/1-1 left/1-1 right/1-1\n"
-# A case, the sources that are named, and what is due: what is printed, the status, and what is told if it is known.
+# A case, the named sources, and what is due: what is printed, the status, and what goes to standard error if known.
 ROWS = [
     (
         knot,
@@ -158,7 +157,7 @@ def office_of(texts):
 
 
 class Archive:
-    """The mail of a seed: a first wave that mostly moves, and a second one of which some waits."""
+    """The mail of a seed: a first wave that mostly moves, and a second one, part of which waits."""
 
     def __init__(self, seed):
         self.draw, self.letters = random.Random(seed), Letters()
@@ -244,7 +243,7 @@ def promise(what, behind, hints, texts):
 
 
 def tell_of(what, behind, hints, late, said):
-    """What is told of the whole: the run, its day, the numbers, and how many sources that wait move."""
+    """What is printed of the whole: the run, its day, the numbers, and how many waiting sources move."""
     waiting = set(behind.left)
     moved = {name for name in waiting if late.sources.get(name) == behind.left[name]}
     found = TOLD.match(said)
@@ -268,7 +267,7 @@ ENDS = {
 
 
 def over_sources(what, behind, terms, bag, can_move):
-    """What is told of each source that waits: the hints that free it, or why no group does."""
+    """What is printed of each source that waits: the hints that free it, or why no group does."""
     for name in behind.left:
         printed, said, status = tries.run("propose", name, *terms, "--conf", CONF, bag=bag)
         lines = printed.splitlines()

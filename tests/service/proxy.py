@@ -25,7 +25,7 @@ port = int(sys.argv[2]) if len(sys.argv) > 2 else 18760
 PAGE = sys.argv[3] if len(sys.argv) > 3 else os.path.join(TOP, "share", "README.md")
 NGINX = shutil.which("nginx", path=os.environ["PATH"] + ":/usr/sbin")
 USERS = ["ftp", "bd", "bts", "rt", "clock", "op"]
-# What stands around the page's text: all files are in the folder, and nothing runs in the background.
+# The lines around the page's text: all files are in the folder, and nothing runs in the background.
 AROUND = """daemon off; pid nginx.pid; error_log error.log; worker_processes 1;%s
 events { worker_connections 64; }
 http {

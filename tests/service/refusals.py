@@ -1,12 +1,12 @@
 #!/usr/bin/env python3
-"""Why a run refuses hints: what `office try` and `POST /try` tell behind the changes, and `office why --hint`.
+"""Why a run refuses hints: what `office try` and `POST /try` print after the changes, and `office why --hint`.
 
   refusals.py PROGRAM [PORT]
 
 PROGRAM is the built program, `crates/office/out/office`. Each worked case is asked over a bag, over a store, and of a
 service, and all that is printed has to be as it is written here. Then its hints are mailed and covered, and asked about
 by their numbers: of the run that covers them the same lines are due. tests/rows/model.py has to agree with each. Exit
-status 0 where all was as it is due.
+status 0 if all was right.
 """
 import os
 import re
@@ -48,7 +48,7 @@ def later_turn():
     return letters
 
 
-# A case, the words of the command, and all lines that are due behind those on changes.
+# A case, the words of the command, and all lines that are due after those on changes.
 ROWS = [
     # Two groups that can't move: of each its own lines.
     (
@@ -59,7 +59,7 @@ ROWS = [
     ),
     # What isn't a candidate has no lines, nor has a group that moves.
     (dead_end, ["easy codec/1-1", "block tool", "unblock codec/1-1"], [], ""),
-    # An item of a removal is judged behind those before it, and not behind those after it.
+    # An item of a removal is judged after those before it, and not after those after it.
     (dead_end, ["remove tool/1-1 libfoo/1-1"], [], ""),
     (
         dead_end,
@@ -69,7 +69,7 @@ ROWS = [
     ),
     # A removal comes before each group, also before one of a hint with a smaller number.
     (dead_end, ["easy album/1-1 libfoo/2-1 viewer/1-1", "remove tool/1-1"], [], ""),
-    # A group is judged behind the groups of the hints before it: `app` stands in testing then, and rests on `lib1`.
+    # A group is judged after the groups of the hints before it: `app` is in testing then, and rests on `lib1`.
     (
         later_turn,
         ["easy app/1-1", "easy lib/2-1"],
@@ -80,7 +80,7 @@ leaves lib1 1-1
 unstable lib1 1-1 of lib isn't current
 """,
     ),
-    # And not behind those after it.
+    # And not after those after it.
     (
         later_turn,
         ["easy lib/2-1", "easy app/1-1"],
@@ -90,7 +90,7 @@ unstable lib1 1-1 of lib isn't current
 unstable lib1 1-1 of lib isn't current
 """,
     ),
-    # What comes in with the group isn't left to wait, and what unstable hasn't is told.
+    # What comes in with the group isn't left to wait, and what unstable hasn't is printed.
     (
         later_turn,
         ["easy app/1-1 beside/1-1"],
@@ -111,7 +111,7 @@ def office_of(texts):
 
 
 def parted(told):
-    """What is told, up to the first line on a hint that is refused, and from there on."""
+    """What is printed up to the first line on a hint that is refused, and from there on."""
     lines = told.splitlines(keepends=True)
     first = next((place for place, line in enumerate(lines) if line.startswith("refused ")), len(lines))
     return "".join(lines[:first]), "".join(lines[first:])

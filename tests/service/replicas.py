@@ -9,7 +9,7 @@ between the offices are cut and mended, office-mirror carries mail over those th
 force and started again over its store. Then all links are whole, and office-mirror goes round until nothing changes.
 All pages of the three offices have to be the same then, and those that a replay of the same mail gives. Some seeds
 leave mail out, and all have to wait for it. Some give two offices different texts under one number: each turn has to
-tell that number. Exit status 0 where all was as it is due.
+print that number. Exit status 0 if all was right.
 """
 import os
 import random
@@ -87,7 +87,7 @@ class Office:
 
 
 def mirror(source, target, folder, *more):
-    """A turn of office-mirror: its status, how much it sent, and what it told of conflicts."""
+    """A turn of office-mirror: its status, how much it sent, and what it printed of conflicts."""
     counts["mirrored"] += 1
     words = [MIRROR, *more, "--state", folder, source.url, target.url]
     ran = subprocess.run(words, capture_output=True, text=True, timeout=120)
@@ -145,7 +145,7 @@ class Draw:
         counts["conflicts"] += 1
 
     def post(self):
-        """The deliveries, to offices that are drawn; one that is down at that time is told again later."""
+        """The deliveries, to offices that are drawn; one that is down at that time gets them again later."""
         left = self.sent + self.draw.choices(self.sent, k=len(self.sent) // 3)
         self.draw.shuffle(left)
         end = self.draw.randrange(len(left))
@@ -186,7 +186,7 @@ class Draw:
                         mirror(self.offices[i], self.offices[j], self.folder)
 
     def last_turns(self):
-        """One more turn sends what stands behind a gap, and the conflict, which is told; with --all it sends all."""
+        """One more turn sends what follows a gap, and the conflict, which is printed; with --all it sends all."""
         for i in OFFICES:
             for j in OFFICES:
                 if i != j:
@@ -197,7 +197,7 @@ class Draw:
         want(self.name("a turn over all"), every, turn[1])
 
     def due_of_a_turn(self, one, other):
-        """The status of such a turn, how much is sent, and what is told."""
+        """The status of such a turn, how much is sent, and what is printed."""
         kept = {sender: (int(count), int(upto or 0)) for sender, count, upto in KEPT.findall(one.text("/kept"))}
         sent = sum(count - upto for count, upto in kept.values())
         path = self.conflict and "/kept/" + self.conflict.replace(" ", "/")
@@ -207,7 +207,7 @@ class Draw:
         return 1, sent + (int(number) <= kept[sender][1]), [self.conflict]
 
     def compare(self):
-        """The three offices beside each other, and beside a plain replay of what was sent."""
+        """The three offices compared with each other, and with a plain replay of what was sent."""
         sources = sorted({p["source"] for text in self.texts for p in paragraphs(text)[:1] if "source" in p})
         told = [pages(office, sources, not self.conflict) for office in self.offices]
         for place in OFFICES[1:]:

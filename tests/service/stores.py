@@ -1,5 +1,5 @@
 #!/usr/bin/env python3
-"""Stores in files: an office that is stopped and started, replays in parts, tables beside it, and files that are refused.
+"""Stores in files: an office that is stopped and started, replays in parts, other tables, and files that are refused.
 
   stores.py PROGRAM [PORT]
 
@@ -101,7 +101,7 @@ def parts(folder, conf):
 
 
 def ended_by_force(folder, conf):
-    """A service that is ended by force after each message goes on where it was."""
+    """A service that is ended by force after each message continues where it was."""
     db = os.path.join(folder, "service")
     whole, _, _ = replay(conf, None, bag_of(MESSAGES))
     for text, line in zip(MESSAGES, whole.splitlines(True)):
@@ -138,7 +138,7 @@ def refused_setups(folder, conf):
 
 
 def beside_others(folder, conf):
-    """Tables of other names don't count: a store goes on, a database without a store gets one, and they stay."""
+    """Tables of other names don't count: a store continues, a database without a store gets one, and they stay."""
     whole, _, _ = replay(conf, None, bag_of(MESSAGES))
     rows = [
         ("a table", "CREATE TABLE other(a INTEGER); INSERT INTO other VALUES (5)", "SELECT a FROM other", [(5,)]),

@@ -9,7 +9,7 @@ CONF = os.path.join(TOP, "examples", "setup.conf")
 
 
 class Service:
-    """A running service, for a `with`, which waits for its end where that is due after so many connections."""
+    """A running service, for a `with`, which waits for its end if that is due after that many connections."""
 
     def __init__(self, words, port):
         self.words, self.port, self.process, self.said = words, port, None, ""
@@ -54,7 +54,7 @@ class Tries:
         return range(int(first), int(last or first) + 1)
 
     def run(self, *words, bag=""):
-        """What a command prints, what it tells on standard error, and its status."""
+        """What a command prints, what it prints on standard error, and its status."""
         ran = subprocess.run([self.program, *words], input=bag.encode(), capture_output=True, timeout=60)
         return ran.stdout.decode(), ran.stderr.decode(), ran.returncode
 
@@ -64,7 +64,7 @@ class Tries:
         return told, status
 
     def serving(self, connections, *more):
-        """A service that ends after so many connections."""
+        """A service that ends after that many connections."""
         words = [
             self.program,
             "serve",
@@ -84,7 +84,7 @@ class Tries:
             return file.read()
 
     def end(self):
-        """Prints what came of it, and ends with a status that says so."""
+        """Prints the result, and ends with a status that says so."""
         for fault in self.faults:
             print("FAIL", fault)
         print("%d tried, %d faults" % (self.tried, len(self.faults)))

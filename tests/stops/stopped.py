@@ -9,7 +9,7 @@ the store failed. A copy of the store, read by Python's sqlite3, has what was an
 that were in hand together, and the reports of its finished runs. Then the whole bag again ends in the two runs' testing and reports.
 
 A store of schema 1 is stopped while it is opened, in the same ways. It is then of schema 1 or 2, with the same mail and
-reports, and the next opening makes it one of schema 2, which goes on by the delays that were kept.
+reports, and the next opening makes it one of schema 2, which continues with the kept delays.
 
 Exit status 0 where all was so.
 """
@@ -128,7 +128,7 @@ def try_stop(folder, at, how):
             else:
                 want(what + ", reply", True, line in (b"refused Store\n", b"refused NoMemory\n"))
     else:
-        # The output is written at the end, and behind it the log is copied into the file.
+        # The output is written at the end, and after it the log is copied into the file.
         want(what + ", status", (True, 137), (not output or output.endswith(TESTING[2]), status))
         held = TEXTS if output else []
     found = kept(folder)

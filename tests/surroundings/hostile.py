@@ -5,7 +5,7 @@
 
 OFFICE is the built program, `crates/office/out/office`. Each case is named in what it prints. A file is flipped at each
 STEPth of some hundred places (1). Each start is refused in words with its status, or gives what the store has; and what was
-answered `held` is there, but for the two losses that docs/MANUAL.md tells: a log that is damaged or removed after an end by
+answered `held` is kept, except the two losses in docs/MANUAL.md: a log that is damaged or removed after an end by
 force, and files that are removed while the program runs. Exit status 0 where all was so.
 """
 import os
@@ -166,7 +166,7 @@ def made(folder, name, texts=MESSAGES):
 
 
 def killed(folder, name, texts=MESSAGES):
-    """A store whose service was ended by force behind its last reply: its newest part is in the log."""
+    """A store whose service was ended by force after its last reply: its newest part is in the log."""
     db = os.path.join(folder, name)
     with Service(db) as service:
         for text in texts:
@@ -175,7 +175,7 @@ def killed(folder, name, texts=MESSAGES):
 
 
 def small_disks(folder):
-    """A disk of a few pages: what is held is there, and the bag goes through where there is room again. The largest disk
+    """A disk of a few pages: what is held is kept, and the bag goes through once there is room again. The largest disk
     may have room for all."""
     for size in (4, 40, 120, 200, 300, 340, 420, 600)[::min(step, 3)]:
         disk = os.path.join(folder, "disk")
@@ -205,8 +205,8 @@ def small_disks(folder):
 
 
 def limits_of_files(folder):
-    """A limit on the size of files ends the program by its signal or is told, and what was held is there. A file may stay
-    within the limit: then all is held."""
+    """A limit on the size of files ends the program by its signal or is reported, and what was held is kept. A file may
+    stay within the limit: then all is held."""
     by_signal = 0
     for kib in (0, 1, 4, 40, 120, 300, 340, 420)[::min(step, 3)]:
         what = "files of at most %d KB" % kib
@@ -237,7 +237,7 @@ def permissions(folder):
     db = made(place, "store")
     before = bytes_of(db)
     os.chmod(folder, 0o755)
-    # A folder of the script's own that nobody may enter hides the program from nobody: a copy stands beside the store.
+    # A folder of the script's own that nobody may enter hides the program from nobody: a copy is next to the store.
     copy = os.path.join(folder, "office")
     shutil.copy(program, copy)
     shutil.copy(CONF, os.path.join(folder, "conf"))
@@ -278,7 +278,7 @@ def flipped_files(folder):
         output, status, told = replay(db, MESSAGES)
         what = "the file flipped at %d" % at
         if status == 0:
-            # The flip lies in what isn't in use, or in a text: the replies tell what is kept.
+            # The flip lies in what isn't in use, or in a text: the replies show what is kept.
             same += output[output.index(b"ready "):].startswith(b"ready 2 finished 2\n")
             want(what + ", it goes on", True, b"testing 2\n" in output)
         else:
@@ -325,7 +325,7 @@ def damaged_logs(folder):
 
 
 def two_programs(folder):
-    """A second program on one file is refused, by another name too, and the first goes on."""
+    """A second program on one file is refused, by another name too, and the first continues."""
     db = os.path.join(folder, "two")
     with Service(db) as service:
         want("the first of two", b"held ftp 1\n", service.post(MESSAGES[0]))
@@ -369,8 +369,8 @@ def locks_of_sqlite(folder):
 
 
 def removed_while_it_runs(folder):
-    """The file or its log is removed while the service runs. It goes on answering; what is lost then is told by the manual, and
-    what is left is a whole store, into which the same mail goes again."""
+    """The file or its log is removed while the service runs. It continues to answer; the manual says what is lost then,
+    and what is left is a whole store that accepts the same mail again."""
     lost = []
     for removed in ("-wal", ""):
         db = os.path.join(folder, "removed" + removed)
@@ -431,7 +431,7 @@ def inputs_and_setups(folder):
 
 
 def few_descriptors(folder):
-    """Too few files for a client: told, and no end with status 0 while clients wait (an accept that fails is no connection)."""
+    """Too few files for a client: reported, and no end with status 0 while clients wait (a failed accept isn't one)."""
     limit = lambda: resource.setrlimit(resource.RLIMIT_NOFILE, (4, 4))
     port = free_port()
     words = [program, "serve", "--conf", CONF, "--port", str(port), "--connections", "50"]
@@ -459,7 +459,7 @@ def few_descriptors(folder):
 
 
 def killed_at_moments(folder):
-    """The service is ended by force at moments: each message that was answered held is there."""
+    """The service is ended by force at moments: each message that was answered held is kept."""
     rounds = max(3, 20 // step)
     for n in range(rounds):
         db = os.path.join(folder, "moment-%d" % n)

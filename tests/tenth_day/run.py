@@ -254,7 +254,7 @@ def transition_ends(archive: Archive) -> None:
 
 
 def is_item(word: str) -> tuple[bool, str]:
-    """What items are sorted by, behind the word of the hint."""
+    """What items are sorted by, after the word of the hint."""
     return "/" in word, word
 
 
@@ -344,7 +344,7 @@ def removed(told: str) -> Sequence[str]:
 
 
 def stopped(archive: Archive) -> None:
-    """The store is whole, and the program answers over it what office-ask told of the service, byte for byte."""
+    """The store is whole, and the program answers over it what office-ask printed of the service, byte for byte."""
     asked = [["why", *SOURCES], ["why", "nosuch"], ["hints"], ["runs"], ["mail"], ["waiting"], ["report", "testing"],
              ["propose"], ["report", "unstable"], ["try", "remove glibc/2.36-9"],
              ["why", "--run", "8", "libfoo", "app-d"]]

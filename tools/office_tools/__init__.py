@@ -1,1 +1,1 @@
-"""The tools that stand around the program `office`: each command is a module with `main(words) -> int`."""
+"""The tools around the program `office`: each command is a module with `main(words) -> int`."""

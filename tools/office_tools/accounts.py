@@ -1,4 +1,4 @@
-"""Users of a proxy in front of an office, whose passwords stand in ~/.netrc."""
+"""Users of a proxy before an office, with their passwords in ~/.netrc."""
 import netrc
 from typing import Optional
 

@@ -1,4 +1,4 @@
-"""Bags: lists of messages, each behind a line `mail N`, where N is how many bytes it has."""
+"""Bags: lists of messages, each after a line `mail N`, where N is its length in bytes."""
 import enum
 import re
 from typing import Iterator
@@ -19,7 +19,7 @@ class BagRefusal(enum.Enum):
 
 
 class BagFault(Fault):
-    """A bag that the office would refuse, and at which byte, counted from 0."""
+    """A bag that the office would refuse, and the byte, counted from 0."""
 
     def __init__(self, refusal: BagRefusal, place: int) -> None:
         super().__init__(f"it is no whole bag: {refusal.value} at byte {place}")
@@ -60,5 +60,5 @@ def header_fault(data: bytes, place: int) -> BagFault:
 
 
 def framed(text: bytes) -> bytes:
-    """A message as it stands in a bag."""
+    """A message as it is in a bag."""
     return b"mail %d\n%s" % (len(text), text)

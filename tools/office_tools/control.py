@@ -25,8 +25,8 @@ LONGEST_CHANGES = 16_000_000  # bytes of a file .changes that is read
 def sections(path: str, names: Sequence[str]) -> Iterator[Mapping[str, str]]:
     """The paragraphs of a file Packages or Sources, each with those of these fields that it has.
 
-    The names of fields are compared without regard to the case of letters, and a value stands in one line. The file may
-    be compressed; `-` is standard input, which isn't.
+    The names of fields are compared without regard to the case of letters, and a value is on one line. The file may be
+    compressed; `-` is standard input, which isn't.
     """
     try:
         for section in opened(path):

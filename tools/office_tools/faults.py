@@ -11,9 +11,9 @@ PIPE_BROKEN = 141  # what a shell says of a command that SIGPIPE ended
 
 
 class Fault(Exception):
-    """A cause why a command can't go on.
+    """A cause that ends a command.
 
-    `run` tells it as `office-NAME: cause`, and the command ends with `status`.
+    `run` prints it as `office-NAME: cause`, and the command ends with `status`.
     """
 
     def __init__(self, cause: str, status: int = 1) -> None:
@@ -23,15 +23,15 @@ class Fault(Exception):
 
 
 def tell(name: str, what: str) -> None:
-    """Tells something on standard error, as `office-NAME: what`; `name` is the command's whole name."""
+    """Prints something on standard error, as `office-NAME: what`; `name` is the command's whole name."""
     print(f"{name}: {what}", file=sys.stderr)
 
 
 def run(name: str, main: Main) -> NoReturn:
-    """Ends the process with the status of `main`, which gets the words behind the command's name.
+    """Ends the process with the status of `main`, which gets the words after the command's name.
 
-    A `Fault` is told, and its status is the command's. An interrupt gives status 130. If nobody reads standard output
-    any more, the status is 141, and nothing is told. Any other fault of the system is told, and gives status 1.
+    Prints a `Fault`, and ends with its status. An interrupt gives status 130. If nobody reads standard output any more,
+    it prints nothing, and the status is 141. Any other fault of the system is printed, and gives status 1.
     """
     try:
         status = main(sys.argv[1:])
@@ -53,7 +53,7 @@ def run(name: str, main: Main) -> NoReturn:
 
 
 def end_quietly(kind: type[BaseException], fault: BaseException, trace: Optional[TracebackType]) -> None:
-    """Prints a sentence in the place of a traceback if an interrupt comes before `run`, while modules are imported."""
+    """Prints a sentence in place of a traceback if an interrupt comes before `run`, while modules are imported."""
     if issubclass(kind, KeyboardInterrupt):
         tell(os.path.basename(sys.argv[0]), "interrupted")
     else:

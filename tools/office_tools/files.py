@@ -19,7 +19,7 @@ def read_bytes(path: str) -> bytes:
 
 
 def write_whole(path: str, data: bytes) -> None:
-    """Writes a file so that it is there whole or as it was: to a temporary file beside it, which is then renamed."""
+    """Writes a file whole, or leaves it as it was: to a temporary file next to it, which is then renamed."""
     folder = os.path.dirname(path) or "."
     try:
         os.makedirs(folder, exist_ok=True)
@@ -40,7 +40,7 @@ def write_whole(path: str, data: bytes) -> None:
 
 
 def umask() -> int:
-    """The process's mask of modes, which the system tells only when it is set."""
+    """The process's mask of modes, which the system returns only when it is set."""
     mask = os.umask(0o077)
     os.umask(mask)
     return mask

@@ -23,7 +23,7 @@ class Nothing:
     """No number at all."""
 
     def has(self, number: int) -> bool:
-        """No number is there."""
+        """No number is present."""
         return False
 
     def next_missing(self, first: int) -> int:

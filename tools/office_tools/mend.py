@@ -1,4 +1,4 @@
-"""office-mend: puts another text in the place of a message of a bag, or takes a slip of a feed back."""
+"""office-mend: puts another text in place of a message of a bag, or takes a slip of a feed back."""
 import argparse
 import sys
 from typing import Iterator, Sequence
@@ -16,7 +16,7 @@ USAGE = """office-mend SENDER NUMBER FILE < BAG > BAG
 
 
 def mended(bag: bytes, label: Label, text: bytes) -> Iterator[bytes]:
-    """The messages of a bag, with this text in the place of that message."""
+    """The messages of a bag, with this text in place of that message."""
     found = False
     try:
         for message in bags.messages_in(bag):
@@ -33,9 +33,9 @@ def parser() -> argparse.ArgumentParser:
     """The command's words."""
     words = argparse.ArgumentParser(
         prog="office-mend", usage=USAGE,
-        description="Prints the bag on standard input with another text in the place of a message. With --undo it "
+        description="Prints the bag on standard input with another text in place of a message. With --undo it "
                     "makes an office without the drops and removal hints of a feed, prints how its runs and its "
-                    "testing differ, and puts its store in the place of the old one.",
+                    "testing differ, and puts its store in place of the old one.",
         epilog="Status 0: the bag was printed, or the stores were exchanged. 1: there is no such message, or nothing "
                "was changed since nobody said so. 2: the words are wrong. 3: it is no whole bag, or the text is "
                "another message's, or the office without it would not finish all runs. 4: the program office failed, "

@@ -1,8 +1,8 @@
 """Messages as the office has them: their paragraphs, kinds and fields, and texts of each kind.
 
-The reader of paragraphs here is our own, although Debian has such readers: a tool that tells where a message is wrong
-needs the line of each field and value, and the office's own grammar of lines (docs/RULES.md), and neither python3-apt
-nor python3-debian tells lines. Whether a message is good is the office's to say: ask it.
+The reader of paragraphs here is our own, although Debian has such readers. A tool that reports where a message is wrong
+needs the line of each field and value, and the office's own grammar of lines (docs/RULES.md). Neither python3-apt nor
+python3-debian gives lines. Only the office says whether a message is good: ask it.
 """
 import enum
 import re
@@ -111,7 +111,7 @@ FIELDS_OF: Mapping[Kind, Sequence[FieldRule]] = {
 class Field:
     """A field of a paragraph: its name as it is written, its line, its value, and the line on which the value begins.
 
-    Lines count from 1. The value is without white at its ends; a line end within it is there.
+    Lines count from 1. The value is without white at its ends; a line end within it stays.
     """
 
     name: str
@@ -137,7 +137,7 @@ class Paragraph:
         return next((field for field in self.fields if field.name.lower() == asked), None)
 
     def value(self, name: str) -> Optional[str]:
-        """The value of a field, or None where the paragraph hasn't the field."""
+        """The value of a field, or None if the paragraph hasn't the field."""
         found = self.field(name)
         return None if found is None else found.value
 
@@ -153,7 +153,7 @@ class ParagraphCause(enum.Enum):
 
 
 class ParagraphFault(Fault):
-    """A text that isn't control data: the cause, the line, counted from 1, and what stands there."""
+    """A text that isn't control data: the cause, the line, counted from 1, and its text."""
 
     def __init__(self, reason: ParagraphCause, line: int, text: str) -> None:
         super().__init__(f"line {line}: {reason.value}: {text[:60]!r}")
@@ -221,7 +221,7 @@ def name_and_value(number: int, line: str, seen: set[str]) -> tuple[str, str]:
 
 
 def field_of(name: str, line: int, parts: Sequence[str]) -> Field:
-    """A field of this name whose value has these lines, the first of which stands behind the name."""
+    """A field of this name whose value has these lines, the first after the name."""
     if len(parts) == 1:
         return Field(name, line, parts[0].strip(WHITE), line)
     raw = "\n".join(parts)
@@ -238,7 +238,7 @@ class Label:
 
 
 def label_of(text: bytes) -> Optional[Label]:
-    """The sender and the number that a message's first paragraph states, or None where it states no such pair."""
+    """The sender and the number that a message's first paragraph states, or None if it doesn't state both."""
     try:
         first = next(paragraphs(text), None)
     except ParagraphFault:
@@ -261,7 +261,7 @@ def sender_and_number(text: bytes) -> Optional[tuple[str, int]]:
 
 
 def kind_of(first: Paragraph) -> Optional[Kind]:
-    """The kind that a message's first paragraph states, or None where it states none of the kinds."""
+    """The kind that a message's first paragraph states, or None if it states none of the kinds."""
     word = first.value("Kind")
     return next((kind for kind in Kind if kind.value == word), None)
 
@@ -306,7 +306,7 @@ def build(label: Label, binaries: Sequence[bytes]) -> bytes:
 
 @dataclass(frozen=True)
 class Range:
-    """The versions of a source that a bug affects: from `found` on, and below `fixed`, where these are known."""
+    """The versions of a source that a bug affects: from `found` on, and below `fixed`, if these are known."""
 
     found: Optional[str] = None
     fixed: Optional[str] = None
@@ -323,7 +323,7 @@ def hint(label: Label, wish: str) -> bytes:
 
 
 def unhint(label: Label, cancels: int) -> bytes:
-    """The hint of this number no longer stands."""
+    """The hint of this number isn't in force any more."""
     return message(label, Kind.UNHINT, (str(cancels),))
 
 

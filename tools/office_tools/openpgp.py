@@ -73,7 +73,7 @@ def check_armour(data: bytes) -> None:
 
 
 def dearmoured(part: bytes) -> bytes:
-    """The bytes between the lines of an armour: behind its fields and an empty line, without its checksum."""
+    """The bytes between the lines of an armour: after its fields and an empty line, without its checksum."""
     lines = [line.strip() for line in part.strip(b"\r\n \t").split(b"\n")]
     if any(b":" in line for line in lines):
         lines = lines[lines.index(b"") + 1 if b"" in lines else len(lines):]
@@ -103,7 +103,7 @@ def check(data: bytes, depth: int) -> None:
 
 
 def packets(data: bytes) -> Iterator[Packet]:
-    """The packets of an input, but for those that say nothing."""
+    """The packets of an input, except those that say nothing."""
     while data:
         packet = first(data)
         data = packet.rest
@@ -153,7 +153,7 @@ def new_body(data: bytes) -> tuple[bytes, bytes]:
 
 
 def decompressed(packet: Packet) -> bytes:
-    """What is compressed in a packet; bytes behind the end of what is compressed are bad."""
+    """What is compressed in a packet; bytes after the end of what is compressed are bad."""
     kind, data = packet.body[:1], packet.body[1:]
     if kind == b"\0":
         return data

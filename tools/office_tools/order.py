@@ -51,7 +51,7 @@ def main(words: Sequence[str]) -> int:
 
 
 def check_gaps(kept: Mapping[str, Kept], allowed: Sequence[str]) -> None:
-    """Refuses an order over a gap: mail of a sender that is kept behind mail that is missing."""
+    """Refuses an order over a gap: kept mail of a sender that follows missing mail."""
     unknown = [sender for sender in allowed if sender not in kept]
     if unknown:
         raise Fault(f"--gap {unknown[0]}: the office has no such sender", 2)

@@ -16,7 +16,7 @@ def name() -> str:
 
 
 def run(words: Sequence[str], given: bytes = b"") -> subprocess.CompletedProcess[bytes]:
-    """Runs the program with these words; a `Fault` says that it isn't there or has no end."""
+    """Runs the program with these words; a `Fault` says that it is missing or has no end."""
     try:
         return subprocess.run([name(), *words], input=given, capture_output=True, timeout=SECONDS, check=False)
     except (OSError, subprocess.TimeoutExpired) as fault:
@@ -67,7 +67,7 @@ def hints(setup: str, store: str) -> reports.Hints:
 def proposed(setup: str, bag: bytes, day: str) -> tuple[Sequence[str], Sequence[str]]:
     """The hints for groups that an office with this mail proposes for a run of that day over all of it.
 
-    Beside them stands what is told of groups that it leaves out.
+    With them come the notes on groups that it leaves out.
     """
     ran = run(["propose", "--all", "--day", day, "--conf", setup], bag)
     told = ran.stderr.decode(errors="backslashreplace").splitlines()

@@ -1,8 +1,8 @@
 """Relations between packages: the values of Depends, Pre-Depends, Provides and Source, as the office takes them.
 
 apt and python3-debian read relations too, but they take more than the office does: architecture lists, build profiles
-and names of any form, and apt drops what isn't for its own architecture without a word. What the office would refuse
-has to be seen before it is sent, so the office's own forms stand here (docs/RULES.md).
+and names of any form. apt also drops without a word what isn't for its own architecture. What the office would refuse
+has to be seen before it is sent, so the office's own forms are here (docs/RULES.md).
 """
 import functools
 import re
@@ -27,7 +27,7 @@ class Bad(Exception):
 
 @dataclass(frozen=True)
 class Alternative:
-    """A name, and a relation to a version or neither of both. The qualifier behind the name is left out."""
+    """A name, and a relation to a version or neither of both. The qualifier after the name is left out."""
 
     name: str
     relation: Optional[str]
@@ -109,7 +109,7 @@ def provisions(value: str) -> Sequence[Alternative]:
 
 
 def source_of(value: Optional[str], package: str, version: str) -> tuple[str, str]:
-    """The name and the version of a binary package's source, by its field Source or where it has none."""
+    """The name and the version of a binary package's source, by its field Source or without one."""
     found = SOURCE.fullmatch(package if value is None else value)
     if not found:
         raise Bad(f"bad Source {(value or '')[:60]!r}")

@@ -99,8 +99,8 @@ class Offender:
 class Change:
     """A line of an update.
 
-    `hint` is the number of the hint of a removal or a group. `items` are the sources that the line names: none where
-    a group is refused since it would leave the `offender` uninstallable.
+    `hint` is the number of the hint of a removal or a group. `items` are the sources that the line names: none if a
+    group is refused since it would leave the `offender` uninstallable.
     """
 
     line: str
@@ -141,9 +141,9 @@ class Testing:
 
 @dataclass(frozen=True)
 class Unstable:
-    """What the next run, behind this many, sees of unstable if its order covers all mail that is kept without a gap.
+    """What the next run, after this many, sees of unstable if its order covers all mail that is kept without a gap.
 
-    A row may be of a source that isn't there.
+    A row may be of a source that is missing.
     """
 
     finished: int
@@ -152,7 +152,7 @@ class Unstable:
 
 
 class ItemStanding(enum.Enum):
-    """How it stands with an item of a hint in force."""
+    """The state of an item of a hint in force."""
 
     IN_FORCE = "in force"
     MOVED = "moved"
@@ -165,7 +165,7 @@ class HintItem:
     """An item of a hint in force.
 
     `words` is the hint without its items, as `age-days 3`. `is_covered` says whether a finished run covers the hint.
-    `other` is unstable's version where the item names another one.
+    `other` is unstable's version if the item names another one.
     """
 
     number: int
@@ -178,7 +178,7 @@ class HintItem:
 
 @dataclass(frozen=True)
 class Hints:
-    """The items of all hints in force behind this many runs, by the hints' numbers, and who sent them, if any are."""
+    """The items of all hints in force after this many runs, by the hints' numbers, and who sent them, if any are."""
 
     finished: int
     sender: Optional[str]
@@ -381,7 +381,7 @@ def read_row(lines: Lines) -> Row:
 
 
 def read_hints(text: str, name: str = "hints") -> Hints:
-    """The hints in force, as `office hints` and `GET /hints` tell them."""
+    """The hints in force, as `office hints` and `GET /hints` print them."""
     lines = Lines(text, name)
     finished = int(lines.need(r"hints (\d+)", "the line `hints F`")[1])
     sender: Optional[str] = None
@@ -394,7 +394,7 @@ def read_hints(text: str, name: str = "hints") -> Hints:
 
 
 def read_runs(text: str, name: str = "runs") -> Sequence[Run]:
-    """The finished runs, as `office runs` and `GET /runs` tell them."""
+    """The finished runs, as `office runs` and `GET /runs` print them."""
     lines = Lines(text, name)
     runs = []
     while lines.is_left():

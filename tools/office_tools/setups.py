@@ -27,7 +27,7 @@ class Setup:
 
 
 def parse(text: bytes) -> Setup:
-    """The setup that a text states. What the office alone would refuse, such as a bad name, is taken as it stands."""
+    """The setup that a text states. What only the office would refuse, such as a bad name, is taken as it is."""
     first, *others = list(paragraphs(text)) or [Paragraph(1, ())]
     senders: dict[str, Role] = {}
     for paragraph in others:

@@ -52,7 +52,7 @@ def opened(signed: bytes, keys: Path) -> Opened:
     if text is None or not senders:
         raise Fault("no key fits", UNSIGNED)
     if not is_one_message(signed):
-        raise Fault("it isn't one signed message alone: send each by itself", REFUSED)
+        raise Fault("it isn't one signed message alone: send each on its own", REFUSED)
     return Opened(senders, text)
 
 
@@ -112,7 +112,7 @@ def parser() -> argparse.ArgumentParser:
                        help="the office's name, which the message states in its field Office")
     words.add_argument("url", metavar="URL", help="the service")
     words.add_argument("--keep", metavar="FOLDER", type=Path,
-                       help="the folder that keeps what was signed (signed, beside KEYS)")
+                       help="the folder that keeps what was signed (signed, next to KEYS)")
     return words
 
 

@@ -39,7 +39,7 @@ def holds(relation: str, version: str, bound: str) -> bool:
 def is_version(text: str) -> bool:
     """Whether the office takes a text for a version.
 
-    apt and dpkg are laxer or stricter: the office takes at most 256 bytes and an epoch of at most 2147483647, an
+    apt and dpkg are laxer or stricter. The office takes at most 256 bytes and an epoch of at most 2147483647, an
     upstream version that begins with any of its characters, and no empty revision.
     """
     found = FORM.fullmatch(text)

@@ -122,7 +122,7 @@ UNSTABLE = "unstable {finished}\n"
 
 
 def routes(finished: int) -> Mapping[str, str]:
-    """What the office answers once so many of the runs are finished."""
+    """What the office answers once that many of the runs are finished."""
     found = {"/runs": "".join(RUNS[run] for run in range(1, finished + 1)),
              "/testing": TESTING.get(finished, "testing 0\n"), "/hints": HINTS.format(finished=finished),
              "/propose": "", "/propose/stuck": BLOCK,
@@ -160,7 +160,7 @@ class FakeOffice:
                 self.wfile.write(body)
 
             def log_message(self, *_: object) -> None:
-                """Nothing is told."""
+                """Nothing is printed."""
 
         self.server = http.server.ThreadingHTTPServer(("127.0.0.1", 0), Handler)
         self.url = f"http://127.0.0.1:{self.server.server_address[1]}"

@@ -67,9 +67,9 @@ class Adopt(unittest.TestCase):
         told = self.adopt("--dry-run")
         self.assertEqual(told.returncode, 0, told.stderr)
         self.assertEqual(told.stderr.splitlines(), [
-            "office-adopt: three amd64 1-1: told under three 1-2: it was built of 1-1",
-            "office-adopt: one amd64 1: told without nosuch (>= 2) | neither: nothing in testing meets it",
-            "office-adopt: five arm64 1: told without four: nothing in testing meets it"])
+            "office-adopt: three amd64 1-1: sent under three 1-2: it was built of 1-1",
+            "office-adopt: one amd64 1: sent without nosuch (>= 2) | neither: nothing in testing meets it",
+            "office-adopt: five arm64 1: sent without four: nothing in testing meets it"])
         self.assertEqual(told.stdout, "sources 6, packages 7: under another version 1, clauses taken out 2\n")
         self.assertFalse(os.path.exists(self.path("week")))
 
@@ -120,7 +120,7 @@ class Adopt(unittest.TestCase):
 
     @needs_office
     def test_ended_by_force(self):
-        """Each file is there whole or not at all, and the next one makes both."""
+        """Each file is written whole or not at all, and the next one makes both."""
         with open(self.path("office"), "w", encoding="utf-8") as file:
             file.write('#!/bin/sh\nkill -9 "$PPID"\n')
         os.chmod(self.path("office"), 0o755)

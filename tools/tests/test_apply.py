@@ -141,7 +141,7 @@ class Differences(unittest.TestCase):
         self.assertEqual(difference(want, have).excess.rows, {old, gone})
 
     def test_packages_of_all_in_the_index_of_a_lagging_architecture(self):
-        """Where the older version is in that index alone, the newer one isn't missed there."""
+        """If the older version is only in that index, nobody misses the newer one there."""
         want, have, old, new, gone = self.lagging("arm64")
         have = Contents(have.sources, have.rows - {new}, have.built_of)
         elsewhere = new._replace(place="amd64")
@@ -299,7 +299,7 @@ class HeldBack(unittest.TestCase):
         self.assertEqual(self.told, ["held back: lone 2: there is no source lone 2 to copy"])
 
     def test_what_needs_it_stays(self):
-        """app 2 needs lib 2, which isn't there; app 1 works with each."""
+        """app 2 needs lib 2, which is missing; app 1 works with each."""
         judge = Rules(app_2=[("lib", ["2"])])
         found = self.applied(("app 2 app", "lib 3 lib", "mta 2 mta"),
                              ("app 2 app", "lib 2 lib", "lone 1 lone", "mta 2 mta"), judge=judge)
@@ -307,7 +307,7 @@ class HeldBack(unittest.TestCase):
         self.assertIn("held back: app 2: app couldn't be installed on amd64: its needs", self.told)
 
     def test_what_it_needs_stays(self):
-        """app 1 needs lib 1, and app 2 isn't there: lib 1 may not leave."""
+        """app 1 needs lib 1, and app 2 is missing: lib 1 may not leave."""
         judge = Rules(app_1=[("lib", ["1"])], app_2=[("lib", ["2"])])
         found = self.applied(("lib 2 lib", "mta 2 mta"), ("app 2 app", "lib 2 lib", "lone 1 lone", "mta 2 mta"),
                              judge=judge)
@@ -418,7 +418,7 @@ class Brakes(unittest.TestCase):
         self.assertEqual(self.refusal(manager(), told, back=True), 0)
 
     def test_a_mark_is_no_way_back(self):
-        """A rebuilt source has the archive's own version, which is below the told one."""
+        """A rebuilt source has the archive's own version, which is below the sent one."""
         manager = Manager(suite("lone 2 lone", "mta 1 mta"), suite())
         self.assertEqual(self.refusal(manager, ("lone 2+b1 lone", "mta 1 mta")), 1)
 
@@ -477,7 +477,7 @@ class Command(unittest.TestCase):
         self.assertEqual(os.stat(path).st_ino, before.st_ino)
 
     def test_heidi_over_indexes(self):
-        """dak's file sets the suite whole: what is left alone of it stands there too."""
+        """dak's file sets the suite whole: it also has what is left alone."""
         path = os.path.join(self.folder, "HeidiResult")
         sources = ("--sources", self.file("Sources", SOURCES + "Package: idle\nVersion: 1\n"))
         packages = self.file("Packages", PACKAGES)
@@ -500,7 +500,7 @@ class Command(unittest.TestCase):
                          (1, ["missing: binary all guide-doc 5-1", "too much: binary all guide-doc 5-2"]))
 
     def test_select(self):
-        """Each row's paragraph as it stands in the first file that has it."""
+        """Each row's paragraph as it is in the first file that has it."""
         told = self.apply("select", "amd64", self.file("Packages", PACKAGES + "\nPackage: other\nVersion: 1\n"
                                                                               "Architecture: amd64\n"))
         self.assertEqual((told.returncode, told.stdout), (0, PACKAGES + "\n"))

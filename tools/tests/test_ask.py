@@ -8,8 +8,8 @@ from office_tools import bags
 from office_tools.ask import command
 from office_tools.service import Service
 
-# Words of the program, each of which is put to both. In the store's mail, that of examples/archive.bag and LATER,
-# two runs are finished; a third one is ordered, and waits.
+# Words of the program, each put to both. In the store's mail, that of examples/archive.bag and LATER, two runs are
+# finished; a third one is ordered, and waits.
 ASKED = [
     ["why", "libgreet"], ["why", "greeter", "libgreet"], ["why", "nosuch"], ["why", "greeter", "nosuch", "libgreet"],
     ["why", "Not/A=Name"], ["why", ""], ["why", "--run", "1", "libgreet"], ["why", "--run", "2", "greeter"],
@@ -122,7 +122,7 @@ class Sentences(unittest.TestCase):
 
 
 class Words(unittest.TestCase):
-    """Words that are wrong, and an office that isn't there."""
+    """Words that are wrong, and a missing office."""
 
     def test_words(self):
         for words in [[], ["how"], ["why"], ["try"], ["report"], ["hints", "rt"], ["order"], ["runs", "--all"],

@@ -39,7 +39,7 @@ class Read(unittest.TestCase):
                 ([entry("editor", "fail", "chat/2-1 libchat/3")],
                  [Result(trigger, "editor", "amd64", "1-1", Outcome.FAIL, NOON)
                   for trigger in (chat, Trigger("libchat", "3"))]),
-                # Testing as it is, by britney's own trigger and without one; a package of unstable by itself.
+                # Testing as it is, by britney's own trigger and without one; a package of unstable on its own.
                 ([entry("editor", "fail", REFERENCE), entry("editor", "fail")],
                  [Result(None, "editor", "amd64", "1-1", Outcome.FAIL, NOON)] * 2),
                 ([entry("chat", "neutral", "by hand", suite="unstable", version="2-1")],
@@ -119,7 +119,7 @@ class Failed(unittest.TestCase):
             self.assertTrue(self.service.post("/mail", text).is_good, text)
 
     def told(self, *entries, words=()):
-        """What the command prints and tells for these results, and its status."""
+        """What the command prints on both outputs for these results, and its status."""
         with open(self.path, "w", encoding="utf-8") as file:
             json.dump(list(entries), file)
         ran = tool("office-tests", "--url", self.url, *words, self.path)

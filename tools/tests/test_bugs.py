@@ -75,7 +75,7 @@ class States(unittest.TestCase):
                 # Nothing newer is in unstable: the next version is meant, whatever it will be.
                 (("1-1", "1-1", True, False), (serious, Range(found="1-1A~"))),
                 (("1-1", "1-1", False, True), (serious, Range(fixed="1-1A~"))),
-                # A rebuild that the office was told as a version of its own is the same version in the archive.
+                # A rebuild that the office got as a version of its own is the same version in the archive.
                 (("1-1+b1", "1-1", True, False), (serious, Range(found="1-1+b1A~")))]:
             self.assertEqual(self.state(*given), due, given)
 
@@ -115,7 +115,7 @@ class Bugs(unittest.TestCase):
             self.assertTrue(self.service.post("/mail", text).is_good, text)
 
     def bugs(self, unstable, testing, *words):
-        """What the command prints and tells for these lists, and its status."""
+        """What the command prints on both outputs for these lists, and its status."""
         paths = []
         for name, text in (("unstable", unstable), ("testing", testing)):
             paths.append(os.path.join(self.folder, name))
@@ -150,7 +150,7 @@ class Bugs(unittest.TestCase):
         self.assertEqual(self.run_of(day), {"chat": [], "editor": ["new bug 100006001"]})
 
     def test_twice(self):
-        """A second call with the same lists sends nothing, nor does one behind a newer upload with the same bugs."""
+        """A second call with the same lists sends nothing, nor does one after a newer upload with the same bugs."""
         given = "src:chat 1,2\neditor 3\n", "chat 2\nlibchat0 4\n"
         told, words, status = self.bugs(*given)
         self.assertEqual((told[-1], words, status), ("bugs 4, new 4, changed 0, closed 0", "", 0))

@@ -49,7 +49,7 @@ class Folder(unittest.TestCase):
 
 
 class OutgoingMail(Folder):
-    """What a feed that was ended had written down is sent as it stands, if the office doesn't keep it."""
+    """What a feed that was ended had written down is sent as it is, if the office doesn't keep it."""
 
     def left(self, **kept):
         texts = [f"From: {sender}\nNumber: {number}\nKind: none\n".encode()
@@ -85,7 +85,7 @@ class Feeding(Folder):
         self.service = Service(self.office.url)
 
     def feed(self, packages, day, *more, status=0):
-        """What the command prints and tells."""
+        """What the command prints on both outputs."""
         ended = tool("office-feed", "--url", self.office.url, "--cache", self.path("cache"), "--day", day, *more,
                      self.file("Packages", packages))
         self.assertEqual(ended.returncode, status, ended.stderr)
@@ -116,10 +116,10 @@ class Feeds(Feeding):
                          "uploads 1, drops 2, builds 1, hints 1, unhints 0, orders 1")
         self.assertEqual((self.hint(1).value("Hint"), self.hint(1).value("Gone")), ("remove app/1", "app 1"))
         self.assertEqual(self.service.good_text("/update/3"), "update 3 2025-03-09\nremove 1 accept app 1\n")
-        # The hint is done; and the packages that were dropped are back, and are told again.
+        # The hint is done; and the packages that were dropped are back, and are sent again.
         printed, told = self.feed(without + FIRST, "2025-03-10", status=1)
         self.assertEqual(printed[0], "uploads 0, drops 0, builds 1, hints 0, unhints 1, orders 1")
-        self.assertEqual(told[-1], "office-feed: app arm64 1: it is back below 1, which was dropped: told as 1+back1")
+        self.assertEqual(told[-1], "office-feed: app arm64 1: it is back below 1, which was dropped: sent as 1+back1")
         self.assertEqual(self.hint(2).value("Cancels"), "1")
         self.assertEqual(self.service.good_text("/update/4"), "update 4 2025-03-10\naccept app 1\n")
         self.assertIn("binary amd64 app 1+back1 app", self.service.good_text("/testing"))
@@ -156,14 +156,14 @@ class Feeds(Feeding):
     def test_refusals(self):
         self.feed(FIRST, "2025-03-03", "--no-order")
         only = FIRST.replace("arm64", "amd64")
-        self.assertIn("the indexes have no package of arm64, and the office was told 2 of arm64: all would be dropped",
+        self.assertIn("the indexes have no package of arm64, and the office was sent 2 of arm64: all would be dropped",
                       self.feed(only, "2025-03-03", status=3)[1][-1])
         self.assertIn("the office has another setup than the archive",
                       self.feed(FIRST + package("odd", "1", architecture="riscv64"), "2025-03-03", status=3)[1][-1])
         self.service.post("/mail", b"From: rt\nNumber: 2\nKind: none\n")
         self.assertEqual(self.feed(FIRST, "2025-03-03", status=3)[1],
-                         ["office-feed: rt 1 isn't kept, and rt 2 is: send what lacks first, or a message of the kind "
-                          "none in its place"])
+                         ["office-feed: rt 1 isn't kept, and rt 2 is: send what is missing first, or a message of the "
+                          "kind none in its place"])
         number = os.open(self.path("cache"), os.O_RDONLY)
         fcntl.flock(number, fcntl.LOCK_EX)
         self.assertIn("another office-feed works for this office", self.feed(FIRST, "2025-03-03", status=3)[1][-1])
@@ -200,7 +200,7 @@ class Proposing(Feeding):
                          "uploads 0, drops 0, builds 0, hints 0, unhints 0, orders 0")
 
     def test_no_order(self):
-        """Without orders the hints stand until somebody orders a run, and are mailed once."""
+        """Without orders the hints stay until somebody orders a run, and are mailed once."""
         self.knot()
         self.assertEqual(self.feed(KNOT, "2025-03-09", "--propose", "--no-order")[0][2], "proposed 1, orders 0")
         self.assertEqual(self.feed(KNOT, "2025-03-09", "--propose", "--no-order")[0][2], "proposed 0, orders 0")
@@ -229,7 +229,7 @@ class Proposing(Feeding):
         self.assertEqual(self.hint(3).value("Cancels"), "1")
 
     def test_no_run(self):
-        """Behind no run there is nothing to propose."""
+        """After no run there is nothing to propose."""
         self.assertEqual(self.feed(KNOT, "2025-03-09", "--propose", "--no-order")[0][2], "proposed 0, orders 0")
 
 
@@ -257,7 +257,7 @@ Role: runs
 
 @needs_office
 class Rebuilding(Folder):
-    """A rebuild is told under a version of its own: by the spare senders, and then under made-up versions."""
+    """A rebuild is sent under a version of its own: by the spare senders, and then under made-up versions."""
 
     def feed(self, packages, *more, rebuilds=("--rebuilds",), status=0):
         ended = tool("office-feed", "--url", self.service.url, "--cache", self.path("cache"), "--day", "2025-03-09",
@@ -269,7 +269,7 @@ class Rebuilding(Folder):
         package("lib1", "1", source="lib", architecture="arm64")
 
     def test_told_before_it_was_asked_for(self):
-        """A rebuild that didn't move is told so that it does, all of it by the spare sender; and it is told once."""
+        """A rebuild that didn't move is sent so that it does, all of it by the spare sender; and it is sent once."""
         self.file("changes/lib.changes", CHANGES)
         with Serving(self.file("setup.conf", SPARE_SETUP)) as office:
             self.service = Service(office.url)
@@ -296,14 +296,14 @@ class Rebuilding(Folder):
                 .replace("lib\nVersion: 1+b1", "lib (1)\nVersion: 1+b1")
             self.assertEqual(self.feed(once, status=1), (
                 "uploads 1, drops 0, builds 2, hints 0, unhints 0, orders 1",
-                ["office-feed: lib: rebuilt: told as 1+b1", "office-feed: lib: its last spare sender is used: its next "
+                ["office-feed: lib: rebuilt: sent as 1+b1", "office-feed: lib: its last spare sender is used: its next "
                  "rebuild takes made-up versions of packages"]))
             self.assertEqual(self.service.good_text("/update/2"), "update 2 2025-03-09\naccept lib 1+b1\n")
             self.assertEqual(self.service.good_text("/testing").splitlines()[2:], [
                 "binary amd64 lib1 1+b1 lib", "binary arm64 lib1 1 lib", "binary all lib-data 1 lib"])
             self.assertEqual(self.feed(once)[0], "uploads 0, drops 0, builds 0, hints 0, unhints 0, orders 0")
             twice = once.replace("1+b1", "1+b2")
-            self.assertEqual(self.feed(twice)[1], ["office-feed: lib: rebuilt: told as 1+b2"])
+            self.assertEqual(self.feed(twice)[1], ["office-feed: lib: rebuilt: sent as 1+b2"])
             self.assertEqual(self.service.good_text("/update/3"), "update 3 2025-03-09\naccept lib 1+b2\n")
             self.assertEqual(self.service.good_text("/testing").splitlines()[2:], [
                 "binary amd64 lib1 1+b2 lib", "binary arm64 lib1 1+back1 lib", "binary all lib-data 1+back1 lib"])

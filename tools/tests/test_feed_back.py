@@ -9,7 +9,7 @@ from test_feed_brakes import on_both
 
 
 class Marks(unittest.TestCase):
-    """A version above another one that stands for a third (docs/ARCHIVE.md)."""
+    """A version above another one that means a third (docs/ARCHIVE.md)."""
 
     def test_there_and_back(self):
         for above, version in (("0.4-1", "0.3-3"), ("0.4-1", "0.4-1"), ("1:2.0~rc1-1+b2", "1:1.9+dfsg-1+b10"),
@@ -62,13 +62,13 @@ class Withdrawn(Feeding):
         self.assertIn("source lone 2.1\n", self.service.good_text("/testing"))
 
     def test_back_to_something_between(self):
-        """The version that is there moves under a version above the withdrawn one, with the age that it had."""
+        """The present version moves under a version above the withdrawn one, with the age that it had."""
         self.moved()
         self.feed(self.lone("1.5"), "2025-03-04")
         self.feed(self.lone("2"), "2025-03-06")
         printed, told = self.feed(self.lone("1.5"), "2025-03-07", status=1)
         self.assertEqual(printed[0], "uploads 1, drops 0, builds 1, hints 0, unhints 0, orders 1")
-        self.assertEqual(told, ["office-feed: source lone 2: it was withdrawn: 1.5 is told as 2+back1.1.5"])
+        self.assertEqual(told, ["office-feed: source lone 2: it was withdrawn: 1.5 is sent as 2+back1.1.5"])
         self.assertIn("lone 1 2+back1.1.5\n age 3 of 5\n too young\n", self.service.good_text("/excuses/4"))
         self.assertEqual(self.feed(self.lone("1.5"), "2025-03-09")[0][0][-8:], "orders 1")
         self.assertIn("source lone 2+back1.1.5\n", self.service.good_text("/testing"))
@@ -102,14 +102,14 @@ class Withdrawn(Feeding):
         self.assertEqual(self.feed(self.lone("1.5"), "2025-03-07")[1], [])
 
     def test_a_need_that_the_older_version_does_not_meet(self):
-        """A made-up version never meets a relation that the archive's own doesn't: it is dropped and told."""
+        """A made-up version never meets a relation that the archive's own doesn't: it is dropped and reported."""
         self.moved()
         self.feed(self.lone("1.5"), "2025-03-04")
         user = on_both("user", "1", depends="lone (>= 2)")
         self.feed(self.lone("2") + user, "2025-03-06")
         told = self.feed(self.lone("1.5") + user, "2025-03-07", status=1)[1]
         self.assertIn("office-feed: lone amd64 1.5: left out: user 1 needs lone (>= 2), which the version that it "
-                      "would be told as meets", told)
+                      "would be sent as meets", told)
         self.feed(self.lone("1.5") + user, "2025-03-20", status=1)
         self.assertIn("source lone 1\n", self.service.good_text("/testing"))
         self.assertNotIn("source user", self.service.good_text("/testing"))

@@ -1,4 +1,4 @@
-"""What office-feed refuses before it sends anything, and what it tells as long as it stands still."""
+"""What office-feed refuses before it sends anything, and what it prints as long as something doesn't move."""
 import datetime
 import os
 import unittest
@@ -183,7 +183,7 @@ class Refused(Feeding):
 
 @needs_office
 class Standing(Feeding):
-    """What stands still gives status 1 each day, with its days; a note only on its first."""
+    """What doesn't move gives status 1 each day, with its days; a note only on its first."""
 
     def test_lines(self):
         odd = FIRST + package("odd", "1", depends="aa\u00a0(>= 1)")
@@ -201,7 +201,7 @@ class Standing(Feeding):
         self.assertEqual(len(self.feed(FIRST, "2025-03-07", *more, "--all-lines")[1]), 1)
 
     def test_ages(self):
-        """Behind the first order an upload came on the day on which the feed first saw it."""
+        """After the first order an upload came on the day on which the feed first saw it."""
         self.feed(FIRST, "2025-03-03")
         self.file("changes/new.changes", CHANGES.replace("Source: lib", "Source: new"))
         self.feed(FIRST + on_both("new", "1"), "2025-03-09", "--changes", self.path("changes"))
@@ -209,7 +209,7 @@ class Standing(Feeding):
 
 
 class CutOff(unittest.TestCase):
-    """A run that was cut off when the office was killed is finished first, which is told once."""
+    """A run that was cut off when the office was killed is finished first, which is printed once."""
 
     def settled(self, *after):
         service = mock.Mock()

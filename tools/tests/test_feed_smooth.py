@@ -1,4 +1,4 @@
-"""Old packages that stay beside newer ones of their source (--smooth), as docs/ARCHIVE.md says."""
+"""Old packages that stay next to newer ones of their source (--smooth), as docs/ARCHIVE.md says."""
 import unittest
 
 from helpers import Serving, needs_office

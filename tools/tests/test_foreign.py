@@ -1,4 +1,4 @@
-"""Files that others write: whatever stands in them, what reads them tells it or ends by a `Fault`.
+"""Files that others write: whatever is in them, their reader reports it or ends by a `Fault`.
 
 Each file is a good one that was garbled by a generator of a fixed seed. FOREIGN states how many of each kind there are
 (300), and FOREIGN_SEED another seed.
@@ -95,7 +95,7 @@ def garbled(chance: random.Random, data: bytes) -> bytes:
 
 
 class Reading(unittest.TestCase):
-    """A folder for a file, and the lines that are told."""
+    """A folder for a file, and the lines that are printed."""
 
     def setUp(self):
         folder = tempfile.TemporaryDirectory()

@@ -1,4 +1,4 @@
-"""office-from-britney: an office beside britney, and where the two decide otherwise."""
+"""office-from-britney: an office next to britney, and where the two decide otherwise."""
 import io
 import os
 import tempfile

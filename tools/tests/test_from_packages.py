@@ -42,7 +42,7 @@ class Folder(unittest.TestCase):
         return path
 
     def convert(self, *words, hints=False):
-        """What the command prints, and what it tells; it has to end with status 0. Hints need the program."""
+        """What the command prints on both outputs; it has to end with status 0. Hints need the program."""
         ended = tool("office-from-packages", *([] if hints else ["--no-hints"]), *words)
         self.assertEqual(ended.returncode, 0, ended.stderr)
         return ended.stdout, ended.stderr.splitlines()
@@ -117,7 +117,7 @@ class Hints(Folder):
             package("alone", "1")
 
     def convert_next(self, one, two, *words, days=NEXT):
-        """The hints of the day behind one on which both sources had version 1."""
+        """The hints of the day after one on which both sources had version 1."""
         self.convert(*DAYS, self.path("first"), self.file("Packages", self.archive("1", "1")), hints=True)
         self.assertEqual(self.values("first", Kind.HINT, "Hint"), ["easy one/1 two/1"])
         self.convert(*days, "--after", self.path("first/bag"), *words, self.path("next"),
@@ -188,7 +188,7 @@ class Changes(Folder):
         return text
 
     def arrivals(self):
-        """Urgency and day of the uploads one and two, and what was told."""
+        """Urgency and day of the uploads one and two, and what was printed."""
         packages = self.file("Packages", package("one", "1.0-1+b1", source="one (1.0-1)") + package("two", "1.0-1"))
         _, told = self.convert(*DAYS, "--urgency", "low", "--changes", self.path("changes"), self.path("out"), packages)
         urgencies, days = (self.values("out", Kind.UPLOAD, field) for field in ("Urgency", "Day"))
@@ -243,7 +243,7 @@ class Changes(Folder):
 
 
 class LeftOut(Folder):
-    """What can't be sent, and what is told of it."""
+    """What can't be sent, and what is printed about it."""
 
     def test_a_package_that_is_too_long(self):
         """Of a package that is too long those names of Provides alone are kept that some package depends on."""

@@ -83,7 +83,7 @@ class Garbled(unittest.TestCase):
         return ends
 
     def test_lists_of_bugs(self):
-        """What a list says can be told, whatever is in it."""
+        """What a list says can be sent, whatever is in it."""
         book = kept.Book("bts", changes.LISTED)
 
         def read(path):
@@ -112,7 +112,7 @@ class Garbled(unittest.TestCase):
         self.read(text + b"Listed: 7\nTest: app amd64\n", read)
 
     def verdicts(self, path):
-        """Lets the results of a file be told."""
+        """Lets the results of a file be sent."""
         found = tests.verdicts_of(iter(results.read_results(path, "testing")), VERSIONS, {"app": "1-1"})
         book = kept.Book("bts", tests.TEST)
         for place, change in enumerate(tests.changes(found, book).changes):

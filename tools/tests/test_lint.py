@@ -1,4 +1,4 @@
-"""What office-lint tells of single messages: each slip that a message may have, beside what is due of it."""
+"""What office-lint says of single messages: each slip that a message may have, and what is due of it."""
 import os
 import tempfile
 import unittest
@@ -41,7 +41,7 @@ def bug(number, *lines):
     return message("bts", number, "bug", "Bug: 1001", *lines)
 
 
-# An office that keeps this. Unstable has greeter 2.0-1 and mailer 5-2, and the hint rt 9 stands.
+# An office that keeps this. Unstable has greeter 2.0-1 and mailer 5-2, and the hint rt 9 is in force.
 KEPT = [
     upload(1, "greeter", "1.0-1"), upload(2, "greeter", "2.0-1"), upload(3, "mailer", "5-2"), upload(4, "chess", "7-1"),
     build(1, "Package: greeter", "Version: 2.0-1", "Architecture: amd64"),
@@ -114,7 +114,7 @@ SLIPS = [
     ("a number that is kept", hint(9, "block chess"), []),
 ]
 
-# The same office once testing has lone 1-1, and bug 6001 was told of chess.
+# The same office once testing has lone 1-1, and bug 6001 was reported of chess.
 LATER = [*KEPT, upload(5, "lone", "1-1", "2025-03-01"),
          build(4, "Package: lone", "Version: 1-1", "Architecture: all", "Provides: solo, aa (= 1)"),
          message("bts", 2, "bug", "Bug: 6001", "Source: chess", "Severity: serious"),
@@ -169,7 +169,7 @@ EFFECTS = [
     ("a bug again", about(6001, "chess", "Fixed: 7-1"), []),
 ]
 
-# A name, a message, its refusal and the line, and what has to stand in the cause.
+# A name, a message, its refusal and the line, and what has to be in the cause.
 REFUSALS = [
     ("another architecture", build(4, "Package: aa", "Version: 1", "Architecture: amd64", "",
                                    "Package: bb", "Version: 1", "Architecture: i386"),
@@ -193,7 +193,7 @@ REFUSALS = [
     ("a comment", message("ftp", 5, "none", "# a: b"),
      "4: refused BadParagraph: '# a' is no name of a field: comments aren't taken"),
     ("a field twice", message("ftp", 5, "none", "kind: none"),
-     "4: refused BadParagraph: the field kind stands twice"),
+     "4: refused BadParagraph: the field kind occurs twice"),
     ("a first line that continues", b" From: ftp\n", "1: refused BadParagraph: ' From: ftp' continues no field"),
     ("another coding", b"From: ftp\nNumber: 5\nKind: none\nNote: \xe9\n", "4: refused BadParagraph: "),
     ("no text at all", b"", "1: refused MissingField From: "),
@@ -218,7 +218,7 @@ REFUSALS = [
     ("an item without a version", hint(10, "easy greeter/2.0-1 mailer"),
      "4: refused BadValue Hint: 'mailer': NAME/VERSION is due"),
     ("a group that names a source twice", hint(10, "easy aa/1 aa/2"),
-     "4: refused BadValue Hint: 'easy aa/1 aa/2': a source stands twice"),
+     "4: refused BadValue Hint: 'easy aa/1 aa/2': a source occurs twice"),
     ("days that are none", hint(10, "age-days ten aa/1"), "4: refused BadValue Hint: 'ten': a number of days "),
     ("a hint of nothing", hint(10, "unblock"), "4: refused BadValue Hint: 'unblock': it names no source"),
     ("an order over a sender that isn't there", order(3, "ftp 4, bdd 3"),
@@ -426,7 +426,7 @@ class Sending(Folder):
             self.assertEqual(service.kept()["ftp"].kept, 4)
             self.assertEqual(self.send(serving, "good"), ("good: held ftp 5\n", 0))
             self.assertEqual(service.kept_text("ftp", 5), good)
-            # What isn't sent isn't there for the messages behind it.
+            # What isn't sent is missing for the messages after it.
             due = ("slip:4: warning: no source duoo\nbad:1: refused MissingField Hint: there is no field Hint\n"
                    "late:2: warning: number 11 of rt: 10 is the next\n")
             self.assertEqual(self.send(serving, "slip", "bad", "late"), (due, 3))
@@ -436,7 +436,7 @@ class Sending(Folder):
             self.assertEqual(service.kept_text("rt", 10), slip)
 
     def test_slips_of_a_service(self):
-        """A running office is asked message by message, and tells the same."""
+        """A running office is asked message by message, and says the same."""
         with Serving(store="store.db") as serving:
             for name, text, due in SLIPS:
                 with self.subTest(name):

@@ -1,4 +1,4 @@
-"""Random messages, and what is due of them by a plain model of the conditions, which works all out anew each time.
+"""Random messages, and what is due of them by a plain model of the conditions, which works all out again each time.
 
 The environment's SEEDS states how many histories are drawn (12).
 """
@@ -69,7 +69,7 @@ class Model:
         return number
 
     def covered(self, kind):
-        """The paragraphs of the messages of a kind that stand without a gap."""
+        """The paragraphs of the messages of a kind without a gap before them."""
         found = []
         for (sender, number), text in self.kept.items():
             ps = paragraphs(text)
@@ -143,7 +143,7 @@ def line_of(text, place, name):
 
 
 def misspelt(text):
-    """Fields whose names are nearly those of fields that are read and aren't there."""
+    """Fields with nearly the names of fields that are read and missing."""
     ps = paragraphs(text)
     for place, p in enumerate(ps):
         read = (BINARY if place else READ[ps[0]["kind"]]).split()
@@ -212,7 +212,7 @@ def of_kind(model, p):
 
 
 def front(version):
-    """The epoch, and the first number behind it."""
+    """The epoch, and the first number after it."""
     epoch, colon, rest = version.rpartition(":")
     return int(epoch or 0), int((re.findall(r"[0-9]+", rest) or ["0"])[0])
 

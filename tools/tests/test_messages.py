@@ -134,7 +134,7 @@ def made():
 class Writing(unittest.TestCase):
 
     def test_each_kind(self):
-        """The texts are the examples of the rules, but for an urgency and covers; most stand in tables."""
+        """The texts are the examples of the rules, but for an urgency and covers; most are in tables."""
         due = {messages.sender_and_number(text.encode()): text.encode()
                for text in re.split(r"\n(?=From: )", re.search(r"```\n(From: .*?)```", RULES, re.S)[1])}
         for label, fields in table(("Message", "Its further fields, each in a line")):

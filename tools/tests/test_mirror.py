@@ -74,7 +74,7 @@ class Mirror(unittest.TestCase):
             self.services[place].post("/mail", text)
 
     def turn(self, *words):
-        """What a turn tells, with short names of the offices, and its status."""
+        """What a turn prints, with short names of the offices, and its status."""
         told = tool("office-mirror", *words, self.one.url, self.other.url)
         self.assertEqual(told.stdout, "")
         return told.stderr.replace(self.one.url, "A").replace(self.other.url, "B"), told.returncode
@@ -92,7 +92,7 @@ class Mirror(unittest.TestCase):
             self.assertEqual(*(service.get(page) for service in self.services))
 
     def test_conflict(self):
-        """A number with two texts is told at each turn, and keeps nothing else from its office."""
+        """A number with two texts is printed at each turn, and keeps nothing else from its office."""
         form = b"From: rt\nNumber: %d\nKind: hint\nHint: block %s\n"
         self.post(0, *TEXTS, form % (3, b"aa"), form % (4, b"cc"))
         self.post(1, form % (3, b"bb"))
@@ -112,7 +112,7 @@ class Mirror(unittest.TestCase):
             self.assertEqual(told.stderr, f"office-mirror: {empty.url}: sent 11\n")
 
     def test_gaps(self):
-        """Mail behind a gap is brought, too, however far behind it is."""
+        """Mail after a gap is brought, too, however far after it is."""
         none = b"From: bd\nNumber: %d\nKind: none\n"
         self.post(0, none % 1, none % 3, none % 9)
         self.assertEqual(self.turn("--state", self.state), ("office-mirror: B: sent 3\n", 0))

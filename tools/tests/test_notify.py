@@ -77,7 +77,7 @@ class Notify(unittest.TestCase):
         self.assertEqual(of_cc, "cc 3-1 migrated to testing")
 
     def test_state(self):
-        """The first call begins with the next run; each run is told once."""
+        """The first call begins with the next run; each run is mailed once."""
         words = ["--state", self.path("state"), "--mbox", self.path("mbox")]
         told = self.notify(*words)
         self.assertEqual(told, ("", f"office-notify: {self.path('state')} is new: it begins after run 1\n", 0))
@@ -90,7 +90,7 @@ class Notify(unittest.TestCase):
                               ("aa 1-2 migrated to testing", ["  aa 1-2 migrated to testing (testing had 1-1)"])])
 
     def test_a_mailer_that_fails(self):
-        """Who was told before the mailer failed isn't told again."""
+        """Who got mail before the mailer failed doesn't get it again."""
         mailer = self.path("mailer")
         with open(mailer, "w", encoding="ascii") as file:
             file.write(f'#!/bin/sh\n[ ! -e {self.folder}/full ] || exit 75\ncat >> {self.folder}/sent\n'

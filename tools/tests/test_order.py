@@ -25,7 +25,7 @@ class Order(unittest.TestCase):
             for text in texts:
                 service.post("/mail", text)
             self.assertEqual(self.order(serving, "2025-03-22"), (NEXT, "", 0))
-            # Mail behind a gap isn't covered.
+            # Mail after a gap isn't covered.
             service.post("/mail", b"From: bd\nNumber: 5\nKind: none\n")
             self.assertEqual(self.order(serving, "2025-03-22"), (NEXT, "", 0))
             self.assertEqual(self.order(serving, "--send", "2025-03-22"), (

@@ -59,7 +59,7 @@ class Pages(unittest.TestCase):
         self.addCleanup(shutil.rmtree, self.folder)
 
     def make(self, *words, folder=None):
-        """Calls the command, which has to end with status 0, and gives what it tells."""
+        """Calls the command, which has to end with status 0, and returns what it prints."""
         told = io.StringIO()
         with contextlib.redirect_stderr(told):
             self.assertEqual(command.main([*words, folder or self.folder]), 0)
@@ -115,7 +115,7 @@ class Pages(unittest.TestCase):
 
 
 class AllRuns(Pages):
-    """The three runs of the stand-in."""
+    """All three runs of the stand-in."""
 
     def setUp(self):
         super().setUp()
@@ -161,7 +161,7 @@ class AllRuns(Pages):
         for link in ("#line-2", "greeter.html", "libgreet.html"):
             self.assertIn(link, page.links)
         self.assertIn("line-2", page.anchors)
-        # What became of the source itself is told by a sentence.
+        # A sentence says what became of the source itself.
         self.assertFalse([item for item in page.items if item.startswith("wait ")])
         self.assertIn("Waits: its move would leave greeter uninstallable on amd64", page.items)
         self.assertIn("blocked by rt 2: block libgreet", self.page("source/libgreet.html").items)
@@ -181,7 +181,7 @@ class AllRuns(Pages):
         self.finish_third()
         self.make("--url", self.office.url)
         cells = self.page("source/libgreet.html").cells
-        # Run 3 tells the same of it as run 2 but for its age.
+        # Run 3 says the same of it as run 2 except its age.
         self.assertEqual([cell.split(" of ")[0] for cell in cells[::4]], ["Run 2", "Run 1"])
         self.assertEqual(cells[3], "missing on all, blocked")
         self.assertIn("in run 1 on 2025-03-04", "".join(self.page("source/libgreet.html").texts))
@@ -240,7 +240,7 @@ class AllRuns(Pages):
         self.make("--url", self.office.url)
         other = self.enterContext(tempfile.TemporaryDirectory())
         self.make("--url", self.office.url, folder=other)
-        # Each knows when it fetched the run, and behind which run it was told an answer first.
+        # Each knows when it fetched the run, and after which run it first got an answer.
         found = [{name: re.sub(b"First answered after .*", b"", data) for name, data in self.files(folder).items()
                   if name not in ("index.html", "excuses.json")} for folder in (self.folder, other)]
         self.assertEqual(*found)
@@ -295,7 +295,7 @@ class AllRuns(Pages):
              "refused by run 2: it would leave app uninstallable on amd64",
              "Ada Low <ada@example.org>: goes with app"]])
         self.assertIn("source/stuck.html", self.page("hints.html").links)
-        # What is told of hints changes between two runs, too.
+        # What is answered on hints changes between two runs, too.
         self.office.answers["/hints"] = "hints 2\nrt 2 covered block libgreet: in force\n"
         self.make("--url", self.office.url)
         self.assertEqual(len(self.page("hints.html").cells), 5)
@@ -380,7 +380,7 @@ class AllRuns(Pages):
         self.assertNotIn("What the office proposes", self.read("source/app.html"))
         self.assertEqual([path for path in self.office.asked if path.startswith("/propose")],
                          ["/propose", "/propose/stuck"])
-        # Where nothing is found, that is told.
+        # If nothing is found, that is shown.
         self.finish_third()
         self.make("--url", self.office.url)
         self.assertNotIn("What the office proposes", self.read("source/stuck.html"))
@@ -397,7 +397,7 @@ class AllRuns(Pages):
         self.assertNotIn("/propose/stuck", self.office.asked)
 
     def test_an_office_of_an_earlier_version(self):
-        """It has no such pages, which is told in a sentence; all else is there."""
+        """It has no such pages, which a sentence says; all else exists."""
         self.office.answers = {path: told for path, told in routes(2).items()
                                if not path.startswith(("/propose", "/hints"))}
         self.office.is_older = True

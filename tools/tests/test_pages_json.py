@@ -1,4 +1,4 @@
-"""excuses.json of office-pages: each key has the value that office-pages(1) tells, and grep-excuses reads it."""
+"""excuses.json of office-pages: each key has the value that office-pages(1) states, and grep-excuses reads it."""
 import datetime
 import json
 import os

@@ -1,4 +1,4 @@
-"""The pages of office-pages beside excuses, runs and sources: offices of a few sources, worked out by hand."""
+"""The pages of office-pages other than excuses, runs and sources: offices of a few sources, worked out by hand."""
 import contextlib
 import datetime
 import io
@@ -107,7 +107,7 @@ BUILDS = [
 
 
 def answers(builds=BUILDS, unstable=UNSTABLE):
-    """What the office of this module answers behind its second run."""
+    """What the office of this module answers after its second run."""
     return {
         "/runs": RUNS, "/excuses/1": FIRST, "/excuses/2": EXCUSES, "/hints": "hints 2\n", "/propose": "",
         "/update/1": "update 1 2025-03-04\n" + "".join(
@@ -212,7 +212,7 @@ class Pages(unittest.TestCase):
 
     def test_the_calendar(self):
         self.make()
-        # Of 2025-03-20 on: plug lacks one day, app two, and app lacks a build, too.
+        # From 2025-03-20 on: plug needs one day, app two, and app needs a build, too.
         self.assertEqual(self.words("days.html", "days"), [
             ["Friday, 2025-03-21", "1", "1", "0", "plug"], ["Saturday, 2025-03-22", "2", "0", "1", "-"]])
         self.assertIn("tomorrow 1, the day after 0", self.read("index.html"))

@@ -65,7 +65,7 @@ class Reports(unittest.TestCase):
                 reports.read_hints(bad)
 
     def test_unstable(self):
-        """A row may be of a source that isn't there."""
+        """A row may be of a missing source."""
         found = reports.read_unstable(UNSTABLE)
         self.assertEqual((found.finished, found.sources), (7, {"c++lib": "2.0-1"}))
         self.assertEqual(found.rows, [Row("amd64", "one-bin", "1.0+b1", "one")])

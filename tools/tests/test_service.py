@@ -16,7 +16,7 @@ from office_tools.service import Kept, Service, Status
 
 
 class Peer(http.server.BaseHTTPRequestHandler):
-    """A peer that tells what it was asked, and is no office."""
+    """A peer that reports what it was asked, and is no office."""
 
     def do_GET(self):
         body = f"{self.path} {self.headers['Authorization']}\n".encode()

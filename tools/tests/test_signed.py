@@ -91,7 +91,7 @@ class Signed(unittest.TestCase):
         armoured = [self.armoured("ftp", text) for text in texts]
         clear = [self.sign("ftp", text, "--clearsign") for text in texts]
         both = self.gpg("--enarmor", given=plain[0] + plain[1]).replace(b"ARMORED FILE", b"MESSAGE")
-        due = ("", "office-signed: it isn't one signed message alone: send each by itself", 3)
+        due = ("", "office-signed: it isn't one signed message alone: send each on its own", 3)
         with Serving() as serving:
             for signed in [*map(b"".join, (plain, zlib, armoured, reversed(armoured))), both, armoured[0] + plain[1],
                            plain[0] + armoured[1]]:

@@ -21,7 +21,7 @@ def removal(number, source, version):
 
 
 def world():
-    """Three sources in testing; on the second day a feed tells that two are gone, and on the third nothing is new."""
+    """Three sources in testing; on the second day a feed reports two gone, and on the third nothing is new."""
     texts = [messages.hint(Label("rt", 1), "age-days 0 app/1 base/1 tool/1")]
     for number, name in enumerate(NAMES, 1):
         texts.append(messages.upload(Label("ftp", number), name, "1", Urgency.LOW, "2025-03-01"))
@@ -77,7 +77,7 @@ class Selection(unittest.TestCase):
 class Outcomes(unittest.TestCase):
 
     def test_reports(self):
-        """Reports are told apart, also where a source has the name of one."""
+        """Reports are told apart, even if a source has the name of one."""
         told = ["excuses 1 2025-03-01", "update 1 2025-03-01", " age 1 of 2", " too young", " not a candidate",
                 "update 1 2025-03-01", "accept testing 5", "testing 1", "source testing 5", ""]
         found = outcome.Outcome([])
@@ -115,7 +115,7 @@ class Undo(unittest.TestCase):
         return told.stdout.replace(os.path.realpath(self.folder) + "/", ""), told.stderr, told.returncode
 
     def test_undone(self):
-        """Testing is what it would be without the slip, and the old store and the caches stand beside it."""
+        """Testing is what it would be without the slip, and the old store and the caches are next to it."""
         before = self.kept(self.store)
         feed, state = os.path.join(self.folder, "feed"), os.path.join(self.folder, "state")
         told, words, status = self.mend("--undo", "2025-03-02", "--cache", feed, "--cache", state, "--yes")
@@ -188,7 +188,7 @@ class Undo(unittest.TestCase):
         self.assertTrue(seen[-1])
 
     def is_done_within(self, calls, caches):
-        """Exchanges the stores, and is killed before the call of the system behind so many; whether it comes so far."""
+        """Exchanges the stores, killed before a later call of the system: after how many; whether it comes so far."""
         left = [calls]
 
         def counted(call):

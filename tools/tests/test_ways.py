@@ -99,7 +99,7 @@ class Ways(unittest.TestCase):
         self.assertEqual(self.updates(), ["accept lib 1", "accept doc 1"])
 
     def test_a_later_setup_would_change_nothing(self):
-        """A sender behind bd can't tell a package again: that is why a spare one stands before it."""
+        """A sender after bd can't send a package again: that is why a spare one precedes it."""
         self.upload("app", "1")
         self.build("again1", "app", "1", "amd64", "arm64", Depends="nosuch")
         self.build("bd", "app", "1", "amd64", "arm64")

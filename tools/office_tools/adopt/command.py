@@ -28,17 +28,17 @@ tell = functools.partial(faults.tell, NAME)
 def parser() -> argparse.ArgumentParser:
     """The command's words."""
     words = argparse.ArgumentParser(
-        prog=NAME, description="Makes FOLDER/setup.conf and FOLDER/bag, by which an office begins with the testing "
-                               "that an archive has. What has to be told otherwise than it is, is told.",
+        prog=NAME, description="Makes FOLDER/setup.conf and FOLDER/bag, with which an office begins with the testing "
+                               "that an archive has. Prints what has to be sent differently.",
         epilog="Status 0: the office's testing is the archive's. 1: it isn't: each difference is printed. 2: the words "
                "are wrong. 4: the program office didn't answer.")
     words.add_argument("--day", type=days.day, default=days.today(),
                        help="the day of the first run, as 2025-03-20 (today by the system's clock, in UTC)")
     words.add_argument("--spare", type=mail.spares, default=mail.MOST_SPARES, metavar="N",
-                       help=f"how many spare senders of builds stand before bd in the setup: 0 to {mail.MOST_SPARES} "
+                       help=f"how many spare senders of builds precede bd in the setup: 0 to {mail.MOST_SPARES} "
                             f"({mail.MOST_SPARES})")
-    words.add_argument("--dry-run", action="store_true", help="tell what would be told otherwise, and write nothing")
-    words.add_argument("--no-check", action="store_true", help="don't ask the program office what comes of the bag")
+    words.add_argument("--dry-run", action="store_true", help="print what would be sent differently, and write nothing")
+    words.add_argument("--no-check", action="store_true", help="don't ask the program office for the bag's result")
     words.add_argument("--sources", action="append", default=[], metavar="SOURCES", help="a file Sources of testing")
     words.add_argument("folder", metavar="FOLDER", help="where both files are written")
     words.add_argument("packages", metavar="PACKAGES", nargs="+", help="a file Packages of testing")
@@ -59,7 +59,7 @@ def letters(setup: str, binaries: Sequence[Binary], sources: Mapping[str, str], 
 
 
 def checked(setup: str, bag: bytes, have: Contents) -> int:
-    """Asks the office what comes of the bag, and prints how its testing differs from the archive's."""
+    """Asks the office for the bag's result, and prints how its testing differs from the archive's."""
     told = program.output(["replay", "--conf", setup], bag).decode()
     refused = [line for line in told.splitlines() if line.startswith("refused ")]
     for line in refused:
@@ -92,7 +92,7 @@ def is_beside(line: str, want: Contents) -> bool:
 
 
 def main(words: Sequence[str]) -> int:
-    """Writes the setup and the bag, and tells what they have."""
+    """Writes the setup and the bag, and prints what they have."""
     asked = parser().parse_args(words)
     told.NAME = NAME
     found, architectures = read_binaries(asked.packages)

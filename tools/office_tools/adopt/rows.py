@@ -1,4 +1,4 @@
-"""What has to be told otherwise than it is, so that each package of an existing testing is in the office's."""
+"""What has to be sent differently, so that each package of an existing testing is in the office's."""
 import dataclasses
 from collections import defaultdict
 from dataclasses import dataclass
@@ -14,19 +14,19 @@ FIELDS = ("Pre-Depends", "Depends")
 
 @dataclass(frozen=True)
 class Lifted:
-    """A package that was built of an older version of its source than testing has, and is told under that one."""
+    """A package that was built of an older version of its source than testing has, and is sent under that one."""
 
     binary: Binary
     version: str
 
     def line(self) -> str:
-        """What is told of it."""
-        return (f"{self.binary.name} {self.binary.architecture} {self.binary.version}: told under {self.binary.source} "
+        """The line on it."""
+        return (f"{self.binary.name} {self.binary.architecture} {self.binary.version}: sent under {self.binary.source} "
                 f"{self.version}: it was built of {self.binary.source_version}")
 
 
 def lifted(binaries: Sequence[Binary], current: Mapping[str, str]) -> tuple[Sequence[Binary], Sequence[Lifted]]:
-    """The packages, each under its source's version in testing, and those of which that isn't so in the archive."""
+    """The packages, each under its source's version in testing, and those for which the archive has another version."""
     told: list[Binary] = []
     moved: list[Lifted] = []
     for binary in binaries:
@@ -47,8 +47,8 @@ class Stripped:
     clause: Clause
 
     def line(self) -> str:
-        """What is told of it."""
-        return (f"{self.binary.name} {self.binary.architecture} {self.binary.version}: told without "
+        """The line on it."""
+        return (f"{self.binary.name} {self.binary.architecture} {self.binary.version}: sent without "
                 f"{relations.written(self.clause)}: nothing in testing meets it")
 
 
@@ -73,8 +73,8 @@ def stripped(binaries: Sequence[Binary], architectures: Sequence[str]) -> tuple[
 def unmet(suites: Suites) -> Sequence[Stripped]:
     """The clauses of watched packages that nothing installable meets, and no watched package would.
 
-    There are such clauses as long as a watched package can't be installed: if each clause of these packages were met
-    by one of them, all of them could be installed.
+    There are such clauses as long as a watched package can't be installed. If each clause of these packages were met by
+    one of them, all of them could be installed.
     """
     bad = suites.judged_bad()
     watched: dict[int, set[Key]] = defaultdict(set)

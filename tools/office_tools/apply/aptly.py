@@ -38,7 +38,7 @@ class Aptly:
         return os.path.join(root, "public", self.prefix, "dists", self.testing_name)
 
     def architectures(self) -> Sequence[str]:
-        """The architectures that testing is published with; a repository that isn't there is refused."""
+        """The architectures that testing is published with; a missing repository is refused."""
         release = os.path.join(self.folder(), "Release")
         if not os.path.exists(release):
             raise Fault(f"{release}: {self.testing_name} isn't published yet: aptly publish repo does it once", REFUSED)
@@ -48,7 +48,7 @@ class Aptly:
         return sorted(set(found[1].split() if found else []) - {"source", "all"})
 
     def shown(self, repository: str) -> str:
-        """What aptly tells of a repository; one that isn't there is refused."""
+        """What aptly prints of a repository; a missing one is refused."""
         try:
             return self.aptly("repo", "show", repository)
         except Fault as fault:
@@ -72,7 +72,7 @@ class Aptly:
         for line in self.search(repository, f"!{INSTALLERS}"):
             found = KEY.fullmatch(line)
             if found is None:
-                raise Fault(f"aptly: it tells a package by {line!r}", REFUSED)
+                raise Fault(f"aptly: it lists a package as {line!r}", REFUSED)
             architecture, name, version, source = found.groups()
             if architecture == "source":
                 sources.add(Source(name, version))
@@ -109,7 +109,7 @@ class Aptly:
         return shows(self.folder(), have, self.indexes)
 
     def publish(self) -> None:
-        """Publishes testing anew."""
+        """Publishes testing again."""
         self.aptly("publish", "update", "-batch", *self.words, self.testing_name, self.prefix)
 
 

@@ -13,7 +13,7 @@ SHOWN = 10  # names in a sentence
 
 @dataclass(frozen=True)
 class Terms:
-    """What is allowed: how many packages may go, where that is stated, and whether sources may be taken back."""
+    """What is allowed: how many packages may go, if that is stated, and whether sources may be taken back."""
 
     gone: Optional[int] = None
     back: bool = False
@@ -34,7 +34,7 @@ class Terms:
 
 
 def names_gone(want: Contents, found: Difference) -> Iterator[str]:
-    """The packages that leave, and of which no other version stays or comes."""
+    """The packages that leave, with no other version that stays or comes."""
     staying = {(row.architecture, row.name) for row in want.rows}
     names = {row.name for row in want.rows}
     for row in found.excess.rows:
@@ -44,9 +44,9 @@ def names_gone(want: Contents, found: Difference) -> Iterator[str]:
 
 
 def taken_back(want: Contents, have: Contents, found: Difference, told: Mapping[str, str]) -> Iterator[str]:
-    """The sources of which testing has a greater version than the office says, and would lose it.
+    """The sources that would lose a greater version in testing than the office has.
 
-    A version with a mark stands for another one of the archive. It counts as it is: what is told so was allowed before.
+    A version with a mark means another one of the archive. It counts as it is: what is sent so was allowed before.
     """
     wanted = {source.name: source.version for source in want.sources}
     lost = found.excess.sources | {have.built_of[row] for row in found.excess.rows if row in have.built_of}

@@ -58,8 +58,8 @@ def parser() -> argparse.ArgumentParser:
     part.add_argument("--sources", action="append", default=[], metavar="SOURCES", help="a file Sources of testing")
     part.add_argument("file", metavar="FILE", help="where it is written")
     part.add_argument("packages", metavar="PACKAGES", nargs="*",
-                      help="a file Packages of testing, or its folder dists/SUITE alone: what is left alone there "
-                           "stands in FILE, too")
+                      help="a file Packages of testing, or its folder dists/SUITE alone: FILE also has what is left "
+                           "alone there")
     part = managers.add_parser("select", help="prints those paragraphs of files Packages that testing has")
     part.add_argument("architecture", metavar="ARCHITECTURE", help="of this architecture and of all")
     part.add_argument("packages", metavar="PACKAGES", nargs="+", help="a file Packages")
@@ -111,9 +111,9 @@ def groups_of(service: Optional[Service], finished: int) -> Groups:
 
 
 def to_heidi(testing: reports.Testing, path: str, published: Optional[Contents], terms: Terms, is_dry: bool) -> int:
-    """Writes the file where it isn't what the office wants, and prints what changes.
+    """Writes the file if it isn't what the office wants, and prints what changes.
 
-    The file sets the suite whole, so what is left alone of the published indexes stands in it, too.
+    The file sets the suite whole, so it also has what is left alone of the published indexes.
     """
     architectures = sorted({row.architecture for row in testing.rows})
     want, have = wanted(testing, architectures, Indexes.ONCE), heidi.read(path)
@@ -122,7 +122,7 @@ def to_heidi(testing: reports.Testing, path: str, published: Optional[Contents],
     terms.check(want, there, difference(want, there), testing.sources)
     if published is not None:
         if not published.sources:
-            raise Fault("no file Sources is there: what is left alone would leave the suite", REFUSED)
+            raise Fault("there is no file Sources: what is left alone would leave the suite", REFUSED)
         check_taken(want, published)
         found = difference(want, published)
         tell_idle(found, tell)
@@ -143,7 +143,7 @@ def compared(testing: reports.Testing, packages: Sequence[str], sources: Sequenc
     architectures = sorted({row.architecture for row in have.rows})
     want = wanted(testing, architectures, Indexes.ONCE)
     if not have.sources:
-        tell("no sources are compared: no file Sources is there")
+        tell("no sources are compared: there is no file Sources")
         want = Contents(have.sources, want.rows, want.built_of)
     found = difference(want, have)
     tell_idle(found, tell)
@@ -165,7 +165,7 @@ def indexes_of(packages: Sequence[str], sources: Sequence[str]) -> Contents:
 
 
 def select(testing: reports.Testing, architecture: str, paths: Sequence[str]) -> int:
-    """Prints the paragraph of each row of testing on an architecture, and tells the rows of which there is none."""
+    """Prints the paragraph of each row of testing on an architecture, and reports the rows without one."""
     want = {(row.package, marks.package_version(row.version), row.architecture) for row in testing.rows
             if row.architecture in (architecture, ALL)}
     for path in paths:

@@ -19,7 +19,7 @@ class Source(NamedTuple):
 
 
 class Row(NamedTuple):
-    """A binary package in a suite: in the index of which architecture, its own architecture, its name and version."""
+    """A binary package in a suite: the index's architecture, its own architecture, its name and version."""
 
     place: str
     architecture: str
@@ -29,10 +29,10 @@ class Row(NamedTuple):
 
 @dataclass(frozen=True)
 class Contents:
-    """The sources and the binary packages of a suite, and the source that each of these is of, where known.
+    """The sources and the binary packages of a suite, and the source of each of these, if known.
 
-    In an archive that is the source that it was built of, in the office's testing the one that it is told under.
-    `other_kinds` counts the packages of kinds that the office decides nothing about, as udeb.
+    In an archive that is the source that it was built of, in the office's testing the one that it was sent under.
+    `other_kinds` counts the packages of kinds that the office decides nothing about, like udeb.
     """
 
     sources: frozenset[Source] = frozenset()
@@ -88,10 +88,10 @@ def places(architecture: str, architectures: Sequence[str], indexes: Indexes) ->
 class Difference:
     """What the office wants and the suite hasn't, and what the suite has too much.
 
-    `idle` are sources of the suite that the office doesn't want and that are left alone all the same. Of the one sort
-    the suite has no binary package: they build nothing on the office's architectures, so it can't decide about them. Of
-    the other sort packages stay that the office wants, as old libraries do. `older` are packages of `all` that are left
-    alone, too.
+    `idle` are sources of the suite that the office doesn't want and that are left alone all the same. For some the
+    suite has no binary package: they build nothing on the office's architectures, so it can't decide about them. Of the
+    others packages stay that the office wants, like old libraries. `older` are packages of `all` that are left alone,
+    too.
     """
 
     missing: Contents
@@ -136,9 +136,9 @@ def check_taken(want: Contents, have: Contents) -> None:
 def older_of_all(want: Contents, have: Contents, rows: frozenset[Row]) -> Iterator[Row]:
     """Those of these packages of `all` that stay: an architecture on which their source lags has them.
 
-    There a package stays that was built of the same version of the source, and which the office has under a newer one.
-    Of the package of `all` itself the office has another version. Where it is in an index of that architecture alone,
-    the other version isn't missed there.
+    There a package stays that was built of the same version of the source, and the office has it under a newer one. Of
+    the package of `all` itself the office has another version. If it is only in the index of that architecture, nobody
+    misses the other version there.
     """
     lagging: set[tuple[str, Source]] = set()
     for row, built in have.built_of.items():

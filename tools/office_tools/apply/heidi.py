@@ -16,7 +16,7 @@ def written(contents: Contents) -> bytes:
 
 
 def read(path: str) -> Contents:
-    """What a file has; nothing, where there is none."""
+    """What a file has; nothing if there is none."""
     if not os.path.exists(path):
         return Contents()
     sources: set[Source] = set()

@@ -1,8 +1,8 @@
 """What stays as it is in testing if the archive no longer has all that the office's testing has.
 
-A source is held back if its version or one of its packages can be copied from nowhere. With it are held back the
-sources that a run moved in the same group, the sources that share a package name with it, and what the judge finds
-broken in the testing that results. What is left moves. Without a judge all that changes is held back.
+A source is held back if its version or one of its packages can't be copied. With it are held back the sources that a
+run moved in the same group, and the sources that share a package name with it. So is what the judge finds broken in the
+resulting testing. What is left moves. Without a judge all that changes is held back.
 """
 from collections import defaultdict
 from dataclasses import dataclass, field
@@ -37,7 +37,7 @@ class Plan:
 
 
 def lacking(missing: Contents, want: Contents, origin: Contents) -> Mapping[str, str]:
-    """The sources that can't be copied whole, each with the first line of what isn't there."""
+    """The sources that can't be copied whole, each with the first line on what is missing."""
     found: dict[str, str] = {}
     absent = missing.without(origin)
     for source in sorted(absent.sources):
@@ -49,7 +49,7 @@ def lacking(missing: Contents, want: Contents, origin: Contents) -> Mapping[str,
 
 
 def without_source(want: Contents, have: Contents, origin: Contents) -> frozenset[Source]:
-    """The wanted sources of which neither suite has any version, and whose packages are all in one of them."""
+    """The wanted sources with no version in either suite, whose packages are all in one of them."""
     names = {source.name for source in have.sources | origin.sources}
     absent = {want.built_of[row].name for row in want.rows - have.rows - origin.rows}
     building = {want.built_of[row].name for row in want.rows}

@@ -43,7 +43,7 @@ class Manager(Protocol):
 
 
 def run(words: Sequence[str]) -> str:
-    """What a command of a manager prints. If it fails, the end of what it tells is the `Fault`."""
+    """What a command of a manager prints. If it fails, the end of its output is the `Fault`."""
     try:
         ran = subprocess.run(words, stdin=subprocess.DEVNULL, capture_output=True, check=False, text=True,
                              errors="backslashreplace")

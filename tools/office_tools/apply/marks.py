@@ -1,8 +1,8 @@
 """Names and versions that are made up for the office alone, and what the archive has in their place.
 
-The office takes what is sent for a source, also where the archive has no such source. So that a manager can tell a
-rebuild, an old library that stays, or packages that leave together, and the feed can tell what came back, four marks
-are kept free for this (docs/ARCHIVE.md).
+The office takes what is sent for a source, also if the archive has no such source. Four marks are kept free for this
+(docs/ARCHIVE.md). By them a manager recognizes a rebuild, an old library that stays, or packages that leave together,
+and the feed what came back.
 """
 import re
 
@@ -12,11 +12,11 @@ LEAVING = "+gone"
 STAYING = "smooth-"
 
 ESCAPES = (("+", "+p"), ("-", "+m"), (":", "+c"))
-"""How a version stands within another one, which has no hyphen and no colon there. The plus comes first."""
+"""How a version is written within another one, which has no hyphen and no colon there. The plus comes first."""
 
 
 def is_made_up(source: str) -> bool:
-    """Whether a source stands for old packages that stay beside newer ones of their own source."""
+    """Whether a source is made up for old packages that stay next to newer ones of their own source."""
     return source.startswith(STAYING)
 
 
@@ -35,12 +35,12 @@ def package_version(version: str) -> str:
 
 
 def is_back(version: str) -> bool:
-    """Whether a version stands for one that was told before, and came back."""
+    """Whether a version is made up for one that was sent before, and came back."""
     return BACK_AT_END.search(version.removesuffix(LEAVING)) is not None
 
 
 def back(above: str, version: str) -> str:
-    """The version above another one by which the office is told a version of the archive once more.
+    """The version above another one under which a version of the archive is sent once more.
 
     It ends in `+backN.V`, V being the archive's version, or in `+backN` if that is the version before the mark.
     """

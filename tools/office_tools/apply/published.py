@@ -19,9 +19,9 @@ Stated = dict[str, dict[str, str]]
 
 
 def read_indexes(packages: Sequence[tuple[str, str]], sources: Sequence[str]) -> Contents:
-    """What is in these files Packages, each behind its architecture, and in these files Sources.
+    """What is in these files Packages, each after its architecture, and in these files Sources.
 
-    A source that the archive keeps for packages that were built with it alone doesn't count.
+    A source that the archive keeps only for packages built with it doesn't count.
     """
     found: set[Source] = set()
     built_of: dict[Row, Source] = {}
@@ -77,7 +77,7 @@ def shows(folder: str, have: Contents, indexes: Indexes) -> bool:
 
 
 def is_whole(folder: str, stated: Stated) -> bool:
-    """Whether each index is there, and is the one that Release states. A publisher that was ended may leave others."""
+    """Whether each index exists, and is the one that Release states. A publisher that was ended may leave others."""
     for files in stated.values():
         there = {name: os.path.join(folder, name) for name in files if os.path.exists(os.path.join(folder, name))}
         if not there:
@@ -88,7 +88,7 @@ def is_whole(folder: str, stated: Stated) -> bool:
 
 
 def packages_of(folder: str) -> Sequence[str]:
-    """The files Packages of a suite's folder that Release states; none where there is no such folder."""
+    """The files Packages of a suite's folder that Release states; none if there is no such folder."""
     stated = read_release(folder) or {}
     paths = [[os.path.join(folder, name) for name in sorted(files)] for stem, files in sorted(stated.items())
              if os.path.basename(stem) == "Packages"]

@@ -37,7 +37,7 @@ class Reprepro:
                         UNANSWERED) from fault
 
     def architectures(self) -> Sequence[str]:
-        """The architectures of testing; a suite that isn't there is refused."""
+        """The architectures of testing; a missing suite is refused."""
         if not os.path.isdir(os.path.join(self.base, "conf")):
             raise Fault(f"{self.base}: it is no archive of reprepro: it has no folder conf", REFUSED)
         try:
@@ -123,7 +123,7 @@ def users(base: str) -> Iterator[str]:
 
 
 def row_formulas(contents: Contents) -> Sequence[str]:
-    """A formula for each row. It names the index, so that a package of `all` that is in one index alone is meant."""
+    """A formula for each row. It names the index, so that a package of `all` in one index alone is meant."""
     return [f"( Package (== {row.name}), Version (== {row.version}), Architecture (== {row.architecture}), "
             f"$Architecture (== {row.place}) )" for row in sorted(contents.rows)]
 

@@ -14,7 +14,7 @@ HELD = 1  # status where testing isn't what the office says
 
 @dataclass(frozen=True)
 class Turn:
-    """A manager of an archive, the office's testing, where a line is printed or told, and what is allowed."""
+    """A manager of an archive, the office's testing, how a line is printed, and what is allowed."""
 
     manager: Manager
     testing: reports.Testing
@@ -24,7 +24,7 @@ class Turn:
     evidence: Evidence = field(default_factory=Evidence)
 
     def compare(self) -> int:
-        """Shows what would change: status 0 where nothing would."""
+        """Shows what would change: status 0 if nothing would."""
         plan, have = self.plan()
         found = self.difference(plan.want, have)
         for line in (*(f"would come: {line}" for line in found.missing.lines()),
@@ -39,7 +39,7 @@ class Turn:
         return HELD if plan.held or not found.is_empty else 0
 
     def apply(self) -> int:
-        """Makes testing what the office wants: status 0 where it then is, 1 where something is held back."""
+        """Makes testing what the office wants: status 0 if it then is, 1 if something is held back."""
         plan, have = self.plan()
         before = self.difference(plan.want, have)
         self.terms.check(plan.want, have, before, self.testing.sources)
@@ -70,7 +70,7 @@ class Turn:
         if not self.manager.is_published(have):
             self.manager.publish()
             if not self.manager.is_published(have):
-                raise Fault("testing is published, but its indexes aren't where they are looked for, or lack something",
+                raise Fault("testing is published, but its indexes are incomplete or not in the expected place",
                             UNANSWERED)
 
     def plan(self) -> tuple[Plan, Contents]:
@@ -97,14 +97,14 @@ class Turn:
         return plan, have
 
     def difference(self, want: Contents, have: Contents) -> Difference:
-        """How testing differs; the sources that are left alone are told."""
+        """How testing differs; the sources that are left alone are reported."""
         check_taken(want, have)
         found = difference(want, have)
         tell_idle(found, self.tell)
         return found
 
     def check_came(self, lacking: Contents) -> None:
-        """Ends the turn, before anything is taken out, where something that was copied isn't there."""
+        """Ends the turn, before anything is taken out, if something that was copied is missing."""
         lines = list(lacking.lines())
         for line in lines:
             self.tell(f"the manager didn't copy {line}")
@@ -113,7 +113,7 @@ class Turn:
 
 
 def tell_idle(found: Difference, tell: Callable[[str], None]) -> None:
-    """Tells what is left alone."""
+    """Reports what is left alone."""
     older = dict.fromkeys((row.name, row.version) for row in found.older)
     for what, names in (("sources of which testing has no package, or packages that stay", found.idle),
                         ("older packages of all, with which packages that stay were built", list(older))):

@@ -20,7 +20,7 @@ class Copy:
         self.mail: Optional[bytes] = None
 
     def bag(self) -> bytes:
-        """The mail as a bag. The orders come first, so that all mail of a run that was ready is there."""
+        """The mail as a bag. The orders come first, so that it has all mail of a run that was ready."""
         if self.mail is None:
             self.check_setup()
             runs = runs_sender(self.service)

@@ -88,7 +88,7 @@ class Questions:
         return f"office-ask: run {run} isn't finished: {self.service.status().finished} are\n"
 
     def why(self, sources: Sequence[str], run: Optional[int]) -> Answer:
-        """Why sources stand where a run left them: the last one if none is named."""
+        """Why sources are where a run left them: the last one if none is named."""
         finished = self.service.status().finished
         if run is not None and run < finished:
             return self.copy.ask(["why", "--run", str(run), *sources])
@@ -100,7 +100,7 @@ class Questions:
         return Answer(b"".join(part.text for part in parts), max(part.status for part in parts))
 
     def why_source(self, source: str, finished: int) -> Answer:
-        """Why a source stands where the last run left it. No route has a word that is no name of a source."""
+        """Why a source is where the last run left it. No route has a word that is no name of a source."""
         unknown = Answer(f"why {finished} {source}\nunknown {source}\n".encode(), NO)
         if not SOURCE.fullmatch(source):
             return unknown

@@ -1,4 +1,4 @@
-"""Which versions in unstable fail a test that testing passes, and what the office has to be told about it."""
+"""Which versions in unstable fail a test that testing passes, and what has to be sent about it."""
 import enum
 from collections import defaultdict
 from dataclasses import dataclass, field
@@ -13,7 +13,7 @@ from office_tools.messages import Label, Range, Severity
 TEST = "Test"
 """A field that the office doesn't read: the tested package and the architecture. It marks this command's messages."""
 NUMBERS = range(900_000_001, 1_000_000_000)
-"""The numbers of bugs that stand for failed tests."""
+"""The numbers of bugs that mean failed tests."""
 
 
 class Test(NamedTuple):
@@ -95,7 +95,7 @@ def is_same(left: Optional[str], right: str) -> bool:
 
 @dataclass(frozen=True)
 class Change:
-    """A test of which something else has to be said than the office keeps; without a version it is lifted."""
+    """A test on which the office keeps something else than is right; without a version it is lifted."""
 
     test: Test
     number: int
@@ -117,14 +117,14 @@ class Change:
 
 @dataclass(frozen=True)
 class Found:
-    """What has to be told, and the tests that stay as they are since there is no result yet."""
+    """What has to be sent, and the tests that stay as they are since there is no result yet."""
 
     changes: Sequence[Change]
     waiting: Sequence[Test]
 
 
 def changes(verdicts: Verdicts, book: Book) -> Found:
-    """What has to be told about tests, by source, package and architecture."""
+    """What has to be sent about tests, by source, package and architecture."""
     numbers = {test_of(book, number): number for number in sorted(book.bugs, reverse=True)}
     free = (number for number in NUMBERS if number not in book.bugs)
     found: list[Change] = []

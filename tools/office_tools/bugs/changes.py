@@ -1,4 +1,4 @@
-"""What has to be told about bugs, so that the office holds against a source what the lists hold against it."""
+"""What has to be sent about bugs, so that the office holds against a source what the lists do."""
 import itertools
 from dataclasses import dataclass, field
 from typing import Iterator, Mapping, Optional, Sequence
@@ -70,7 +70,7 @@ CLOSED = State(Severity.WISHLIST)
 
 @dataclass(frozen=True)
 class Standing:
-    """The versions of a source in unstable and in testing, where it is there."""
+    """The versions of a source in unstable and in testing, if they have it."""
 
     unstable: Optional[str]
     testing: Optional[str]
@@ -143,7 +143,7 @@ def pair_of(book: Book, number: int) -> Optional[Pair]:
 
 @dataclass(frozen=True)
 class Change:
-    """A bug of which something else has to be said than the office keeps."""
+    """A bug on which the office keeps something else than is right."""
 
     pair: Pair
     number: int
@@ -167,7 +167,7 @@ class Change:
 
 
 def changes(lists: Lists, book: Book, names: tuple[Names, Names]) -> Iterator[Change]:
-    """Each bug about which the office has to be told, by source and number."""
+    """Each bug about which something has to be sent, by source and number."""
     numbers = numbers_of(book)
     own = {pair for pair, number in numbers.of_pair.items() if book.told(number) is not None}
     for pair in sorted(own | set(lists.pairs)):

@@ -15,7 +15,7 @@ from office_tools.faults import Fault
 NAME = "office-bugs"
 URL = "http://127.0.0.1:8080"
 MOST_CLOSED, SHARE = 20, 10
-"""More than so many bugs, and more than one in so many of the open ones, aren't closed unasked."""
+"""Most bugs that are closed unasked, and one in how many of the open ones; not if both are exceeded."""
 SHOWN = 10  # names that are printed
 
 tell = functools.partial(faults.tell, NAME)

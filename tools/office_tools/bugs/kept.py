@@ -95,7 +95,7 @@ def read_book(service: Service, mark: str) -> Book:
 
 
 def bugs_sender(service: Service, senders: Sequence[str]) -> str:
-    """The sender that may send bugs, which the office is asked for without mailing anything."""
+    """The sender that may send bugs, found by asking the office without mailing anything."""
     for sender in senders:
         text = messages.bug(Label(sender, GREATEST), 1, "office", Severity.WISHLIST)
         if verdict(service, text) not in WRONG_ROLE:

@@ -50,7 +50,7 @@ def prepared(settings: Settings) -> None:
 
 
 def patient(service: Service, patience: int) -> Sequence[Line]:
-    """The sources that wait for long; none where the office doesn't say so."""
+    """The sources that wait for long; none if the office doesn't report that."""
     try:
         finished = service.status().finished
         return list(waiting(service.excuses(finished), service.update(finished), patience)) if finished else []
@@ -67,7 +67,7 @@ def watched(ran: Ran) -> None:
 
 
 def summary(day: datetime.date, status: int, done: Sequence[Ran], lines: Sequence[Line]) -> str:
-    """A mail that says what the day did, and what stands still."""
+    """A mail on what the day did, and on what doesn't move."""
     moved = [line for ran in done for line in ran.out if line.startswith(("came: source ", "went: source "))]
     other = [f"{ran.name}: {line}" for ran in done for line in ran.out if not line.startswith(("came: ", "went: "))]
     notes = list(dict.fromkeys(f"{ran.name}: {line}" for ran in done for line in ran.err))

@@ -19,7 +19,7 @@ PATIENCE = 30  # days
 
 @dataclass(frozen=True)
 class Settings:
-    """The words of each step, the folder of what is remembered, and from how many days of waiting on a line is told."""
+    """The words of each step, the folder of what is remembered, and the days of waiting that make a line printed."""
 
     url: str
     setup: str

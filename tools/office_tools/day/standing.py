@@ -1,4 +1,4 @@
-"""What stands still, and for how many days."""
+"""What doesn't move, and for how many days."""
 import contextlib
 import datetime
 import json
@@ -29,8 +29,7 @@ class Line:
 
 @dataclass
 class Memory:
-    """Each line of the last day, behind its step, with the day on which it was first seen. It may be lost at any time.
-    """
+    """Each line of the last day, after its step, with the day on which it was first seen. It can be lost any time."""
 
     path: str
     today: datetime.date

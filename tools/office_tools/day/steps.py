@@ -36,8 +36,8 @@ class Steps:
     def run(self, has_testing: bool) -> int:
         """The whole day: the status.
 
-        What stands is applied first, so that the next pull can't take away what an order saw. Before that the office
-        has to have all mail that it had.
+        The testing so far is applied first, so that the next pull can't take away what an order saw. Before that the
+        office has to have all mail that it had.
         """
         plan: list[Callable[[], Ran]] = [self.check, *([self.apply] if has_testing else [])]
         plan += [self.pull] if self.settings.pull else []

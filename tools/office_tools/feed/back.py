@@ -1,7 +1,7 @@
-"""What the archive has once more, or at a lower version than the office was told: as what it is told, if it is.
+"""What the archive has once more, or at a lower version than was sent: under the version that is sent for it, if any.
 
-The office takes the greatest version of a source, and a package above all that was dropped. So what came back is told
-under a version above both, which ends in `+backN` and stands for the archive's (apply/marks.py). Such a package also
+The office takes the greatest version of a source, and a package above all that was dropped. So what came back is sent
+under a version above both, which ends in `+backN` and means the archive's (apply/marks.py). Such a package also
 provides its own name at the archive's version, which other packages may need.
 """
 import dataclasses
@@ -26,12 +26,12 @@ class Archive:
     testing: reports.Testing
 
     def told_version(self, source: str) -> Optional[str]:
-        """The archive's version that a source was told at last, without marks."""
+        """The archive's version that was last sent for a source, without marks."""
         version = self.known.versions.get(source)
         return None if version is None else marks.source_version(version)
 
     def is_lower(self, source: str) -> bool:
-        """Whether the archive has less of a source than was told."""
+        """Whether the archive has less of a source than was sent."""
         told = self.told_version(source)
         return told is not None and versions.compare(self.sources[source], told) < 0
 
@@ -48,11 +48,11 @@ class Archive:
 
 @dataclass
 class Retold:
-    """The versions under which sources and packages are told that came back, and the packages that are dropped.
+    """The versions under which returned sources and packages are sent, and the packages that are dropped.
 
-    `urgent` are the sources that wait no days, `again` those whose age begins once more; `under` has the source's
-    version of packages that are told under another one than they were built of. `lines` and `alone` are what is told of
-    sources and of packages alone. `staying` are the made-up sources of packages that stay, `extra` such packages.
+    `urgent` are the sources that wait no days, `again` those whose age begins once more. `under` has the source's
+    version of packages that are sent under another one than they were built of. `lines` and `alone` are the lines on
+    sources and on packages alone. `staying` are the made-up sources of packages that stay, `extra` such packages.
     """
 
     sources: dict[str, str] = field(default_factory=dict)
@@ -67,7 +67,7 @@ class Retold:
     alone: dict[Key, str] = field(default_factory=dict)
 
     def tell(self) -> None:
-        """Tells what is told again: a line for each source, or for a package alone."""
+        """Reports what is sent again: a line for each source, or for a package alone."""
         for source, line in self.lines.items():
             if source in self.sources:
                 tell(line, Weight.ONCE)
@@ -76,7 +76,7 @@ class Retold:
                 tell(line, Weight.ONCE)
 
     def told(self, binary: Binary, source_version: Optional[str]) -> Binary:
-        """A package as it is told: under its own version or a made-up one, of its source at this version."""
+        """A package as it is sent: under its own version or a made-up one, of its source at this version."""
         version = self.packages.get(binary.key, binary.version)
         fields = dict(binary.fields)
         if version != binary.version:
@@ -90,7 +90,7 @@ class Retold:
 
 
 def came_back(archive: Archive, allowed: Sequence[str]) -> Retold:
-    """What is told again, and what is dropped since the archive has less of it. `allowed` are the sources that may go
+    """What is sent again, and what is dropped since the archive has less of it. `allowed` are the sources that may go
     back in testing.
     """
     found = Retold()
@@ -114,7 +114,7 @@ def came_back(archive: Archive, allowed: Sequence[str]) -> Retold:
 
 @dataclass(frozen=True)
 class Withdrawal:
-    """A source of which the archive has less than was told, its packages there, and what is told and not dropped."""
+    """A source with less in the archive than was sent, its packages there, and what was sent and not dropped."""
 
     source: str
     version: str
@@ -124,13 +124,13 @@ class Withdrawal:
 
     @property
     def lower(self) -> Mapping[Key, str]:
-        """The packages that the archive has at a lower version than they were told, with what they were told at."""
+        """The packages with a lower version in the archive than was sent, and the sent versions."""
         return {binary.key: self.live[binary.key] for binary in self.own if binary.key in self.live
                 and versions.compare(binary.version, marks.package_version(self.live[binary.key])) < 0}
 
 
 def withdrawn(archive: Archive, found: Retold, gone: Withdrawal, allowed: Sequence[str]) -> None:
-    """Drops what was withdrawn, and tells the older version if testing is to have it."""
+    """Drops what was withdrawn, and sends the older version if testing is to have it."""
     source, version, told = gone.source, gone.version, gone.told
     held = archive.held_version(source)
     is_ahead = held is not None and versions.compare(held, version) > 0
@@ -147,11 +147,11 @@ def withdrawn(archive: Archive, found: Retold, gone: Withdrawal, allowed: Sequen
         found.urgent.add(source)
     retell(archive, found, source, gone.own)
     found.drops.update({key: version for key, version in gone.lower.items() if key not in found.packages})
-    found.lines[source] = f"source {source} {told}: it was withdrawn: {version} is told as {found.sources[source]}"
+    found.lines[source] = f"source {source} {told}: it was withdrawn: {version} is sent as {found.sources[source]}"
 
 
 def retell(archive: Archive, found: Retold, source: str, own: Iterable[Binary]) -> None:
-    """Tells all packages of a source again that are built of its version in the archive."""
+    """Sends all packages of a source again that are built of its version in the archive."""
     for binary in own:
         if versions.compare(binary.source_version, archive.sources[source]) == 0:
             bound = archive.known.bound(binary.key)
@@ -160,9 +160,9 @@ def retell(archive: Archive, found: Retold, source: str, own: Iterable[Binary]) 
 
 
 def alone(archive: Archive, found: Retold, live: Mapping[Key, str]) -> None:
-    """Packages that were dropped and are back, or of which the archive has less, though not of their source.
+    """Packages that were dropped and are back, or that the archive has less of, though not of their source.
 
-    They are told again, unless testing has them all the same; what was told above them is dropped then.
+    They are sent again, unless testing has them all the same; what was sent above them is dropped then.
     """
     held = {(row.package, row.architecture): marks.package_version(row.version) for row in archive.testing.rows}
     for binary in archive.binaries:
@@ -180,7 +180,7 @@ def alone(archive: Archive, found: Retold, live: Mapping[Key, str]) -> None:
             continue
         found.packages[key] = marks.back(bound, binary.version)
         found.alone[key] = f"{binary.name} {binary.architecture} {binary.version}: it is back below {bound}, which " \
-            f"was {'told' if key in live else 'dropped'}: told as {found.packages[key]}"
+            f"was {'sent' if key in live else 'dropped'}: sent as {found.packages[key]}"
 
 
 def without_strange(archive: Archive, found: Retold) -> None:
@@ -197,7 +197,7 @@ def without_strange(archive: Archive, found: Retold) -> None:
             found.drops[binary.key] = live[binary.key]
         if binary.key in strange:
             tell(f"{binary.name} {binary.architecture} {binary.version}: left out: {strange[binary.key]}, which the "
-                 "version that it would be told as meets", Weight.STANDS)
+                 "version that it would be sent as meets", Weight.STANDS)
 
 
 def strange_needs(binaries: Sequence[Binary], packages: Mapping[Key, str]) -> Iterator[tuple[Key, str]]:

@@ -24,26 +24,26 @@ SHOWN = 5  # names that a fault names
 
 
 def check_senders(kept: Mapping[str, Kept], own: Sequence[str]) -> None:
-    """Refuses an office that lacks a sender which this command needs."""
+    """Refuses an office without a sender that this command needs."""
     for sender in own:
         if sender not in kept:
             raise Fault(f"the office has another setup: it has no sender {sender}", REFUSED)
 
 
 def check_gaps(kept: Mapping[str, Kept], own: Sequence[str], allowed: Sequence[str]) -> None:
-    """Refuses a gap in the mail of a sender: an order wouldn't cover what stands behind it, such as a bug.
+    """Refuses a gap in the mail of a sender: an order wouldn't cover what follows it, such as a bug.
 
     A gap of a sender whose numbers this command gives can't be allowed: its next number would be one of the gap's.
     """
     for sender, count in kept.items():
         if count.greatest != count.unbroken and (sender in own or sender not in allowed):
-            way = "" if sender in own else f", or allow it by --gap {sender}: then no order sees what is behind it"
-            raise Fault(f"{sender} {count.unbroken + 1} isn't kept, and {sender} {count.greatest} is: send what lacks "
-                        f"first, or a message of the kind none in its place{way}", REFUSED)
+            way = "" if sender in own else f", or allow it by --gap {sender}: then no order sees what follows it"
+            raise Fault(f"{sender} {count.unbroken + 1} isn't kept, and {sender} {count.greatest} is: send what is "
+                        f"missing first, or a message of the kind none in its place{way}", REFUSED)
 
 
 def check_day(day: Optional[datetime.date], today: datetime.date, last: datetime.date) -> None:
-    """Refuses a day by the clock that can't be right beside the last order's. A day that is stated is believed."""
+    """Refuses a day by the clock that can't be right, given the last order's. A day that is stated is believed."""
     if day is not None or last == datetime.date.min:
         return
     if today < last:
@@ -88,7 +88,7 @@ def date_of(text: str) -> Optional[datetime.datetime]:
 
 @dataclass(frozen=True)
 class Gone:
-    """The packages that would be dropped, those that were told and not dropped, and what the archive and testing have.
+    """The packages that would be dropped, those sent and not dropped, and what the archive and testing have.
 
     `sources` has each source's version in the archive.
     """
@@ -117,7 +117,7 @@ class Gone:
     def broken(self, box: Mailbox) -> Iterator[str]:
         """The packages of testing that unstable still has, and that can't be installed there without what is gone.
 
-        A package that a newer version of its own source takes the place of is no slip, so it isn't among what is gone.
+        A package replaced by a newer version of its own source is no slip, so it isn't among what is gone.
         """
         lost = self.needed(box)
         architectures = sorted({binary.architecture for binary in self.binaries} - {"all"})
@@ -147,7 +147,7 @@ class Gone:
 
 
 def packages_named(box: Mailbox, names: Collection[str]) -> Iterator[Binary]:
-    """All that the mail tells of packages of these names, and of others of the same messages."""
+    """All that the mail says of packages of these names, and of others of the same messages."""
     asked = {name.encode() for name in names}
     for text in box.texts(b"\nKind: build\n") if asked else ():
         if not asked.isdisjoint(PACKAGE.findall(text)):

@@ -37,7 +37,7 @@ class Feed:
     sending: Sending
 
     def is_due(self, kept: Mapping[str, Kept], day: datetime.date) -> bool:
-        """Whether there is mail that no order covers, or the day is behind that of all orders."""
+        """Whether there is mail that no order covers, or the day is after that of all orders."""
         known = self.box.known
         return day > known.last_order or any(count.unbroken > known.covers.get(sender, 0)
                                              for sender, count in kept.items() if sender != self.sending.runs)
@@ -53,7 +53,7 @@ class Feed:
         return self.sending.send(orders)
 
     def ordered(self, day: datetime.date, is_asked: Optional[bool], found: News, sent: int) -> bool:
-        """Orders a run where one is due or asked for, and tells how it stands: whether no run waits."""
+        """Orders a run if one is due or asked for, and reports the state: whether no run waits."""
         is_due = is_asked is not False and (is_asked or sent > 0 or self.is_due(dict(self.service.kept()), day))
         print(f"{found.summary()}, orders {self.order(day, is_due)}")
         return self.stands()
@@ -69,7 +69,7 @@ class Feed:
             tell(f"run {after.finished} was cut off, and is finished now", Weight.ONCE)
 
     def stands(self) -> bool:
-        """Tells how it stands, and what an ordered run waits for: whether none waits."""
+        """Reports the state, and what an ordered run waits for: whether none waits."""
         status = self.service.status()
         if status.finished < status.ready:
             self.service.post("/settle")
@@ -83,7 +83,7 @@ class Feed:
         return not lines
 
     def proposals(self, day: datetime.date) -> Sequence[bytes]:
-        """Hints for the groups that the office proposes, but for those that stand already."""
+        """Hints for the groups that the office proposes, without those in force."""
         wishes = (self.service.proposed() or "").splitlines()
         standing: dict[int, str] = {}
         for item in self.service.hints().items:
@@ -92,7 +92,7 @@ class Feed:
         return list(proposals.letters(new, HINTS, self.service.kept()[HINTS].unbroken, day.isoformat()))
 
     def propose(self, day: datetime.date, is_asked: Optional[bool]) -> None:
-        """Mails hints for the groups that the office proposes, and orders a run over them where runs are ordered."""
+        """Mails hints for the groups that the office proposes, and orders a run over them if runs are ordered."""
         hints = self.proposals(day)
         count = self.sending.send(hints)
         print(f"proposed {count}, orders {self.order(day, count > 0 and is_asked is not False)}")
@@ -168,7 +168,7 @@ class Turn:
         return feed
 
     def arrivals(self, feed: Feed) -> Arrivals:
-        """How uploads came by the files .changes. Behind the first order all came on the day of this feed."""
+        """How uploads came by the files .changes. After the first order all came on the day of this feed."""
         arrived = Arrival(Urgency.MEDIUM, self.day.isoformat())
         found = read_arrivals(self.asked.changes, arrived, self.changes.read)
         if not feed.box.known.last_day:

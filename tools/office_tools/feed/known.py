@@ -50,7 +50,7 @@ class Known:
         return datetime.date.fromisoformat(self.last_day) if self.last_day else datetime.date.min
 
     def bound(self, key: Key) -> str:
-        """The version above which a package has to be told so that it counts; an empty text if there is none."""
+        """The version above which a package has to be sent so that it counts; an empty text if there is none."""
         told, dropped = self.packages.get(key, ""), self.dropped.get(key, "")
         return told if told and (not dropped or versions.compare(told, dropped) > 0) else dropped
 

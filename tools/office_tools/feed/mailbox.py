@@ -1,6 +1,6 @@
 """All mail that the office keeps, fetched, and remembered in a folder.
 
-The folder's bag is a backup of the office's mail, too. It only grows: a message is put behind the others once.
+The folder's bag is a backup of the office's mail, too. It only grows: a message is appended once.
 """
 import contextlib
 import fcntl
@@ -29,7 +29,7 @@ SHOWN = 5  # senders that a fault names
 
 
 def folder_for(asked: Optional[str], service: Service) -> str:
-    """The folder of what is remembered of an office; it is made where there is none."""
+    """The folder of what is remembered of an office; it is made if there is none."""
     caches = os.environ.get("XDG_CACHE_HOME") or os.path.expanduser("~/.cache")
     # apt takes a name that doesn't begin at the root as one below its own folder.
     place = os.path.abspath(asked or os.path.join(caches, "office-feed", urllib.parse.quote(service.url, "")))
@@ -115,10 +115,10 @@ class Folder:
         return os.path.join(self.path, BAG)
 
     def read(self) -> Known:
-        """What the mail in the folder says. Only what was put into the bag since the last time is read.
+        """What the mail in the folder says. Only what was added to the bag since the last time is read.
 
-        A bag whose end is cut off, as a full disk leaves it, loses that end. One that is no bag is kept under another
-        name, and counts as none.
+        If a full disk cut off the end of a bag, that end is lost. A file that is no bag is kept under another name, and
+        counts as none.
         """
         data = read_bytes(self.bag) if os.path.exists(self.bag) else b""
         found, start = self.known_of(data)
@@ -155,7 +155,7 @@ class Folder:
         return Known()
 
     def add(self, texts: Sequence[bytes]) -> None:
-        """Puts messages behind those of the bag."""
+        """Appends messages to those of the bag."""
         try:
             with open(self.bag, "ab") as file:
                 for text in texts:
@@ -177,7 +177,7 @@ def digest(data: bytes) -> str:
 
 
 def take(found: Known, text: bytes) -> None:
-    """Takes a message of the bag on, if it is its sender's next one; one behind a gap only stays in the bag."""
+    """Takes a message of the bag, if it is its sender's next one; one after a gap only stays in the bag."""
     label = label_of(text)
     if label is None:
         raise Fault("it has a text that is no message")
@@ -188,7 +188,7 @@ def take(found: Known, text: bytes) -> None:
 def fetch(service: Service, folder: str) -> Mailbox:
     """All mail that the service keeps. What the folder has isn't asked for again.
 
-    A folder that belongs to another office, or has mail that this one lacks, is refused and stays as it is.
+    A folder that belongs to another office, or has mail that this one doesn't have, is refused and stays as it is.
     """
     place = Folder(folder)
     kept = service.kept()
@@ -213,12 +213,12 @@ def fetch(service: Service, folder: str) -> Mailbox:
 
 
 def is_more(found: Known, count: Kept, sender: str) -> bool:
-    """Whether the office keeps mail of a sender that the folder lacks."""
+    """Whether the office keeps mail of a sender that is missing in the folder."""
     return count.unbroken > found.taken.get(sender, 0)
 
 
 def check_office(service: Service, kept: Mapping[str, Kept], found: Known, folder: str) -> None:
-    """Refuses a folder of another office, and one that has mail which the office lacks or has otherwise."""
+    """Refuses a folder of another office, and one with mail that the office doesn't have or has otherwise."""
     other = f"{folder} belongs to another office than {service.url}"
     ways = "name another folder by --cache, or remove this one if it isn't needed"
     strange = sorted(set(found.taken) - set(kept))
@@ -233,7 +233,7 @@ def check_office(service: Service, kept: Mapping[str, Kept], found: Known, folde
             lacking.append(f"{sender} {kept[sender].unbroken + 1} to {number}")
         elif service.kept_text(sender, number) != (last or [first])[-1].encode():
             raise Fault(f"the office keeps another text as {sender} {number} than {folder}/{BAG}: its store was "
-                        "restored, and went on; that bag has the mail of before: compare both, and make the office "
+                        "restored, and continued; that bag has the mail of before: compare both, and make the office "
                         "again from the right mail", REFUSED)
     if lacking:
         more = f" and {len(lacking) - SHOWN} more senders" if len(lacking) > SHOWN else ""

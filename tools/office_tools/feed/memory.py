@@ -1,4 +1,4 @@
-"""What a folder remembers beside the mail: it may be lost at any time, and then only what is known from it is."""
+"""What a folder remembers next to the mail: it may be lost at any time, and then only what is known from it is."""
 import contextlib
 import json
 import os
@@ -17,7 +17,7 @@ MEMORY = "memory.json"
 class Memory:
     """What is remembered.
 
-    `lines`: each line that the last turn told, with the day since which. `releases`: what was seen last of each file
+    `lines`: each line that the last turn printed, with the day since which. `releases`: the last state of each file
     Release: its date and lists. `changes`: what each file .changes says, so that it is read once.
     """
 

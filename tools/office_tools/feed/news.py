@@ -1,4 +1,4 @@
-"""What is new in an archive since the office's kept mail: the messages that tell it."""
+"""What is new in an archive since the office's kept mail: the messages on it."""
 import dataclasses
 from collections import Counter
 from dataclasses import dataclass, field
@@ -58,7 +58,7 @@ class News:
 
     @property
     def texts(self) -> Sequence[bytes]:
-        """All of them, in the order in which they are sent: an upload's builds behind it."""
+        """All of them, in the order in which they are sent: an upload before its builds."""
         return [*self.uploads, *self.drops, *self.builds, *self.hints, *self.unhints]
 
     def summary(self) -> str:
@@ -72,7 +72,7 @@ class News:
 
 @dataclass(frozen=True)
 class Told:
-    """What the office tells of testing, and of the hints in force."""
+    """What the office says of testing, and of the hints in force."""
 
     testing: reports.Testing
     hints: reports.Hints
@@ -80,7 +80,7 @@ class Told:
 
 @dataclass(frozen=True)
 class Ways:
-    """The day of the feed, how uploads came, and what it may do: tell rebuilds, and let these sources go back."""
+    """The day of the feed, how uploads came, and what it may do: send rebuilds, and let these sources go back."""
 
     day: str
     known: Arrivals = field(default_factory=dict)
@@ -90,7 +90,7 @@ class Ways:
 
 
 def news(unstable: Unstable, box: Mailbox, told: Told, ways: Ways) -> tuple[News, Mapping[Key, str]]:
-    """What the archive has and the mail doesn't tell; and the packages that are gone, for the brakes."""
+    """What the archive has and the mail doesn't say; and the packages that are gone, for the brakes."""
     look_at(unstable, box)
     archive = Archive(unstable.sources, unstable.binaries, box.known, told.testing)
     retold = came_back(archive, ways.back)
@@ -121,16 +121,16 @@ def news(unstable: Unstable, box: Mailbox, told: Told, ways: Ways) -> tuple[News
 
 
 def look_at(unstable: Unstable, box: Mailbox) -> None:
-    """Refuses indexes that lack an architecture of which the mail tells."""
+    """Refuses indexes without an architecture that the mail names."""
     counted = Counter(architecture for _, architecture in box.known.live)
     lacking = sorted(set(counted) - set(unstable.architectures) - {"all"})
     if lacking:
-        raise Fault(f"the indexes have no package of {', '.join(lacking)}, and the office was told "
+        raise Fault(f"the indexes have no package of {', '.join(lacking)}, and the office was sent "
                     f"{counted[lacking[0]]} of {lacking[0]}: all would be dropped", REFUSED)
 
 
 def uploads(archive: Archive, box: Mailbox, retold: Retold, ways: Ways) -> Iterator[bytes]:
-    """An upload of each source that is new, or that is told again under another version."""
+    """An upload of each source that is new, or that is sent again under another version."""
     for name in sorted(set(box.known.versions) - set(archive.sources)):
         if not marks.is_made_up(name):
             tell(f"source {name} {box.known.versions[name]}: it is gone, and nothing takes an upload back", Weight.NOTE)
@@ -161,7 +161,7 @@ def arrival_of(name: str, version: str, ways: Ways) -> Arrival:
 
 
 def first_arrival(box: Mailbox, name: str, version: str) -> Optional[Arrival]:
-    """How a version of a source came by the upload that told it first."""
+    """How a version of a source came, by the first upload of it."""
     for text in box.texts(f"Source: {name}\n".encode()):
         first = first_of(text)
         if kind_of(first) is Kind.UPLOAD and first.value("Source") == name and \
@@ -173,7 +173,7 @@ def first_arrival(box: Mailbox, name: str, version: str) -> Optional[Arrival]:
 
 
 def gone_from(archive: Archive) -> Iterator[tuple[Key, str]]:
-    """The packages that were told and are gone from the archive, but for those that leave or stay by a mark."""
+    """The packages that were sent and are gone from the archive, without those that leave or stay by a mark."""
     there = {binary.key for binary in archive.binaries}
     for key, version in archive.known.live.items():
         if key not in there and not version.endswith(marks.LEAVING) and archive.known.staying.get(key) != version:
@@ -181,7 +181,7 @@ def gone_from(archive: Archive) -> Iterator[tuple[Key, str]]:
 
 
 def packages(archive: Archive, retold: Retold, others: set[Key]) -> Iterator[Binary]:
-    """The packages that are new, or told again, as they are told; without those that other senders tell."""
+    """The packages that are new, or sent again, as they are sent; without those from other senders."""
     for binary in archive.binaries:
         source = retold.sources.get(binary.source)
         last = archive.known.versions.get(binary.source, "")
@@ -195,7 +195,7 @@ def packages(archive: Archive, retold: Retold, others: set[Key]) -> Iterator[Bin
 
 
 def standing(known: Known) -> Iterator[Removal]:
-    """The hints that stand and take sources out of testing."""
+    """The hints in force that take sources out of testing."""
     letters = known.letters()
     cancelled = {int(first.value("Cancels") or 0) for _, first in letters if kind_of(first) is Kind.UNHINT}
     for number, first in letters:
@@ -214,7 +214,7 @@ def removals_of(number: int, first: Paragraph) -> Iterator[Removal]:
 
 def removal_hints(sources: Sequence[str], testing: reports.Testing, removals: Sequence[Removal],
                   after: int) -> Iterator[bytes]:
-    """A hint for each of these sources, in this order, if none stands that takes it out."""
+    """A hint for each of these sources, in this order, unless one in force takes it out."""
     number = after
     for source in sources:
         version = testing.sources[source]
@@ -230,7 +230,7 @@ def leaving(unstable: Unstable, testing: reports.Testing, box: Mailbox, is_smoot
     Sources of packages that stay are among them, if this command takes care of them: the office refuses to remove one
     as long as something needs it.
 
-    A run takes each hint to remove a source once, by number. Sources that need each other stand in order of names.
+    A run takes each hint to remove a source once, by number. Sources that need each other are in order of names.
     """
     left = sorted(source for source, version in testing.sources.items() if source not in unstable.sources
                   and (is_smooth or not marks.is_made_up(source))
@@ -260,7 +260,7 @@ def needs_among(sources: Sequence[str], testing: reports.Testing, box: Mailbox) 
 
 def taken_back(unstable: Unstable, testing: reports.Testing, removals: Sequence[Removal],
                told: Mapping[str, str]) -> Iterator[int]:
-    """This command's hints for sources that have left testing, are back, or are told without their needs first."""
+    """This command's hints for sources that have left testing, are back, or are sent without their needs first."""
     for removal in removals:
         held = testing.sources.get(removal.source)
         is_done = held is None or not is_same(held, removal.version)
@@ -270,7 +270,7 @@ def taken_back(unstable: Unstable, testing: reports.Testing, removals: Sequence[
 
 
 def spent(known: Known, hints: reports.Hints) -> Iterator[int]:
-    """The hints that were mailed for the office's proposals whose groups have moved, or can't move as told any more."""
+    """The hints mailed for the office's proposals whose groups have moved, or can't move as stated any more."""
     for number, first in known.letters():
         if kind_of(first) is Kind.HINT and first.value(PROPOSED) is not None:
             standings = [item.standing for item in hints.items if item.number == number]

@@ -1,7 +1,7 @@
-"""Packages that were built anew of a source that is in testing (binNMU): the office moves packages with a source alone.
+"""Packages rebuilt from a source that is in testing (binNMU): the office moves packages only with a source.
 
-So the source is told as a new version, which ends in `+bN`, and all its packages are told under it. Those that were
-told before are told again by a spare sender, which stands before the others in the setup, or under a made-up version.
+So the source is sent as a new version, which ends in `+bN`, with all its packages under it. Those that were sent before
+are sent again by a spare sender, which precedes the others in the setup, or under a made-up version.
 """
 from collections import defaultdict
 from dataclasses import dataclass, field
@@ -19,7 +19,7 @@ from office_tools.messages import Label
 
 @dataclass
 class Rebuilds:
-    """The packages that the spare senders tell again, by their senders."""
+    """The packages that the spare senders send again, by their senders."""
 
     again: dict[str, list[Binary]] = field(default_factory=lambda: defaultdict(list))
 
@@ -29,7 +29,7 @@ class Rebuilds:
         return {binary.key for binaries in self.again.values() for binary in binaries}
 
     def builds(self, box: Mailbox, retold: Retold) -> Iterator[bytes]:
-        """What the spare senders tell again, in as many messages as it needs."""
+        """What the spare senders send again, in as many messages as it needs."""
         for sender, binaries in self.again.items():
             number = box.kept[sender].unbroken
             told = {**retold.sources, **retold.staying}
@@ -43,7 +43,7 @@ class Rebuilds:
 
 
 def fitting(parts: Sequence[bytes]) -> int:
-    """How many of these paragraphs one message takes. Each fits alone, but for a version that makes it longer."""
+    """How many of these paragraphs one message takes. Each fits alone, except a version that makes it longer."""
     room = 60000
     count = 0
     while count < min(len(parts), messages.MOST_BINARIES) and (count == 0 or room >= len(parts[count])):
@@ -53,9 +53,9 @@ def fitting(parts: Sequence[bytes]) -> int:
 
 
 def rebuilds(archive: Archive, box: Mailbox, retold: Retold) -> Rebuilds:
-    """What was rebuilt since it was told, or was told without a new version of its source and so didn't move.
+    """What was rebuilt since it was sent, or was sent without a new version of its source and so didn't move.
 
-    The versions of its sources, and of packages for which no spare sender is left, are put among those told again.
+    The versions of its sources, and of packages without a spare sender left, are put among those sent again.
     """
     found = Rebuilds()
     known, testing = archive.known, archive.testing
@@ -78,7 +78,7 @@ def rebuilds(archive: Archive, box: Mailbox, retold: Retold) -> Rebuilds:
                 found.again[spares[-1]].append(binary)
             else:
                 retold.packages[binary.key] = marks.back(known.bound(binary.key), binary.version)
-        tell(f"{source}: rebuilt: told as {retold.sources[source]}", Weight.NOTE)
+        tell(f"{source}: rebuilt: sent as {retold.sources[source]}", Weight.NOTE)
         if is_last:
             tell(f"{source}: its last spare sender is used: its next rebuild takes made-up versions of packages",
                  Weight.ONCE)
@@ -99,7 +99,7 @@ def by_source(binaries: Sequence[Binary], testing: reports.Testing) -> Mapping[s
 
 
 def is_new(binary: Binary, known: Known) -> bool:
-    """Whether a package is above what was told of it and what was dropped."""
+    """Whether a package is above what was sent of it and what was dropped."""
     bound = known.bound(binary.key)
     return not bound or versions.compare(binary.version, bound) > 0
 
@@ -111,7 +111,7 @@ def is_above(binary: Binary, held: Mapping[Key, str]) -> bool:
 
 
 def next_version(version: str, told: str) -> str:
-    """The version behind the one by which a source was told last."""
+    """The version after the one under which a source was last sent."""
     if marks.is_back(told):
         return marks.back(told, version)
     rebuilt = marks.REBUILT_AT_END.search(told) if marks.source_version(told) == version else None
@@ -119,10 +119,10 @@ def next_version(version: str, told: str) -> str:
 
 
 def spares_for(binary: Binary, box: Mailbox) -> Sequence[str]:
-    """The spare senders that can tell a package again: those that stand before all that told it.
+    """The spare senders that can send a package again: those before all that sent it.
 
-    There is none for a package that was told under another version than its own, or dropped: its version alone counts
-    then.
+    There is none for a package that was sent under another version than its own, or dropped: then only its version
+    counts.
     """
     told, dropped = box.known.packages.get(binary.key, ""), box.known.dropped.get(binary.key)
     if told != binary.version or dropped is not None and versions.compare(told, dropped) <= 0:

@@ -1,4 +1,4 @@
-"""A store that was restored from an older backup gets the mail again that the folder remembers."""
+"""A restored older backup of a store gets the mail again that the folder remembers."""
 from collections import defaultdict
 
 from office_tools import bags
@@ -12,7 +12,7 @@ from office_tools.service import Service
 
 
 def restore(service: Service, folder: str) -> int:
-    """Posts the mail of the folder's bag that the office lacks, each sender's in order: the status."""
+    """Posts the mail of the folder's bag that the office doesn't have, each sender's in order: the status."""
     place = Folder(folder)
     found = place.read()
     kept = service.kept()
@@ -29,12 +29,12 @@ def restore(service: Service, folder: str) -> int:
         for number in {1, last} if last else ():
             if service.kept_text(sender, number) != own[number]:
                 raise Fault(f"{service.url}: it keeps another text as {sender} {number} than {place.bag}: that office "
-                            "went on by itself, or is another one; nothing was sent", REFUSED)
+                            "continued on its own, or is another one; nothing was sent", REFUSED)
     return post(service, texts, {sender: count.unbroken for sender, count in kept.items()})
 
 
 def post(service: Service, texts: dict[str, dict[int, bytes]], last: dict[str, int]) -> int:
-    """Posts each sender's mail behind its last number: status 0 if all is held."""
+    """Posts each sender's mail after its last number: status 0 if all is held."""
     count, refused = 0, 0
     for sender, own in texts.items():
         for number in sorted(number for number in own if number > last[sender]):

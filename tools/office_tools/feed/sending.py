@@ -23,7 +23,7 @@ CAUSES = {OTHER_TEXT: "somebody else sends as {sender} too: run it again",
 
 @dataclass(frozen=True)
 class Sending:
-    """A running office, the sender of its orders, and where is written down what is posted."""
+    """A running office, the sender of its orders, and the place where posts are written down."""
 
     service: Service
     runs: str
@@ -78,7 +78,7 @@ class Sending:
             raise Fault(f"{self.service.url}: {sender} {number}: {reply}{told}", REFUSED)
 
     def without_refused(self, text: bytes) -> Optional[bytes]:
-        """A message without the packages that the office refuses; None if nothing is left of it. Each is told."""
+        """A message without the packages that the office refuses; None if nothing is left of it. Each is reported."""
         first, *others = paragraphs(text)
         label = label_of(text)
         if kind_of(first) is not Kind.BUILD or label is None or len(others) == 1:
@@ -132,7 +132,7 @@ def next_label(sender: str, kept: Mapping[str, Kept]) -> Label:
 
 
 def check_architectures(service: Service, sender: str, kept: Mapping[str, Kept], names: Sequence[str]) -> None:
-    """Refuses indexes of an architecture that the office's setup lacks: the office is asked about a drop there."""
+    """Refuses indexes of an architecture that isn't in the office's setup: the office is asked about a drop there."""
     for name in names:
         reply = verdict(service, messages.drop(next_label(sender, kept), "aa", name, "0"))
         if reply == "refused UnknownArchitecture":

@@ -1,8 +1,8 @@
-"""Old packages that stay beside newer ones of their source, as long as something of testing needs them (--smooth).
+"""Old packages that stay next to newer ones of their source, as long as something of testing needs them (--smooth).
 
-A source takes all its packages along when it moves. So a package that its newer version has no more, and that others in
-testing need, is told under a source of its own, `smooth-NAME`, before the source moves. That one is removed by a hint,
-which is refused as long as something needs it.
+A source takes all its packages along when it moves. If its newer version no longer has a package, and others in testing
+need that, it is sent under a source of its own, `smooth-NAME`, before the source moves. A hint removes that one, and is
+refused as long as something needs it.
 """
 import dataclasses
 from typing import Iterator, Mapping, Sequence
@@ -20,7 +20,7 @@ from office_tools.relations import Clause
 
 
 def stay(archive: Archive, box: Mailbox, retold: Retold, again: Rebuilds) -> set[Key]:
-    """Tells the packages that stay, each under a source of its own; returns which these are."""
+    """Sends the packages that stay, each under a source of its own; returns which these are."""
     left = leaving(archive)
     held = held_by(archive, box) if left else []
     found: set[Key] = set()
@@ -33,7 +33,7 @@ def stay(archive: Archive, box: Mailbox, retold: Retold, again: Rebuilds) -> set
 
 
 def tell_staying(archive: Archive, box: Mailbox, retold: Retold, again: Rebuilds, binary: Binary) -> None:
-    """Tells one of them, by a spare sender or under a made-up version."""
+    """Sends one of them, by a spare sender or under a made-up version."""
     name = marks.STAYING + binary.name
     version = archive.held_version(binary.source) or binary.source_version
     last = archive.known.versions.get(name)
@@ -74,7 +74,7 @@ def leaving(archive: Archive) -> set[Key]:
 
 
 def held_by(archive: Archive, box: Mailbox) -> Sequence[Binary]:
-    """The packages of testing, as the archive has them, or as the mail told them."""
+    """The packages of testing, as the archive has them, or as the mail says."""
     rows = {(row.package, row.architecture): row for row in archive.testing.rows}
     found = {binary.key: dataclasses.replace(binary, source=rows[binary.key].source) for binary in archive.binaries
              if binary.key in rows and binary.version == rows[binary.key].version}
@@ -124,7 +124,7 @@ def meets(binary: Binary, clause: Clause) -> bool:
 
 
 def left_behind(box: Mailbox, sources: Sequence[str]) -> Mapping[Key, str]:
-    """The packages told under sources that have left testing, with the version up to which each is dropped."""
+    """The packages sent under sources that have left testing, with the version up to which each is dropped."""
     found: dict[Key, str] = {}
     for source in sources:
         for text in box.texts(f"Source: {source}".encode()):

@@ -1,4 +1,4 @@
-"""What the command tells of what it leaves out or what stands still, each line with the day since which it is so."""
+"""The lines on what the command leaves out or what doesn't move, each with the day since which it is so."""
 import datetime
 from dataclasses import dataclass, field
 
@@ -13,15 +13,15 @@ __all__ = ["NAME", "Lines", "Weight", "tell"]
 
 
 def tell(what: str, weight: Weight = Weight.STANDS) -> None:
-    """Tells a line."""
+    """Prints a line."""
     told.tell(what, weight)
 
 
 @dataclass
 class Lines:
-    """The lines of a turn, and the day on which each was first told, by what the folder remembers.
+    """The lines of a turn, and the day on which each was first printed, by what the folder remembers.
 
-    A line that is new is printed at once. One that was told before is printed at the end, with its days, if a person
+    A line that is new is printed at once. One that was printed before comes at the end, with its days, if a person
     should still see it; else it is only counted.
     """
 
@@ -42,11 +42,11 @@ class Lines:
         self.now[what] = weight
 
     def days(self, what: str) -> int:
-        """For how many days a line has been told."""
+        """For how many days a line has been printed."""
         return max((self.day - datetime.date.fromisoformat(self.since.get(what, self.day.isoformat()))).days, 0)
 
     def left(self) -> dict[str, str]:
-        """The day since which each line of this turn is told: what is remembered for the next one."""
+        """The day since which each line of this turn is printed: what is remembered for the next one."""
         return {what: self.since.get(what, self.day.isoformat()) for what in self.now}
 
     @property
@@ -56,7 +56,7 @@ class Lines:
                    for what, weight in self.now.items())
 
     def finish(self) -> None:
-        """Prints what was told before: what stands still with its days, the oldest first, and how much else."""
+        """Prints what was printed before: what doesn't move with its days, the oldest first, and how much else."""
         known = [what for what in self.now if what in self.since and not self.is_full]
         standing = sorted((what for what in known if self.now[what] is Weight.STANDS), key=self.days, reverse=True)
         for what in standing[:SHOWN]:

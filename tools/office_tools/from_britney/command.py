@@ -20,7 +20,7 @@ SHOWN = 10
 def parser() -> argparse.ArgumentParser:
     """The command's words."""
     words = argparse.ArgumentParser(
-        prog=NAME, description="Lets an office run beside britney, and prints where the two differ.",
+        prog=NAME, description="Runs an office next to britney, and prints where the two differ.",
         epilog="Status 0: the mail was written, or both are the same. 1: they differ. 2: the words are wrong. 3: a "
                "file was refused. 4: the program office or the service didn't answer.")
     forms = words.add_subparsers(dest="form", required=True, metavar="FORM")

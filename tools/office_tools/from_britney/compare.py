@@ -31,7 +31,7 @@ class Result:
 
 
 def read_heidi(path: str) -> Result:
-    """What a file HeidiResult has, whose lines are `NAME VERSION ARCHITECTURE`, maybe with the section behind."""
+    """What a file HeidiResult has: lines `NAME VERSION ARCHITECTURE`, maybe with the section after that."""
     found = Result()
     for number, line in enumerate(text_of(path).split("\n"), 1):
         words = line.split()
@@ -63,7 +63,7 @@ def office_result(testing: reports.Testing) -> Result:
 
 @dataclass(frozen=True)
 class Differing:
-    """A source on which both differ: its version in each, if it is there, and the packages that one alone has."""
+    """A source on which both differ: its version in each, if it has one, and the packages that only one has."""
 
     source: str
     britney: Optional[str]
@@ -84,7 +84,7 @@ class Differing:
         return self.britney == self.office
 
     def lines(self) -> Iterator[str]:
-        """What is printed of it: packages too where the version is the same."""
+        """What is printed of it: packages too if the version is the same."""
         yield f"{self.source}: britney {self.britney or '-'}, office {self.office or '-'}"
         if self.is_rows_alone:
             for word, rows in (("britney", self.only_britney), ("office", self.only_office)):
@@ -138,7 +138,7 @@ def differing(name: str, britney: Optional[str], office: Optional[str],
 
 
 def reason(service: Service, source: str) -> Sequence[str]:
-    """Why the office has a source as it has it: the lines that it answers, each behind a space."""
+    """Why the office has a source as it has it: the lines that it answers, each after a space."""
     path = f"/why/{source}"
     reply = service.get(path)
     if reply.text in ("refused NoSource", "refused NoRoute", "refused NoRun"):

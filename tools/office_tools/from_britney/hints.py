@@ -80,7 +80,7 @@ def converted(words: Sequence[str]) -> str:
         raise LeftOut("the office has no such hint")
     items = checked(others)
     if ITEMS[kind] == "easy" and len({item.split("/")[0] for item in items}) < len(items):
-        raise LeftOut("a source stands twice")
+        raise LeftOut("a source occurs twice")
     return " ".join([ITEMS[kind], *items])
 
 
@@ -95,7 +95,7 @@ def checked(items: Sequence[str]) -> Sequence[str]:
 
 @dataclass(frozen=True)
 class Standing:
-    """A hint of this command that stands: its number, and its words."""
+    """A hint of this command in force: its number, and its words."""
 
     number: int
     hint: str
@@ -116,7 +116,7 @@ def removal(label: Label, source: str, version: str) -> bytes:
 
 
 def changes(found: Sequence[Wish], gone: Mapping[str, str], stand: Sequence[Standing], last: int) -> Sequence[bytes]:
-    """The messages by which just these hints stand, those for sources that are gone too; `last` is the last number."""
+    """Messages that put just these hints in force, with those for sources gone too; `last` is the last number."""
     have = {entry.hint for entry in stand}
     want = {wish.hint for wish in found}
     new: list[Callable[[Label], bytes]] = [wish.text for wish in found if wish.hint not in have]

@@ -36,7 +36,7 @@ def spares(word: str) -> int:
 
 
 def setup_of(architectures: Sequence[str], count: int) -> Setup:
-    """The setup of an office for these architectures, with so many spare senders of builds, the last one first."""
+    """The setup of an office for these architectures, with that many spare senders of builds, the last one first."""
     senders: dict[str, Role] = {"ftp": Role.UPLOAD, "hand": Role.UPLOAD}
     senders.update({f"again{number}": Role.BUILD for number in range(count, 0, -1)})
     return Setup(architectures, senders | dict(mail.SENDERS))
@@ -80,7 +80,7 @@ def adopted(setup: str, testing: Contents, day: datetime.date) -> Sequence[bytes
 
 
 def book_of(letters: Letters) -> Book:
-    """The bugs that this mail tells."""
+    """The bugs in this mail."""
     book = Book(BUGS, LISTED)
     for label, first in letters.items():
         if label.sender == BUGS:
@@ -98,7 +98,7 @@ def testing_of(setup: str, bag: bytes) -> Mapping[str, str]:
 
 @dataclass(frozen=True)
 class Office:
-    """All mail that an office was sent, which is in a bag, and the sources of its testing by that mail."""
+    """All mail that an office was sent, in a bag, and the sources of its testing by that mail."""
 
     path: str
     letters: Letters
@@ -135,7 +135,7 @@ def news(folder: Folder, unstable: Contents, testing: Contents, office: Office, 
 
 
 def bug_letters(folder: Folder, names: tuple[Names, Names], book: Book) -> Sequence[bytes]:
-    """What has to be told about bugs."""
+    """What has to be sent about bugs."""
     lists = read_pairs(folder.unstable.bugs, folder.testing.bugs, names)
     if lists.unknown:
         tell(f"{len(lists.unknown)} names in the lists of bugs are of no source or package there")

@@ -30,7 +30,7 @@ class Binary:
 
     @property
     def key(self) -> Key:
-        """What stands once: the package's name and its architecture."""
+        """The key of a package: its name and its architecture."""
         return self.name, self.architecture
 
     def paragraph(self) -> bytes:
@@ -66,7 +66,7 @@ def read_binaries(paths: Sequence[str]) -> tuple[list[Binary], list[str]]:
 
 
 def newest(binaries: Sequence[Binary]) -> Binary:
-    """Of several versions of a package the newest; the others are told."""
+    """Of several versions of a package the newest; the others are reported."""
     kept = max(binaries, key=lambda binary: versions.key(binary.version))
     if len(binaries) > 1:
         for version in sorted({binary.version for binary in binaries}, key=versions.key):

@@ -17,7 +17,7 @@ from office_tools.messages import Urgency
 
 DESCRIPTION = """Makes FOLDER/setup.conf and FOLDER/bag from the indexes of an archive: an upload for each source, its
 builds, hints for the groups that the program office proposes, and the first order, which covers all of these. With
---after it makes the bag of what is new since. What isn't taken over is told on standard error, a line for each."""
+--after it makes the bag of what is new since. What isn't taken over is listed on standard error, a line for each."""
 MOST_ARCHITECTURES = 16
 
 
@@ -28,7 +28,7 @@ def words() -> argparse.ArgumentParser:
     parser.add_argument("--run", required=True, type=day, metavar="DAY", help="the day of the order")
     parser.add_argument("--urgency", default="medium", choices=[urgency.value for urgency in Urgency],
                         help="the urgency of all uploads")
-    parser.add_argument("--changes", metavar="DIR", help="a folder of files .changes, which tell the urgency of "
+    parser.add_argument("--changes", metavar="DIR", help="a folder of files .changes, which state the urgency of "
                         "the uploads that they are of, and without --after their day")
     parser.add_argument("--sources", action="append", default=[], metavar="SOURCES", help="a file Sources")
     parser.add_argument("--after", metavar="BAG", help="all mail that was sent before: only what is new is sent")
@@ -36,7 +36,7 @@ def words() -> argparse.ArgumentParser:
     parser.add_argument("--no-hints", action="store_true",
                         help="don't ask the program office for groups that move as one")
     parser.add_argument("--spare", type=mail.spares, default=mail.MOST_SPARES, metavar="N",
-                        help=f"how many spare senders of builds stand before bd in the setup: 0 to {mail.MOST_SPARES} "
+                        help=f"how many spare senders of builds precede bd in the setup: 0 to {mail.MOST_SPARES} "
                              f"({mail.MOST_SPARES})")
     parser.add_argument("folder", metavar="FOLDER", help="where both files are written")
     parser.add_argument("packages", metavar="PACKAGES", nargs="+", help="a file Packages of one architecture")
@@ -44,7 +44,7 @@ def words() -> argparse.ArgumentParser:
 
 
 def main(given: Sequence[str]) -> int:
-    """Writes the setup and the bag, and tells what they have."""
+    """Writes the setup and the bag, and prints what they have."""
     asked = words().parse_args(given)
     found, architectures = read_binaries(asked.packages)
     if not architectures or len(architectures) > MOST_ARCHITECTURES:

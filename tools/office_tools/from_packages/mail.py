@@ -28,7 +28,7 @@ def spares(word: str) -> int:
 
 def senders(count: int) -> Mapping[str, Role]:
     """The senders of a setup: one for uploads that are sent by hand, this many spare senders of builds, the last one
-    first, and the others behind them.
+    first, and then the others.
     """
     found: dict[str, Role] = {"ftp": Role.UPLOAD, "hand": Role.UPLOAD}
     found.update({f"again{number}": Role.BUILD for number in range(count, 0, -1)})
@@ -37,7 +37,7 @@ def senders(count: int) -> Mapping[str, Role]:
 
 
 def is_new(said: str, version: str, sent: Optional[str], dropped: Optional[str] = None) -> bool:
-    """Whether a version is above the one that was sent, and not dropped; one below it is told."""
+    """Whether a version is above the one that was sent, and not dropped; one below it is reported."""
     if dropped is not None and versions.compare(version, dropped) <= 0:
         tell(f"{said} {version}: left out: it was dropped up to {dropped}")
         return False
@@ -101,7 +101,7 @@ def builds_of(binaries: Sequence[Binary], after: int) -> Iterator[bytes]:
 
 
 def hints(setup: str, sent: Sent, texts: Sequence[bytes], day: str) -> Iterator[bytes]:
-    """A hint for each group that the office proposes for a run over these messages, too, but for those sent before."""
+    """A hint for each group that the office proposes for a run over these messages, too, without those sent before."""
     wishes = [wish for wish in proposals.proposed(setup, sent.bag, texts, day) if wish not in sent.hints]
     return proposals.letters(wishes, "rt", sent.last["rt"], day)
 

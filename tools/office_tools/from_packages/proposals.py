@@ -19,7 +19,7 @@ def proposed(setup: str, sent: bytes, texts: Sequence[bytes], day: str) -> Seque
 
 
 def letters(hints: Sequence[str], sender: str, after: int, day: str) -> Iterator[bytes]:
-    """A message for each hint, behind a number of the sender."""
+    """A message for each hint, after a number of the sender."""
     for number, hint in enumerate(hints, after + 1):
         head = messages.message(Label(sender, number), Kind.HINT, (hint,))
         yield head + messages.composed([(PROPOSED, day)])

@@ -32,7 +32,7 @@ class Sent:
 
 
 def read_sent(path: Optional[str]) -> Sent:
-    """The mail that was sent before, if there is any. A text that is no message took no number, and is told."""
+    """The mail that was sent before, if there is any. A text that is no message took no number, and is reported."""
     sent = Sent()
     if path is None:
         return sent

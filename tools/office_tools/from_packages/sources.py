@@ -59,10 +59,10 @@ Arrivals = Mapping[tuple[str, str], Arrival]
 
 def read_arrivals(folder: Optional[str], default: Arrival,
                   read: Callable[[str], Changes] = read_changes) -> Arrivals:
-    """The arrival of each source and version of which the folder has a file .changes.
+    """The arrival of each source and version with a file .changes in the folder.
 
     Of several files the one that brings the source counts, else the first by its name. What a file doesn't state, or
-    states so that it can't be read, is told, and is that of the default. A file that can't be read at all is told.
+    states illegibly, is reported, and the default is used. A file that can't be read at all is reported.
     """
     found: dict[tuple[str, str], Arrival] = {}
     of_source: set[tuple[str, str]] = set()
@@ -101,7 +101,7 @@ def arrival_of(path: str, changes: Changes, default: Arrival) -> Arrival:
 
 
 def day_of(date: str) -> Optional[str]:
-    """The day that a date of mail states, in the zone that it states, or None where it is no date from 1970 on."""
+    """The day that a date of mail states, in its own zone, or None if it is no date from 1970 on."""
     try:
         day = email.utils.parsedate_to_datetime(date).date()
     except (ValueError, OverflowError, TypeError, IndexError):  # what the library raises for some texts

@@ -69,7 +69,7 @@ class Suites:
                 and (binary.architecture == architecture or architecture == self.architectures[0])]
 
     def leave_out(self, sent: Sent) -> None:
-        """Leaves out the packages that can't be installed and were never sent, and tells why."""
+        """Leaves out the packages that can't be installed and were never sent, and reports why."""
         for binary, suite in sorted(self.judged_bad(),
                                     key=lambda found: (found[0].name, found[0].version, found[0].architecture)):
             if not sent.knows(binary.key):

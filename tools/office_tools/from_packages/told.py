@@ -1,4 +1,4 @@
-"""What the commands tell of things that they leave out, and how much each line weighs."""
+"""What the commands print about things that they leave out, and how much each line weighs."""
 import enum
 from typing import Callable
 
@@ -15,7 +15,7 @@ class Weight(enum.Enum):
     ONCE = "once"
     """On the day on which it is new."""
     STANDS = "stands"
-    """As long as it is so: something stands still."""
+    """As long as it is so: something doesn't move."""
 
 
 Listener = Callable[[str, Weight], None]
@@ -32,7 +32,7 @@ def escaped(what: str) -> str:
 
 
 def visible(character: str) -> str:
-    """A character, or its number where it can't be printed."""
+    """A character, or its number if it can't be printed."""
     return character if character.isprintable() else ascii(character)[1:-1]
 
 
@@ -41,5 +41,5 @@ listener: Listener = printed
 
 
 def tell(what: str, weight: Weight = Weight.STANDS) -> None:
-    """Tells a line."""
+    """Prints a line."""
     listener(what, weight)

@@ -66,7 +66,7 @@ def agrees(asked: argparse.Namespace, is_warned: bool) -> bool:
 
 
 def unnumbered(found: Trial, count: int) -> Sequence[str]:
-    """The lines of a trial of so many hints, each of whose numbers is its place."""
+    """The lines of a trial of that many hints, each numbered by its place."""
     first = found.first
 
     def place(match: re.Match[str]) -> str:

@@ -22,7 +22,7 @@ FAR = 30  # days back from which an upload's day is odd; no hint has one
 
 @dataclass(frozen=True)
 class Standing:
-    """The hints in force by their numbers, each as its words and its items, and how it stands with each item."""
+    """The hints in force by their numbers, each as its words and its items, and the state of each item."""
 
     wishes: Mapping[int, Wish]
     items: Mapping[int, Sequence[HintItem]]
@@ -38,7 +38,7 @@ class Team:
         self.sender = self.office.setup.sender_of(Role.RELEASE)
 
     def next_label(self) -> Label:
-        """The team's next number. A number that is missing is a `Fault`: nobody can know whose message it was."""
+        """The team's next number. A missing number is a `Fault`: nobody can know whose message it was."""
         count = self.service.kept()[self.sender]
         if count.unbroken < count.greatest:
             raise Fault(f"{self.sender} {count.unbroken + 1} isn't kept, and {self.sender} {count.greatest} is: mail "

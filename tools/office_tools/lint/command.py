@@ -44,7 +44,7 @@ class Sender:
         return self.service is not None and (self.is_forced or not is_warned)
 
     def send(self, text: Text) -> str:
-        """Sends a message: the office's reply, which is told."""
+        """Sends a message, and prints the office's reply."""
         if self.service is None:
             raise Fault("no service is named")
         reply = mailed(self.service, text.text)
@@ -71,7 +71,7 @@ class Lint:
         return found
 
     def look_at(self, text: Text, verdict: str) -> int:
-        """Tells what is wrong with a message, sends it where that is due, and takes it on: the status."""
+        """Prints what is wrong with a message, sends it if that is due, and takes it on: the status."""
         label = label_of(text.text)
         if label is not None and is_held(verdict) and self.state.taken.get(label, text.text) != text.text:
             verdict = "refused OtherText"  # of a message before this one
@@ -110,10 +110,10 @@ def texts_of(path: str) -> Iterator[Text]:
 def parser() -> argparse.ArgumentParser:
     """The command's words."""
     words = argparse.ArgumentParser(
-        prog=NAME, description="Tells what an office would answer to messages, and what in them is most likely a slip.",
+        prog=NAME, description="Prints what an office would answer to messages, and what in them is probably a slip.",
         epilog="Status 0: all would be held, and nothing is odd. 1: there are warnings. 2: the words are wrong. "
                "3: a message or a bag is refused. 4: no office answers.")
-    words.add_argument("--url", metavar="URL", help=f"the service ({URL}, where neither it nor --conf is stated)")
+    words.add_argument("--url", metavar="URL", help=f"the service ({URL}, if neither it nor --conf is stated)")
     words.add_argument("--conf", metavar="SETUP",
                        help="the setup's file; without --url the office is one in memory that keeps nothing, or that "
                             "of --db (a service is asked for its senders)")
@@ -126,13 +126,13 @@ def parser() -> argparse.ArgumentParser:
                        help="warns of a hint that the next run would refuse, or that changes nothing in it")
     words.add_argument("--send", action="store_true", help="mails, in order, what has no warning")
     words.add_argument("--force", action="store_true", help="mails what has warnings, too")
-    words.add_argument("--user", metavar="USER", help="the user at a proxy; its password stands in ~/.netrc")
+    words.add_argument("--user", metavar="USER", help="the user at a proxy; its password is in ~/.netrc")
     words.add_argument("file", metavar="FILE", nargs="+", help="a message, or a bag; - is standard input")
     return words
 
 
 def main(words: Sequence[str]) -> int:
-    """Looks at the messages of the files, and mails them where that is asked for."""
+    """Looks at the messages of the files, and mails them if asked for."""
     known = parser()
     asked = known.parse_args(words)
     if asked.db and (asked.url or not asked.conf):

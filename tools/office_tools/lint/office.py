@@ -1,7 +1,7 @@
 """What the looks of this package ask of an office.
 
-`Office` is all that they rest on. `ServiceOffice` asks a running office; `StoreOffice` asks the program about a store
-that no office has open, or about an office in memory to which nothing was mailed.
+`Office` is all that they need. `ServiceOffice` asks a running office; `StoreOffice` asks the program about a store that
+no office has open, or about an office in memory to which nothing was mailed.
 """
 import abc
 from typing import Iterator, Mapping, Optional, Sequence
@@ -62,7 +62,7 @@ class ServiceOffice(Office):
             raise Fault(f"{conf}: the office has other senders: {' '.join(self.counts)}", program.UNANSWERED)
 
     def verdicts(self, texts: Sequence[bytes]) -> Iterator[str]:
-        """Each is looked at when its turn has come, so behind what was mailed before."""
+        """Each is looked at in its turn, so after what was mailed before."""
         return (verdict(self.service, text) for text in texts)
 
     def judged(self, texts: Sequence[bytes]) -> Sequence[str]:
@@ -70,7 +70,7 @@ class ServiceOffice(Office):
         return [verdict(self.service, text) for text in texts]
 
     def state(self) -> State:
-        """The state, by what the office tells of unstable, hints, testing and orders."""
+        """The state, by what the office says of unstable, hints, testing and orders."""
         return State(self.setup, self.counts, self.service.testing(), ServiceMail(self.service)).told(
             self.service.unstable(), self.service.hints())
 
@@ -102,7 +102,7 @@ class StoreMail(Kept):
 
 
 class StoreOffice(Office):
-    """An office whose verdicts are those of a replay in memory, behind the mail that a store keeps."""
+    """An office whose verdicts are those of a replay in memory, after the mail that a store keeps."""
 
     def __init__(self, conf: str, store: Optional[str]) -> None:
         self.conf = conf
@@ -111,7 +111,7 @@ class StoreOffice(Office):
         self.mail = StoreMail(program.exported(conf, store) if store else ())
 
     def verdicts(self, texts: Sequence[bytes]) -> Iterator[str]:
-        """The replies of a replay of these texts, each behind what is kept under its number."""
+        """The replies of a replay of these texts, each after what is kept under its number."""
         bag: list[bytes] = []
         places: list[int] = []
         for text in texts:
@@ -127,7 +127,7 @@ class StoreOffice(Office):
         return program.replies(self.conf, texts)
 
     def state(self) -> State:
-        """The state, by what the program tells of the store."""
+        """The state, by what the program says of the store."""
         counts = self.mail.counts(list(self.setup.senders))
         if self.store is None:
             return State(self.setup, counts, Testing(0, {}, ()), self.mail)

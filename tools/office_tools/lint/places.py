@@ -1,8 +1,8 @@
 """Where in a refused message its fault is, and why, in words.
 
-The verdict is the office's, and so is the place: of a build with many binaries, a list of clauses or a hint of many
+The verdict is the office's, and so is the place. Of a build with many binaries, a list of clauses or a hint of many
 items each part is put into a message of its own, and the first one that the office refuses in the same way is the bad
-one. What is said of it is a rule of docs/RULES.md.
+one. The sentence on it is a rule of docs/RULES.md.
 """
 import re
 import unicodedata
@@ -76,7 +76,7 @@ def bad_line(fault: ParagraphFault) -> str:
     if fault.reason is ParagraphCause.NO_COLON:
         return f"{shown(fault.text)} has no colon"
     if fault.reason is ParagraphCause.REPEATED_FIELD:
-        return f"the field {name} stands twice"
+        return f"the field {name} occurs twice"
     return f"{shown(name)} is no name of a field" + (": comments aren't taken" if name.startswith("#") else "")
 
 
@@ -90,7 +90,7 @@ class Faulty:
         self.kind = kind_of(self.first)
 
     def place(self, word: str, name: str) -> Optional[Place]:
-        """Where the fault is that the office names so, if it is found."""
+        """The place of the fault that the office names so, if it is found."""
         if word == "MissingField":
             return self.missing(name)
         if word == "TooManyParagraphs":
@@ -106,11 +106,11 @@ class Faulty:
         return self.in_parts(at, field, who) or Place(field.line, f"{who}{shown(field.value)}: {WANTED[name]}")
 
     def missing(self, name: str) -> Optional[Place]:
-        """The paragraph that lacks a field."""
+        """The paragraph that needs a field."""
         if self.kind is not Kind.BUILD or self.first.value("From") is None or self.first.value("Number") is None:
             return Place(self.first.line, f"there is no field {name}")
         if not self.binaries:
-            return Place(self.first.line, "a build has a paragraph for each binary, behind an empty line")
+            return Place(self.first.line, "a build has a paragraph for each binary, after an empty line")
         for binary in self.binaries:
             lacks = [rule.name for rule in BINARY_FIELDS if rule.needed and binary.field(rule.name) is None]
             if lacks:
@@ -160,7 +160,7 @@ class Faulty:
         return b"".join(line + b"\n" for line in self.lines[paragraph.line - 1:end])
 
     def in_parts(self, at: Paragraph, field: Field, who: str) -> Optional[Place]:
-        """The part of the value that is wrong, where the value is a list."""
+        """The part of the value that is wrong, if the value is a list."""
         name = next((name for name in (*RELATIONS, "Hint", "Covers") if name.lower() == field.name.lower()), "")
         if name in RELATIONS:
             return self.bad_clause(at, field, name, who)
@@ -184,7 +184,7 @@ class Faulty:
         items = [part for part in parts_of(field, ",") if part.text]
         place = self.first_refused([self.with_value("Covers", part.text) for part in items])
         if place is None:
-            return Place(field.line, f"{shown(field.value)}: a sender stands twice")
+            return Place(field.line, f"{shown(field.value)}: a sender occurs twice")
         runs = self.office.setup.sender_of(Role.RUNS)
         senders = ", ".join(sender for sender in self.office.setup.senders if sender != runs)
         told = f"a sender of {senders}, a space and a number are due"
@@ -208,7 +208,7 @@ class Faulty:
         front = " ".join(part.text for part in words[:behind])
         place = self.first_refused([self.with_value("Hint", f"{front} {part.text}") for part in words[behind:]])
         if place is None:
-            return Place(field.value_line, f"{shown(field.value)}: a source stands twice")
+            return Place(field.value_line, f"{shown(field.value)}: a source occurs twice")
         bad = words[behind + place]
         return Place(bad.line, f"{shown(bad.text)}: {'NAME' if word == 'block' else 'NAME/VERSION'} is due")
 
@@ -224,7 +224,7 @@ class Faulty:
 
 
 def parts_of(field: Field, between: str) -> Sequence[Part]:
-    """The parts of a value between these characters, without white at their ends; a space stands for all white."""
+    """The parts of a value between these characters, without white at their ends; a space means all white."""
     return list(parted(field, re.compile(f"[^{WHITE if between == ' ' else between}]+")))
 
 
@@ -259,7 +259,7 @@ def of_clause(clause: str, name: str) -> str:
 
 
 def shown(text: str) -> str:
-    """A text as it is told: in quotes, not too long, and with the name of its first character beyond ASCII."""
+    """A text as it is printed: in quotes, not too long, and with the name of its first character beyond ASCII."""
     odd = next((character for character in text if not character.isascii()), "")
     told = f" with {unicodedata.name(odd, 'a character')} (U+{ord(odd):04X})" if odd else ""
     return repr(text if len(text) <= SHOWN else text[:SHOWN] + "..") + told

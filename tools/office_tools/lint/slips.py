@@ -1,6 +1,6 @@
 """What in a message that the office would take is most likely a slip, and on which line.
 
-Each function here is one warning: it tells what is wrong exactly where its condition holds over the state.
+Each function here is one warning: it says what is wrong exactly if its condition holds over the state.
 """
 from typing import Iterator, Optional, Sequence
 
@@ -32,7 +32,7 @@ def misspelt_fields(look: Look) -> Iterator[Warned]:
 
 
 def misspelt(paragraph: Paragraph, read: Sequence[str]) -> Iterator[Warned]:
-    """The same in one paragraph, of which these names are read."""
+    """The same in one paragraph, given the names that are read of it."""
     missing = [name for name in read if paragraph.field(name) is None]
     known = {name.lower() for name in read}
     for field in paragraph.fields:
@@ -104,7 +104,7 @@ def hint_of_another_source(look: Look) -> Iterator[Warned]:
 
 
 def standing(state: State, word: str, name: str, version: str) -> Optional[str]:
-    """Why an item of a hint isn't in force; None where it is. An item of `block` has no version."""
+    """Why an item of a hint isn't in force; None if it is. An item of `block` has no version."""
     has, moved = state.seen.source(name), state.testing.get(name)
     if has is None:
         return f"no source {name}"
@@ -119,13 +119,13 @@ def standing(state: State, word: str, name: str, version: str) -> Optional[str]:
 
 
 def unhint_of_nothing(look: Look) -> Iterator[Warned]:
-    """No hint of that number stands."""
+    """No hint of that number is in force."""
     if look.kind is Kind.UNHINT and not look.state.seen.in_force(int(look.value("Cancels"))):
         yield look.warned("Cancels", f"no hint in force has the number {look.value('Cancels')}")
 
 
 def order_over_a_gap(look: Look) -> Iterator[Warned]:
-    """The order covers mail that isn't there."""
+    """The order covers missing mail."""
     if look.kind is Kind.RUN:
         stated = stated_covers(look.first)
         for sender in look.senders():
@@ -135,7 +135,7 @@ def order_over_a_gap(look: Look) -> Iterator[Warned]:
 
 
 def order_leaves_mail_out(look: Look) -> Iterator[Warned]:
-    """Mail is there that neither this order nor an earlier one covers."""
+    """Neither this order nor an earlier one covers some mail."""
     if look.kind is Kind.RUN:
         stated = stated_covers(look.first)
         for sender in look.senders():

@@ -73,7 +73,7 @@ class Given:
 
 
 EARLIER = (-1, 0, 0)
-"""Stands for a message that was kept before, whose own place the office doesn't tell."""
+"""Means a message that was kept before, whose own place the office doesn't give."""
 
 
 class Kept(abc.ABC):
@@ -81,7 +81,7 @@ class Kept(abc.ABC):
 
     @abc.abstractmethod
     def text(self, label: Label) -> Optional[bytes]:
-        """A message, or None where none is kept."""
+        """A message, or None if none is kept."""
 
     @abc.abstractmethod
     def mail(self, sender: str) -> Iterator[bytes]:
@@ -90,10 +90,10 @@ class Kept(abc.ABC):
 
 @dataclass
 class Seen:
-    """What a run over all mail sees of unstable and hints: what the office tells, and what was taken on since.
+    """What a run over all mail sees of unstable and hints: what the office says, and what was taken on since.
 
-    `earlier` gives the kept messages of a kind. They are asked for only where what the office tells isn't enough: it
-    tells neither of a drop nor of an unhint that reaches what comes later.
+    `earlier` gives the kept messages of a kind. They are asked for only if what the office says isn't enough: it says
+    nothing of a drop, nor of an unhint that reaches what comes later.
     """
 
     earlier: Callable[[Kind], Iterable[Paragraph]]
@@ -130,7 +130,7 @@ class Seen:
             self.cancelled.add(int(first.value("Cancels") or 0))
 
     def take_last(self, number: int, first: Paragraph, kind: Kind) -> None:
-        """Takes a message of a kind of which the one of the greatest number counts."""
+        """Takes a message of a kind that counts by its greatest number."""
         if kind is Kind.BUG:
             bug = int(first.value("Bug") or 0)
             self.bugs[bug] = max(self.bugs.get(bug, (0, "")), (number, first.value("Source") or ""))
@@ -172,7 +172,7 @@ class Seen:
         return rows[pair].version if pair in rows else None
 
     def is_above_drops(self, pair: Pair, row: Given, is_asked: bool) -> bool:
-        """Whether no drop reaches a row: none that was taken on, nor, where that is asked, one that was kept before."""
+        """Whether no drop reaches a row: none that was taken on, nor, if that is asked, one that was kept before."""
         if is_asked and not self.has_kept_drops:
             self.has_kept_drops = True
             for first in self.earlier(Kind.DROP):
@@ -181,7 +181,7 @@ class Seen:
         return dropped is None or versions.compare(row.version, dropped.version) > 0
 
     def in_force(self, number: int) -> bool:
-        """Whether a hint of this number stands."""
+        """Whether a hint of this number is in force."""
         if number in self.cancelled or (number not in self.hints and number not in self.hinted):
             return False
         return number in self.hints or all(int(first.value("Cancels") or 0) != number
@@ -199,7 +199,7 @@ def pair_of(paragraph: Paragraph) -> Pair:
 
 
 def raise_to(greatest: dict[Key, Given], of: Key, new: Given) -> None:
-    """Takes a version where none is known, or a lower one; of the same version that of the first message counts."""
+    """Takes a version if none is known, or a lower one; of the same version that of the first message counts."""
     known = greatest.get(of)
     order = versions.compare(new.version, known.version) if known else 1
     if known is None or order > 0 or (order == 0 and new.by < known.by):
@@ -242,7 +242,7 @@ class State:
             self.orders.take(text)
 
     def told(self, unstable: Unstable, hints: Hints) -> "State":
-        """The same, with what the office tells of unstable and of the hints in force."""
+        """The same, with what the office says of unstable and of the hints in force."""
         self.seen.sources.update((name, Given(version, EARLIER)) for name, version in unstable.sources.items())
         self.seen.rows.update(
             ((row.architecture, row.package), Given(row.version, EARLIER)) for row in unstable.rows)
@@ -290,7 +290,7 @@ class State:
         return self.kept.text(label)
 
     def is_kept(self, label: Label) -> bool:
-        """Whether a message of this number is there."""
+        """Whether a message of this number is kept."""
         return label.number <= self.unbroken[label.sender] or self.text(label) is not None
 
     def take(self, label: Label, text: bytes) -> None:
@@ -306,7 +306,7 @@ class State:
                 self.see(Label(label.sender, number), reached)
 
     def reached(self, sender: str) -> Iterator[tuple[int, bytes]]:
-        """The messages of a sender that stand without a gap behind those that stood so before."""
+        """The messages of a sender that follow without a gap those that did so before."""
         while True:
             number = self.unbroken[sender] + 1
             text = self.text(Label(sender, number))

@@ -52,7 +52,7 @@ class Eye:
     def culprits(self, step: Step) -> Sequence[Mapping[str, str]]:
         """The sources that a run should not have moved or removed, each with a sentence, in three parts.
 
-        First come those of which the archive lacks a package, then those that break a package that stays, and last
+        First come those with a package missing in the archive, then those that break a package that stays. Last come
         those whose own packages are broken: without the former they may be right.
         """
         moved = step.moved
@@ -81,13 +81,13 @@ class Eye:
         return {package: broken for package, broken in found if package not in self.seen[key]}
 
     def lacking(self, after: reports.Testing, moved: frozenset[str]) -> Iterator[tuple[str, str]]:
-        """The moved sources of which the indexes lack a package."""
+        """The moved sources with a package missing in the indexes."""
         for row in after.rows:
             if row.source in moved and package_of(row) not in self.known:
                 yield row.source, f"the archive has no {row.package} {row.version} on {row.architecture}"
 
     def blamed(self, broken: Broken, step: Step) -> frozenset[str]:
-        """The changing sources whose packages, old or new, the causes mention; all that changes if there are none."""
+        """The changing sources with packages, old or new, that the causes mention; without any, all that changes."""
         changing = step.moved | step.removed
         rows = [row for testing in (step.before, step.after) for row in testing.rows if row.source in changing]
         found = frozenset(row.source for row in rows if self.names(package_of(row)) & broken.named)

@@ -57,7 +57,7 @@ def parser() -> argparse.ArgumentParser:
 
 
 def folder_for(asked: Optional[str], service: Service) -> str:
-    """The folder of the copy; it is made where there is none, and locked until this process ends."""
+    """The folder of the copy; it is made if there is none, and locked until this process ends."""
     caches = os.environ.get("XDG_CACHE_HOME") or os.path.expanduser("~/.cache")
     place = os.path.abspath(asked or os.path.join(caches, NAME, urllib.parse.quote(service.url, "")))
     try:
@@ -69,7 +69,7 @@ def folder_for(asked: Optional[str], service: Service) -> str:
 
 
 def files_of(names: Sequence[str]) -> Iterator[str]:
-    """The files Packages that are named, and those of the folders that are named."""
+    """The named files Packages, and those of the named folders."""
     for name in names:
         found = list(packages_of(name)) if os.path.isdir(name) else [name]
         if not found:
@@ -78,7 +78,7 @@ def files_of(names: Sequence[str]) -> Iterator[str]:
 
 
 def eye_of(asked: argparse.Namespace) -> Optional[Eye]:
-    """The judge over the archive's paragraphs; None where nothing is to be looked at."""
+    """The judge over the archive's paragraphs; None if nothing is to be looked at."""
     if asked.judge == "none":
         return None
     found = judge(asked.judge)
@@ -98,12 +98,12 @@ def waits(service: Service) -> Sequence[str]:
 
 
 def shown(found: Found, told: set[str]) -> int:
-    """Prints what a run does, and what is blocked, unless it was told already: the status."""
+    """Prints what a run does, and what is blocked, unless it was printed already: the status."""
     gone = len(found.step.removed)
     print(f"run {found.step.before.finished + 1}: moves {len(found.step.moved)}, removes {gone}, "
           f"blocks {len(found.blocked)}")
     lines = [f"blocked: {name} {why}" for name, why in sorted(found.blocked.items())]
-    lines += [f"not held back: {name}: {why}: an unblock or a remove hint stands"
+    lines += [f"not held back: {name}: {why}: an unblock or a remove hint is in force"
               for name, why in sorted(found.loose.items())]
     for line in lines:
         if line not in told:
@@ -130,7 +130,7 @@ def step(look: Look, asked: argparse.Namespace, told: set[str], hints: Sequence[
 
 
 def proposed(service: Service) -> Sequence[str]:
-    """The hints for groups that the office proposes, but for those that stand already."""
+    """The hints for groups that the office proposes, without those in force."""
     standing: dict[int, str] = {}
     for item in service.hints().items:
         standing[item.number] = f"{standing.get(item.number, item.words)} {item.item}"

@@ -88,7 +88,7 @@ class Copy:
         return found
 
     def bring(self) -> None:
-        """Brings over the mail behind what the copy keeps without a gap, and writes down where it ends."""
+        """Brings over the mail after what the copy keeps without a gap, and writes down where it ends."""
         own, lacking, ends = self.own(), [], {}
         for sender in self.service.kept():
             for label, text in letters(self.service, sender, own[sender].unbroken + 1 if sender in own else 1):
@@ -100,7 +100,7 @@ class Copy:
         write_whole(path, json.dumps({**known, **ends}).encode())
 
     def differs(self) -> bool:
-        """Whether the copy has another testing than the office behind the same runs."""
+        """Whether the copy has another testing than the office after the same runs."""
         theirs, own = self.service.testing(), self.testing()
         return theirs.finished == own.finished and theirs != own
 
@@ -113,7 +113,7 @@ class Copy:
         return program.output(["order", "--day", day, *self.words(self.store)])
 
     def tried(self, texts: Sequence[bytes], run: Label) -> Trial:
-        """What the run of this order decides behind these messages, of which the order is the last."""
+        """What the run of this order decides after these messages, the last one being the order."""
         with tempfile.TemporaryDirectory(dir=self.folder, prefix=TRIAL) as folder:
             store = os.path.join(folder, STORE)
             for part in PARTS:

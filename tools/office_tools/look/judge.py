@@ -137,7 +137,7 @@ def named(lines: Sequence[str]) -> Iterator[str]:
 
 @dataclass(frozen=True)
 class DoseDebcheck:
-    """dose-debcheck of dose-distcheck. It prints YAML, of which lines of known depth are read."""
+    """dose-debcheck of dose-distcheck. It prints YAML; lines of known depth are read."""
 
     def broken(self, architecture: str, packages: Mapping[Package, str]) -> Sequence[Broken]:
         """Those that it can't install."""

@@ -32,7 +32,7 @@ class Block:
 
 @dataclass(frozen=True)
 class Found:
-    """What a look came to: the mail to send, the order behind it, and what the run does.
+    """The result of a look: the mail to send, the order after it, and what the run does.
 
     `blocked` are the sources that are held back and `loose` those that should be, each with a sentence.
     """
@@ -46,7 +46,7 @@ class Found:
 
 @dataclass
 class Look:
-    """A running office, a copy of it, a judge, and where a line is told."""
+    """A running office, a copy of it, a judge, and how a line is printed."""
 
     service: Service
     copy: Copy
@@ -57,7 +57,7 @@ class Look:
     standing: Sequence[Block] = ()
 
     def begin(self) -> None:
-        """Brings the copy up to date, and reads which blocks of this command stand."""
+        """Brings the copy up to date, and reads which blocks of this command are in force."""
         self.copy.follow()
         hints = self.service.hints()
         self.hints = hints.sender or self.hints
@@ -86,7 +86,7 @@ class Look:
         raise Fault(f"after {TURNS} turns packages still can't be installed: no run is ordered", REFUSED)
 
     def tried(self, texts: Sequence[bytes], order: bytes) -> Trial:
-        """What the run of an order would do behind these messages."""
+        """What the run of an order would do after these messages."""
         label = label_of(order)
         assert label is not None
         return self.copy.tried([*texts, order], label)

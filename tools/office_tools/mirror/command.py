@@ -17,7 +17,7 @@ def parser() -> argparse.ArgumentParser:
     """The command's words."""
     words = argparse.ArgumentParser(
         prog=NAME, description="Brings to each office TO all mail that the office FROM keeps.",
-        epilog="Status 0: each TO holds all of it. 1: one keeps another text of some number, which is told. 2: the "
+        epilog="Status 0: each TO holds all of it. 1: one keeps another text of some number, which it prints. 2: the "
                "words are wrong. 3: one refused something else. 4: an office didn't answer, or the bag isn't whole. "
                "The greatest one of all TO counts.")
     words.add_argument("--state", metavar="FOLDER", help="remembers what each TO held, so that it isn't sent again")
@@ -28,7 +28,7 @@ def parser() -> argparse.ArgumentParser:
 
 
 def turn(source: Service, target: str, state: Optional[str], is_all: bool) -> Status:
-    """Brings all mail to one office, or into the bag, and tells how much was sent."""
+    """Brings all mail to one office, or into the bag, and prints how much was sent."""
     if target == BAG:
         done = Turn(lambda what: tell(NAME, what))
         done.to_bag(Source(source), sys.stdout.buffer)

@@ -1,4 +1,4 @@
-"""Which messages an office held at earlier turns: a kept text stands for good, so none of these is sent again."""
+"""Which messages an office held at earlier turns: a kept text stays for good, so none of these is sent again."""
 import json
 import os
 import urllib.parse
@@ -17,7 +17,7 @@ class Numbers:
     ranges: list[tuple[int, int]] = field(default_factory=list)
 
     def add(self, number: int) -> None:
-        """Takes a number that is greater than all that are there, or is there already."""
+        """Takes a number that is greater than all present ones, or is present already."""
         if self.ranges and number <= self.ranges[-1][1]:
             return
         if self.ranges and number == self.ranges[-1][1] + 1:
@@ -26,7 +26,7 @@ class Numbers:
             self.ranges.append((number, number))
 
     def has(self, number: int) -> bool:
-        """Whether a number is there."""
+        """Whether a number is present."""
         return any(first <= number <= last for first, last in self.ranges)
 
     def upto(self, last: int) -> "Numbers":
@@ -38,7 +38,7 @@ class Numbers:
         return sum(last - max(first, number + 1) + 1 for first, last in self.ranges if last > number)
 
     def next_missing(self, first: int) -> int:
-        """The least number from this one on that isn't there."""
+        """The least missing number from this one on."""
         return next((end + 1 for start, end in self.ranges if start <= first <= end), first)
 
 
@@ -52,7 +52,7 @@ def place_of(folder: str, source: str, target: str) -> str:
 
 
 def read(path: str) -> Held:
-    """What a file remembers; nothing, where there is none."""
+    """What a file remembers; nothing if there is none."""
     try:
         with open(path, encoding="utf-8") as file:
             told = json.load(file)

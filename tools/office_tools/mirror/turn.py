@@ -35,14 +35,14 @@ class Source:
         self.senders = list(self.service.kept())
 
     def in_turn(self) -> Iterator[str]:
-        """The senders, that of orders first: so what a run covers that was ready is there when its sender's turn is."""
+        """The senders, that of orders first: so a ready run's mail is all present when its sender's turn comes."""
         runs = runs_sender(self.service)
         return iter(sorted(self.senders, key=lambda sender: sender != runs))
 
 
 @dataclass
 class Turn:
-    """What a turn brought: how many messages, and the worst that came of it."""
+    """The result of a turn: how many messages, and the worst status."""
 
     tell: Callable[[str], None]
     save: Callable[[], None] = lambda: None
@@ -76,7 +76,7 @@ class Turn:
             held[sender] = joined(before, now)
 
     def post(self, source: Source, target: Service, label: Label, text: bytes) -> bool:
-        """Posts one message: whether the other office holds it. If it doesn't, that is told."""
+        """Posts one message: whether the other office holds it. If it doesn't, that is printed."""
         reply = mailed(target, text)
         self.sent += 1
         if is_held(reply):
@@ -99,7 +99,7 @@ class Turn:
 def still_held(remembered: Numbers, kept: Kept) -> Numbers:
     """What is remembered of an office that holds this much of a sender: less, if it was set back.
 
-    Behind a gap nothing shows which messages it holds, but how many.
+    After a gap nothing shows which messages it holds, only how many.
     """
     is_set_back = remembered.behind(kept.unbroken) > kept.kept - kept.unbroken
     return remembered.upto(kept.unbroken) if is_set_back else remembered

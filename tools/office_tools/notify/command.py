@@ -58,7 +58,7 @@ def by_maintainer(maintainers: Maintainers, moves: Moves,
 
 
 class Notifier:
-    """Sends the mails of runs, and remembers who was told."""
+    """Sends the mails of runs, and remembers who got one."""
 
     def __init__(self, service: Service, asked: argparse.Namespace) -> None:
         self.service = service
@@ -70,7 +70,7 @@ class Notifier:
                     else mails.to_command(asked.sendmail) if asked.sendmail else mails.to_output)
 
     def notify(self, known: told.Told) -> None:
-        """Sends the mails of the run after the known one to all who weren't told, and remembers each of them."""
+        """Sends the mails of the run after the known one to all who got none, and remembers each of them."""
         moves = moves_of(self.service, known.run + 1)
         for address, own in by_maintainer(self.maintainers, moves, self.other):
             if address.addr_spec not in known.done:

@@ -1,4 +1,4 @@
-"""Up to which run maintainers were told, and who of the next run was: kept in a file, so that nobody is told twice."""
+"""Up to which run maintainers got mail, and who did about the next run: kept in a file, so that none gets it twice."""
 import json
 from dataclasses import dataclass, field
 from typing import Optional
@@ -11,7 +11,7 @@ WORDS_ARE_WRONG = 2
 
 @dataclass
 class Told:
-    """The last run of which all were told, and the addresses that were told of the run after it."""
+    """The last run that all got mail about, and the addresses that got mail about the run after it."""
 
     run: int
     done: set[str] = field(default_factory=set)

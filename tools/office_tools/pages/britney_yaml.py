@@ -39,7 +39,7 @@ def excuses_yaml(excuses: Excuses, outcomes: Mapping[str, Sequence[SourceOutcome
 
 
 def source_yaml(excuse: Excuse, outcomes: Sequence[SourceOutcome]) -> dict[str, Any]:
-    """What the file says of a source, but for its maintainer and its dependencies."""
+    """What the file says of a source, except its maintainer and its dependencies."""
     words = reason_words(excuse)
     values: dict[str, Any] = {
         "excuses": [text.replace("<", "&lt;").replace(">", "&gt;") for text in told_of(excuse, outcomes)],

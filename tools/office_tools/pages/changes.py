@@ -21,7 +21,7 @@ class Kind(enum.Enum):
 
 @dataclass(frozen=True)
 class Change:
-    """What a run changed of a source: how it stood before, if it was known, and how it stands from the run on."""
+    """What a run changed of a source: its state before, if it was known, and its state from the run on."""
 
     source: str
     kind: Kind
@@ -60,7 +60,7 @@ def changes_of(events: Mapping[str, Sequence[Event]], first: int) -> Mapping[int
 
 
 def sentence(event: Optional[Event]) -> str:
-    """How a source stood, in words."""
+    """The state of a source, in words."""
     if event is None:
         return "had no excuse"
     read = outcome_in(event.outcome)

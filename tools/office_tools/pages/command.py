@@ -1,4 +1,4 @@
-"""The words of the command, and how it goes on."""
+"""The words of the command, and how it continues."""
 import argparse
 import contextlib
 import fcntl
@@ -43,8 +43,8 @@ def words_of(words: Sequence[str]) -> argparse.Namespace:
     parser.add_argument("folder", metavar="FOLDER", help="the folder of the pages, which has to be there")
     parser.add_argument("--url", metavar="URL", help=f"the service that is asked ({URL} if nothing else is named)")
     parser.add_argument("--conf", metavar="SETUP", help="with --db: the setup of a store")
-    parser.add_argument("--db", metavar="FILE", help="a store that no office has open, in the place of a service")
-    parser.add_argument("--excuses", metavar="FILE", help="the excuses of one run, in the place of a service")
+    parser.add_argument("--db", metavar="FILE", help="a store that no office has open, in place of a service")
+    parser.add_argument("--excuses", metavar="FILE", help="the excuses of one run, in place of a service")
     parser.add_argument("--update", metavar="FILE", help="with --excuses: the update of the same run")
     parser.add_argument("--testing", metavar="FILE", help="with --excuses: what is in testing after that run")
     parser.add_argument("--bugs", metavar="URL", default=BUGS,
@@ -136,7 +136,7 @@ def make(office: Office, folder: str, kept: str, look: tuple[Patterns, Extras], 
         if newest is None:
             return
         read_mail(office, state, newest.number, time.monotonic() + why_seconds)
-        # The pages of a new run are there before sources are asked about, which takes longer.
+        # The pages of a new run exist before sources are asked about, which takes longer.
         site = Site(folder, state, *look)
         site.build(newest)
         names = fetch_answers(office, state, newest, why_seconds)

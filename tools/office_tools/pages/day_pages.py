@@ -1,4 +1,4 @@
-"""The page of days: what each run did, how old those are that wait, and when those that are too young may move."""
+"""The page of days: what each run did, how old the waiting sources are, and when those too young may move."""
 import collections
 import datetime
 from typing import Iterator, Mapping, Sequence
@@ -24,7 +24,7 @@ def day_pages(facts: views.Facts) -> Iterator[SectionPage]:
 
 
 def runs_section(facts: views.Facts) -> Section:
-    """What each run did, by day. The run by which an office began has so many sources that it is left out."""
+    """What each run did, by day. The run by which an office began has too many sources and is left out."""
     runs = facts.runs[1:] if len(facts.runs) > 2 else facts.runs
     values = {"waiting": [run.waiting for run in runs], "candidates": [run.candidates for run in runs],
               "moved": [run.candidates - run.waiting for run in runs]}
@@ -62,7 +62,7 @@ def young_by_day(facts: views.Facts) -> Mapping[datetime.date, Sequence[Excuse]]
 
 
 def later(date: datetime.date, days: int) -> datetime.date:
-    """The day so many days after another one, or the last one that there is."""
+    """The day that many days after another one, or the last one that exists."""
     return date + datetime.timedelta(days=min(days, (datetime.date.max - date).days))
 
 
@@ -102,7 +102,7 @@ def calendar_section(facts: views.Facts) -> Section:
 
 
 def names_line(excuses: Sequence[Excuse], links: Links) -> Line:
-    """The names of sources, the first ones alone where there are many."""
+    """The names of sources, only the first ones if there are many."""
     pieces: list[object] = []
     for place, excuse in enumerate(excuses[:MOST_NAMES]):
         pieces += [", " if place else "", Piece(excuse.source, links.source(excuse.source))]

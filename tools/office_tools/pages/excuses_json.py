@@ -1,4 +1,4 @@
-"""The JSON of a run, with the keys that `grep-excuses` of devscripts reads. office-pages(1) tells each key."""
+"""The JSON of a run, with the keys that `grep-excuses` of devscripts reads. office-pages(1) explains each key."""
 import datetime
 import json
 from typing import Any, Mapping, Sequence

@@ -40,7 +40,7 @@ def read_run(kept: KeptRun) -> Newest:
 
 
 def fetch(office: Office, state: State) -> Optional[Newest]:
-    """Fetches and keeps the reports that aren't kept yet, and gives the newest run; None where no run is finished."""
+    """Fetches and keeps the reports that aren't kept yet, and returns the newest run; None if no run is finished."""
     for _ in range(TURNS):
         if not fetch_runs(office, state):
             return None
@@ -77,17 +77,17 @@ def fetch_run(office: Office, state: State, run: reports.Run, last: Mapping[str,
     kept = KeptRun(run, now, office.excuses(run.number), office.update(run.number))
     read = read_run(kept)
     if (read.excuses.run, read.excuses.date, read.update.run) != (run.number, run.date, run.number):
-        raise Fault(f"the office told the reports of another run in the place of run {run.number}")
+        raise Fault(f"the office returned the reports of another run instead of run {run.number}")
     events = events_of(read, last)
     state.add(kept, events, {change.hint for change in read.update.changes if change.hint is not None})
     return events
 
 
 def events_of(read: Newest, last: Mapping[str, Event]) -> Mapping[str, Event]:
-    """An event of each source that stands otherwise than its last event says."""
+    """An event of each source whose state differs from that in its last event."""
     outcomes = outcomes_of(read.update)
     excuses = {excuse.source: excuse for excuse in read.excuses.excuses}
-    # Where a source neither moved nor is told of any more, that is an event, too.
+    # If a source neither moved nor is named any more, that is an event, too.
     open_ones = (source for source, event in last.items() if event.standing != GONE and not has_moved(event))
     found = {}
     for source in dict.fromkeys([*excuses, *outcomes, *open_ones]):
@@ -99,7 +99,7 @@ def events_of(read: Newest, last: Mapping[str, Event]) -> Mapping[str, Event]:
 
 
 def event_of(run: int, excuse: Optional[Excuse], outcome: SourceOutcome) -> Event:
-    """How a source stands in a run."""
+    """The state of a source in a run."""
     told = json.dumps(outcome.as_json())
     if excuse is None:
         return Event(run, "", "", "", told)
@@ -116,7 +116,7 @@ def has_moved(event: Event) -> bool:
 
 
 def fetch_testing(office: Office, state: State, newest: int) -> bool:
-    """Keeps what is in testing after the newest run; says whether the office told that of this run, or can't."""
+    """Keeps what is in testing after the newest run; returns whether the office gave that of this run, or can't."""
     kept = state.testing()
     if kept is not None and kept[0] == newest:
         return True
@@ -130,7 +130,7 @@ def fetch_testing(office: Office, state: State, newest: int) -> bool:
 
 
 def fetch_told(office: Office, state: State, newest: int) -> None:
-    """Keeps the hints in force as they are now, and what is proposed behind the newest run, where this can be had."""
+    """Keeps the hints in force as they are now, and what is proposed after the newest run, if available."""
     hints = office.hints()
     if hints is not None:
         state.keep_told(HINTS, newest, hints)
@@ -146,13 +146,13 @@ def fetch_told(office: Office, state: State, newest: int) -> None:
 
 
 def without_age(excuse: Excuse) -> str:
-    """What an excuse says but for its age, which changes from day to day."""
+    """What an excuse says except its age, which changes from day to day."""
     return " ".join([excuse.testing or "-", excuse.unstable, str(excuse.needed),
                      *(reason.text for reason in excuse.reasons)])
 
 
 def fetch_unstable(office: Office, state: State, newest: int) -> None:
-    """Keeps what is in unstable, once a run. What is told behind a later run waits for the next call."""
+    """Keeps what is in unstable, once a run. An answer after a later run waits for the next call."""
     kept = state.unstable()
     if kept is not None and kept[0] == newest:
         return
@@ -162,7 +162,7 @@ def fetch_unstable(office: Office, state: State, newest: int) -> None:
 
 
 def sources_to_ask(newest: Newest, whys: Mapping[str, Why]) -> Sequence[str]:
-    """The sources of the newest run that don't move and weren't asked about behind it.
+    """The sources of the newest run that don't move and weren't asked about after it.
 
     First come those whose excuse is another than it was when they were asked about. Of the others the answer may be the
     same still: those that were asked about longest ago come first. Of each sort those that wait come first, since only
@@ -181,7 +181,7 @@ def sources_to_ask(newest: Newest, whys: Mapping[str, Why]) -> Sequence[str]:
 
 
 def fetch_answers(office: Office, state: State, newest: Newest, seconds: float) -> Collection[str]:
-    """Asks about sources for so many seconds at most, and for the hints that are named, and gives these sources.
+    """Asks about sources for at most that many seconds, and for the named hints, and returns these sources.
 
     The next call asks about the rest.
     """
@@ -191,7 +191,7 @@ def fetch_answers(office: Office, state: State, newest: Newest, seconds: float) 
     before = state.whys()
     end = time.monotonic() + seconds
     for source, told in office.why(sources_to_ask(newest, before), end):
-        # If a run was finished meanwhile, what is told is of that one, which the next call fetches.
+        # If a run was finished meanwhile, the answer is on that one, which the next call fetches.
         if not told.startswith(f"why {newest.number} "):
             break
         last = before.get(source)
@@ -232,7 +232,7 @@ def fetch_proposals(office: Office, state: State, newest: Newest, until: float) 
 
 
 def sources_in(proposed: str) -> Mapping[str, str]:
-    """The hint of each source that is in one of these hints, which stand one a line."""
+    """The hint of each source in one of these hints, given one a line."""
     return {item.partition("/")[0]: line for line in proposed.splitlines() for item in line.split(" ")[1:]}
 
 

@@ -1,4 +1,4 @@
-"""The hints in force as the pages show them: how each stands, what runs did with it, and which may be taken back."""
+"""The hints in force as the pages show them: the state of each, what runs did with it, and which may be taken back."""
 import collections
 from dataclasses import dataclass
 from typing import Mapping, Optional, Sequence
@@ -38,7 +38,7 @@ class Refusal:
 
 @dataclass(frozen=True)
 class ShownItem:
-    """An item of a hint: the source, the rest of what the hint says of it, and how it stands."""
+    """An item of a hint: the source, the rest of what the hint says of it, and its state."""
 
     source: Piece
     rest: str
@@ -47,7 +47,7 @@ class ShownItem:
 
 @dataclass(frozen=True)
 class ShownHint:
-    """A hint in force. `more` counts the items that aren't shown, by how they stand."""
+    """A hint in force. `more` counts the items that aren't shown, by their state."""
 
     number: int
     words: str
@@ -87,7 +87,7 @@ def refusals_of(state: State, newest: int, update: Update) -> Mapping[int, Refus
 
 
 def state_of(item: HintItem) -> str:
-    """How an item stands."""
+    """The state of an item."""
     return f"unstable has {item.other}" if item.other else item.standing.value
 
 
@@ -124,13 +124,13 @@ def shown_item(item: HintItem, links: Links) -> ShownItem:
 
 
 def proposed_lines(state: State, newest: int) -> Optional[Sequence[str]]:
-    """The hints that the office proposes behind the newest run; None where it wasn't asked."""
+    """The hints that the office proposes after the newest run; None if it wasn't asked."""
     told = state.told(PROPOSED)
     return told[1].splitlines() if told is not None and told[0] == newest else None
 
 
 def next_label(state: State) -> Optional[Label]:
-    """The sender of hints and its next number, where they are known."""
+    """The sender of hints and its next number, if they are known."""
     told = state.told(NEXT_HINT)
     sender, _, number = told[1].partition(" ") if told else ("", "", "")
     return Label(sender, int(number)) if number.isdigit() else None
@@ -143,11 +143,11 @@ def proposed_copies(lines: Sequence[str], label: Optional[Label]) -> Sequence[Co
 
 
 def unhint_copies(stale: Sequence[ShownHint], label: Optional[Label]) -> Sequence[Copy]:
-    """The messages by which stale hints are taken back, the first one under that number."""
+    """The messages that take stale hints back, the first one under that number."""
     return [Copy(f"Hint {hint.number}: {hint.stale}", messages.unhint(behind(label, place), hint.number).decode()
                  if label else f"Kind: unhint\nCancels: {hint.number}\n") for place, hint in enumerate(stale)]
 
 
 def behind(label: Label, place: int) -> Label:
-    """The label of a message that comes so many behind another one."""
+    """The label of a message that many after another one."""
     return Label(label.sender, label.number + place)

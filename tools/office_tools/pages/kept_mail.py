@@ -1,8 +1,8 @@
 """What builds need and who maintains a source, read from the kept mail.
 
 The mail is read once, by sender and number, as far as it is kept without a gap, and what is wanted of it is kept with
-the reports. Which build stands in testing or in unstable is the office's to say: here a build is found by its
-architecture, package and version.
+the reports. Only the office says which build is in testing or in unstable: here a build is found by its architecture,
+package and version.
 """
 import functools
 import hashlib
@@ -116,7 +116,7 @@ class KeptMail:
                 self.state.database.execute(f"DELETE FROM {table}")
 
     def keep(self, texts: Sequence[tuple[str, int, int, bytes]]) -> None:
-        """Keeps what messages say, each behind its sender, the sender's place in the setup, and its number."""
+        """Keeps what messages say, each after its sender, the sender's place in the setup, and its number."""
         found = Found([], {}, {})
         for _, place, number, data in texts:
             found.add(data.decode(errors="replace"), (place << 32) + number)
@@ -188,7 +188,7 @@ def people_in(value: str) -> Iterable[str]:
 
 
 def read_mail(office: Office, state: State, newest: int, until: float) -> None:
-    """Reads the mail that came since it was read last, once a run and until that time; the next call goes on."""
+    """Reads the mail that came since it was read last, once a run and until that time; the next call continues."""
     mail = KeptMail(state)
     if mail.is_read(newest):
         return

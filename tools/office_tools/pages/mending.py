@@ -30,9 +30,9 @@ class ToMend:
 
 @dataclass(frozen=True)
 class Mending:
-    """What has to be mended, that for which most sources wait first.
+    """What has to be mended, that with the most waiting sources first.
 
-    `grouped` counts the waiting sources that a proposed group frees, `unknown` those of which the office wasn't asked.
+    `grouped` counts the waiting sources that a proposed group frees, `unknown` those without an answer of the office.
     """
 
     ranked: Sequence[ToMend]

@@ -1,4 +1,4 @@
-"""The pages beside those of excuses, runs and sources, and the feeds."""
+"""The pages other than those of excuses, runs and sources, and the feeds."""
 from dataclasses import dataclass, field
 from typing import Iterator, Mapping
 
@@ -28,7 +28,7 @@ class Extras:
 
 
 class More:
-    """What is made of what is kept, beside the pages of excuses, runs and sources."""
+    """What is made of what is kept, other than the pages of excuses, runs and sources."""
 
     def __init__(self, facts: views.Facts, state: State, extras: Extras) -> None:
         self.facts, self.state = facts, state

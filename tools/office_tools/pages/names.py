@@ -2,8 +2,8 @@
 
 The index is two files, so that each stays small: the sources, and the packages of each source in the same order. They
 are scripts, which a browser also reads from a disk, and are fetched once a reader searches. A name in them is written
-as the count of characters that it shares with the name before it, as one digit of base 36, and the rest. The packages
-of a source are in its line, separated by blanks; the name before the first one is the source's, and a package of the
+as the count of characters that it shares with the previous name, as one digit of base 36, and the rest. The packages of
+a source are in its line, separated by blanks. The name before the first one is the source's, and a package of the
 source's own name is left out.
 """
 from dataclasses import dataclass
@@ -30,7 +30,7 @@ def names_of(sources: Iterable[str], packages: Mapping[str, str]) -> Sequence[Na
 
 
 def beginning_of(name: str) -> str:
-    """The folder of a name in an archive's pool: its first letter, or that of a library behind `lib`."""
+    """The folder of a name in an archive's pool: its first letter, or that of a library after `lib`."""
     return name[:4] if name.startswith(LIBRARY) and len(name) > len(LIBRARY) else name[:1]
 
 

@@ -17,7 +17,7 @@ AT_ONCE = 100  # sources about which the program is asked by one command, which 
 
 
 class Office(Protocol):
-    """What the pages are made of. Each text is as the office tells it."""
+    """What the pages are made of. Each text is as the office prints it."""
 
     def runs(self) -> Sequence[reports.Run]:
         """The finished runs, in order."""
@@ -29,13 +29,13 @@ class Office(Protocol):
         """The update of a run."""
 
     def testing(self) -> Optional[str]:
-        """What is in testing, where it can be had."""
+        """What is in testing, if available."""
 
     def unstable(self) -> Optional[str]:
-        """What the next run sees of unstable over all mail that is kept without a gap, where it can be had."""
+        """What the next run sees of unstable over all mail that is kept without a gap, if available."""
 
     def kept_mail(self) -> Optional[Mapping[str, int]]:
-        """Up to which number the mail of each sender is kept without a gap, in the setup's order, if it can be had."""
+        """Up to which number the mail of each sender is kept without a gap, in the setup's order, if available."""
 
     def letters(self, sender: str, first: int, last: int) -> Iterator[tuple[int, bytes]]:
         """The messages of a sender from one number to another, between which none is missing."""
@@ -44,16 +44,16 @@ class Office(Protocol):
         """Of each source in turn what the last run says of it. None is asked about after that time (`monotonic`)."""
 
     def hint(self, number: int) -> Optional[SentHint]:
-        """A hint of the release team, where it can be had."""
+        """A hint of the release team, if available."""
 
     def next_hint(self, sender: str) -> Optional[Label]:
-        """The first number behind all that the release team sent, where it can be had."""
+        """The first number after all that the release team sent, if available."""
 
     def hints(self) -> Optional[str]:
-        """The hints in force, where they can be had."""
+        """The hints in force, if available."""
 
     def proposed(self, source: str = "") -> Optional[str]:
-        """What it proposes for all groups that can move, or for one source, where it can be had."""
+        """What it proposes for all groups that can move, or for one source, if available."""
 
 
 class ServiceOffice:
@@ -123,7 +123,7 @@ class ServiceOffice:
         return self.newer(f"/propose/{source}" if source else "/propose")
 
     def newer(self, path: str) -> Optional[str]:
-        """A page that an office of an earlier version hasn't, which is told once; None where it isn't there."""
+        """A page that an office of an earlier version hasn't, which is printed once; None if it is missing."""
         if self.is_older:
             return None
         reply = self.service.get(path)
@@ -138,7 +138,7 @@ class ServiceOffice:
 
 
 def hint_in(text: bytes) -> Optional[SentHint]:
-    """A message as a hint, where it is one. Its fields `By` and `Comment` are for people: the office reads neither."""
+    """A message as a hint, if it is one. Its fields `By` and `Comment` are for people: the office reads neither."""
     for paragraph in paragraphs(text):
         if kind_of(paragraph) is Kind.HINT:
             return SentHint(*(" ".join((paragraph.value(name) or "").split()) for name in ("Hint", "By", "Comment")))
@@ -291,5 +291,5 @@ def text_of(path: str) -> str:
 
 
 def finished_in(testing: str) -> int:
-    """After how many runs testing is as a text tells it; the rest of it is read with the pages."""
+    """After how many runs testing is as in a text; the rest of it is read with the pages."""
     return reports.read_testing(testing[:testing.find("\n") + 1]).finished

@@ -56,7 +56,7 @@ class SourceOutcome:
 
 @functools.lru_cache(maxsize=None)
 def outcome_in(told: str) -> SourceOutcome:
-    """The outcome that `as_json` told, from its text."""
+    """The outcome that `as_json` wrote, from its text."""
     part = json.loads(told)
     offender = Offender(part["arch"], part["package"]) if "package" in part else None
     return SourceOutcome(What(part["what"]), part.get("hint"), Word(part["kind"]) if "kind" in part else None, offender)

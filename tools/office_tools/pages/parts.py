@@ -30,7 +30,7 @@ def row_texts(rows: Sequence[Of], named: Callable[[Of], str], made: Callable[[Of
 
 
 def cut(rows: Sequence[RowText]) -> Iterator[Sequence[RowText]]:
-    """The rows by pages, of which there is one at least."""
+    """The rows by pages, with one page at least."""
     some: list[RowText] = []
     size = 0
     for row in rows:

@@ -15,7 +15,7 @@ CHANGELOG = "https://metadata.ftp-master.debian.org/changelogs/main/%p/%s/%s_%v_
 class Patterns:
     """The patterns. An empty one makes no links.
 
-    In each `%s` stands for what is looked for: a bug's number, or a source's name. In that of builds `%a` is the
+    In each `%s` means what is looked for: a bug's number, or a source's name. In that of builds `%a` is the
     architecture; in that of changelogs `%v` is the version without its epoch, and `%p` the source's folder in a pool.
     """
 
@@ -29,7 +29,7 @@ class Patterns:
         return filled(self.bugs, {"%s": number})
 
     def source(self, source: str) -> str:
-        """Where all is told of a source."""
+        """Where everything on a source is."""
         return filled(self.tracker, {"%s": source})
 
     def logs(self, source: str, architecture: str = "") -> str:

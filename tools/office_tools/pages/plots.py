@@ -1,7 +1,7 @@
-"""Pictures as SVG that stand within a page: bars, lines by day, and columns. They need no script and no other file.
+"""Pictures as SVG within a page: bars, lines by day, and columns. They need no script and no other file.
 
 Colours and sizes of texts are the stylesheet's, by classes, so that they follow its schemes. Each picture has a name
-for those who don't see it; the numbers are in a table or in text beside it.
+for those who don't see it; the numbers are in a table or in text next to it.
 """
 import math
 from dataclasses import dataclass
@@ -81,7 +81,7 @@ def labels_below(labels: Sequence[str], places: Sequence[float]) -> list[str]:
 
 
 def lines(name: str, labels: Sequence[str], curves: Sequence[Curve]) -> str:
-    """A plot of curves over the same days, of which it shows the last ones."""
+    """A plot of curves over the same days. It shows the last ones."""
     labels = labels[-MOST_POINTS:]
     shown = [Curve(curve.name, curve.look, curve.values[-MOST_POINTS:]) for curve in curves]
     top, parts = across(max((value for curve in shown for value in curve.values), default=0))

@@ -62,7 +62,7 @@ def refused_because(change: Change) -> str:
 
 
 def outcome_sentence(outcome: SourceOutcome) -> str:
-    """What a run did with a source; empty where its update doesn't name it."""
+    """What a run did with a source; empty if its update doesn't name it."""
     if outcome.what is What.NONE:
         return ""
     if outcome.what is What.WAIT and outcome.offender:

@@ -1,7 +1,7 @@
 """Writes the pages: each is moved into its place whole, and none is written again that didn't change.
 
-All that changed is written into a folder beside, and then moved file by file: so a reader meets the old pages or the
-new ones, and a call that is ended in the middle leaves whole ones.
+All that changed is written into another folder, and then moved file by file. So a reader meets the old pages or the new
+ones, and a call that is ended in the middle leaves whole ones.
 """
 import contextlib
 import ctypes
@@ -93,7 +93,7 @@ class Site:
         self.folders: set[str] = set()
 
     def build(self, newest: Newest) -> None:
-        """Writes all pages that changed, and takes away those that there is no reason for any more."""
+        """Writes all pages that changed, and removes those without a reason."""
         is_there = os.path.exists(os.path.join(self.folder, "index.html"))
         if is_there and self.state.built() == self.look + self.extras.digest:
             return
@@ -130,7 +130,7 @@ class Site:
         return self.facts
 
     def put(self, path: str, data: bytes) -> None:
-        """Writes a file beside its place, where it isn't there with these bytes already."""
+        """Writes a file next to its place, unless it has these bytes already."""
         self.digests_now.setdefault(path, "")
         try:
             with open(os.path.join(self.folder, path), "rb") as file:
@@ -203,7 +203,7 @@ class Site:
             self.digests_now[path] = digest
 
     def write_runs(self, facts: views.Facts) -> None:
-        """A page of each run, and the list of all. That of an earlier run changes once the next one is there."""
+        """A page of each run, and the list of all. That of an earlier run changes once the next one exists."""
         numbers = [run.number for run in facts.runs]
         pages: dict[int, list[str]] = {}
         for path in self.digests:
@@ -223,7 +223,7 @@ class Site:
         self.put("runs.html", self.page("runs.html", {"runs": facts.runs[::-1], "up": ""}))
 
     def write_run(self, facts: views.Facts, read: Newest, values: Mapping[str, Any]) -> None:
-        """The page of a run; those that are many are on pages behind it."""
+        """The page of a run; if it has many, they are on pages after it."""
         run = read.kept.run
         counts = counted(map(reason_words, read.excuses.excuses))
         values = {**values, "run": run, "hints": hints_of(facts, read), "up": "../",
@@ -244,7 +244,7 @@ class Site:
                 "is_known": facts.testing is not None}))
 
     def write_more(self, pages: Iterable[SectionPage], files: Iterable[tuple[str, bytes]]) -> None:
-        """Pages of sections, and files beside pages."""
+        """Pages of sections, and files that aren't pages."""
         for page in pages:
             for path, data in written(self.templates, page):
                 self.put(path, data)
@@ -355,7 +355,7 @@ def digest_of(parts: Iterable[str]) -> str:
 
 
 def own_files() -> Iterator[bytes]:
-    """What makes the pages: where it changes, each of them is looked at."""
+    """What makes the pages: if it changes, each of them is looked at."""
     for folder in "", "templates", "static":
         for name in sorted(os.listdir(os.path.join(HERE, folder))):
             if name.endswith((".py", ".html", ".css", ".js")):

@@ -1,7 +1,7 @@
 """What was fetched of an office and kept for later calls: a database of SQLite in a file.
 
-Each run stands in it with its texts and what it changed of each source, or not at all. All of it can be fetched again,
-so a file of another schema is made anew.
+It has each run, with its texts and what it changed of each source, or not at all. All of it can be fetched again, so a
+file of another schema is made again.
 """
 import contextlib
 import datetime
@@ -62,7 +62,7 @@ class Event:
 
     @property
     def standing(self) -> tuple[str, ...]:
-        """All but the run: a source has another event only where this differs."""
+        """All but the run: a source has another event only if this differs."""
         return (self.testing, self.unstable, self.reasons, self.outcome)
 
 
@@ -78,9 +78,9 @@ class KeptRun:
 
 @dataclass(frozen=True)
 class Why:
-    """What the office answered about a source, and what its excuse was then but for the age.
+    """What the office answered about a source, and what its excuse was then, except the age.
 
-    `run` is the last one behind which it was asked, and `since` the first one from which on it always told the same.
+    `run` is the last one after which it was asked, and `since` the first one from which on the answer was the same.
     """
 
     run: int
@@ -91,7 +91,7 @@ class Why:
 
 @dataclass(frozen=True)
 class Proposal:
-    """What the office proposed for a source behind a run, and what its excuse was then but for the age."""
+    """What the office proposed for a source after a run, and what its excuse was then, except the age."""
 
     run: int
     excuse: str
@@ -102,7 +102,7 @@ class Proposal:
 class SentHint:
     """A hint as it was sent: what it asks, and who sent it for what, if its fields `By` and `Comment` say so.
 
-    All are empty if its message couldn't be had.
+    All are empty if its message isn't available.
     """
 
     text: str = ""
@@ -127,7 +127,7 @@ class State:
                 self.make()
 
     def make(self) -> None:
-        """Makes the tables, in the place of all that are there."""
+        """Makes the tables, in place of all present ones."""
         with self.transaction():
             for name, in self.database.execute("SELECT name FROM sqlite_schema WHERE type = 'table'").fetchall():
                 self.database.execute(f'DROP TABLE "{name}"')
@@ -137,7 +137,7 @@ class State:
 
     @contextlib.contextmanager
     def faults(self) -> Iterator[None]:
-        """Within it a fault of SQLite is told with the file's name."""
+        """Within it a fault of SQLite is printed with the file's name."""
         try:
             yield
         except sqlite3.Error as fault:
@@ -145,7 +145,7 @@ class State:
 
     @contextlib.contextmanager
     def transaction(self) -> Iterator[None]:
-        """What is done within it stands whole, or not at all."""
+        """What is done within it is kept whole, or not at all."""
         with self.faults():
             self.database.execute("BEGIN IMMEDIATE")
             try:
@@ -173,14 +173,14 @@ class State:
         return KeptRun(run_in(found[0]), found[1], unpacked(found[2]), unpacked(found[3]))
 
     def drop_from(self, number: int) -> None:
-        """Drops all runs from this one on, what was asked behind them, and what was read of the mail."""
+        """Drops all runs from this one on, what was asked after them, and what was read of the mail."""
         with self.transaction():
             for table in MAIL_TABLES:
                 self.database.execute(f"DELETE FROM {table}")
             self.database.execute("DELETE FROM run WHERE number >= ?", (number,))
             for table in "event", "last", "testing", "unstable", "why", "told", "proposal":
                 self.database.execute(f"DELETE FROM {table} WHERE run >= ?", (number,))
-            # Of the columns beside max(run) SQLite gives those of the row that has it.
+            # Of the columns other than max(run) SQLite gives those of the row that has it.
             self.database.execute("INSERT OR IGNORE INTO last SELECT source, max(run), testing, unstable, reasons, "
                                   "outcome FROM event GROUP BY source")
             self.database.execute("UPDATE page SET digest = ''")
@@ -231,7 +231,7 @@ class State:
         return self.suite("testing")
 
     def keep_testing(self, run: int, told: str) -> None:
-        """Keeps what is in testing after a run, in the place of what was kept."""
+        """Keeps what is in testing after a run, in place of what was kept."""
         self.keep_suite("testing", run, told)
 
     def unstable(self) -> Optional[tuple[int, str]]:
@@ -239,11 +239,11 @@ class State:
         return self.suite("unstable")
 
     def keep_unstable(self, run: int, told: str) -> None:
-        """Keeps what is in unstable, in the place of what was kept."""
+        """Keeps what is in unstable, in place of what was kept."""
         self.keep_suite("unstable", run, told)
 
     def suite(self, table: str) -> Optional[tuple[int, str]]:
-        """The text of a suite, and of which run it is."""
+        """The text of a suite, and its run."""
         with self.faults():
             found = self.database.execute(f"SELECT run, told FROM {table}").fetchone()
         return (found[0], unpacked(found[1])) if found else None
@@ -261,7 +261,7 @@ class State:
             return {source: Why(*parts) for source, *parts in self.database.execute("SELECT * FROM why")}
 
     def keep_whys(self, whys: Mapping[str, Why], hints: Iterable[int]) -> None:
-        """Keeps answers about sources, each in the place of an earlier one, and which hints they name."""
+        """Keeps answers about sources, each in place of an earlier one, and which hints they name."""
         with self.transaction():
             self.database.executemany("INSERT OR REPLACE INTO why VALUES (?, ?, ?, ?, ?)", (
                 (source, why.run, why.since, why.excuse, why.told) for source, why in whys.items()))
@@ -269,13 +269,13 @@ class State:
             self.database.execute("DELETE FROM built")
 
     def told(self, name: str) -> Optional[tuple[int, str]]:
-        """A text that is kept as it was told, and behind which run."""
+        """A text that is kept as it was printed, and after which run."""
         with self.faults():
             found = self.database.execute("SELECT run, told FROM told WHERE name = ?", (name,)).fetchone()
         return (found[0], found[1]) if found else None
 
     def keep_told(self, name: str, run: int, text: str) -> None:
-        """Keeps a text as it was told, in the place of an earlier one."""
+        """Keeps a text as it was printed, in place of an earlier one."""
         if self.told(name) == (run, text):
             return
         with self.transaction():
@@ -288,7 +288,7 @@ class State:
             return {source: Proposal(*parts) for source, *parts in self.database.execute("SELECT * FROM proposal")}
 
     def keep_proposals(self, proposals: Mapping[str, Proposal]) -> None:
-        """Keeps what was proposed for sources, each in the place of an earlier answer."""
+        """Keeps what was proposed for sources, each in place of an earlier answer."""
         if proposals:
             with self.transaction():
                 self.database.executemany("INSERT OR REPLACE INTO proposal VALUES (?, ?, ?, ?)", (

@@ -1,4 +1,4 @@
-"""What the office answers about a source (`GET /why/SOURCE`), cut into pieces, some of which are links."""
+"""What the office answers about a source (`GET /why/SOURCE`), cut into pieces, some of them links."""
 import re
 from dataclasses import dataclass
 from typing import Callable, Collection, Mapping, Optional, Sequence
@@ -48,9 +48,9 @@ HINT = re.compile(r"(?:old enough .*|blocked|removal asked) by \S+ (\d+)")
 
 
 def lines_of(source: str, told: str, links: Links) -> Sequence[Line]:
-    """The lines behind a source's excuse: where it comes from, what names it, and what shows that it can't move.
+    """The lines after a source's excuse: where it comes from, what names it, and what shows that it can't move.
 
-    The line of the update that says what became of the source itself is left out: the page tells that by a sentence.
+    The line of the update on the source itself is left out: the page says that in a sentence.
     """
     found = []
     for text in behind_excuse(source, told):
@@ -63,7 +63,7 @@ def lines_of(source: str, told: str, links: Links) -> Sequence[Line]:
 
 
 def behind_excuse(source: str, told: str) -> Sequence[str]:
-    """The lines of an answer behind its head and its excuse, if it has one."""
+    """The lines of an answer after its head and its excuse, if it has one."""
     lines = told.splitlines()[1:]
     if len(lines) < 2 or not lines[0].startswith(source + " ") or not lines[1].startswith(" age "):
         return lines
@@ -71,7 +71,7 @@ def behind_excuse(source: str, told: str) -> Sequence[str]:
 
 
 def change_in(text: str) -> Optional[Change]:
-    """The line as one of an update, where it is one."""
+    """The line as one of an update, if it is one."""
     for form, _, _ in reports.CHANGE_FORMS:
         if form.fullmatch(text):
             return reports.read_change(reports.Lines(text + "\n", "why"))
@@ -79,7 +79,7 @@ def change_in(text: str) -> Optional[Change]:
 
 
 def line_of(text: str, links: Links) -> Line:
-    """A line as it is told, with links. A line of another form is told without."""
+    """A line as it is printed, with links. A line of another form has none."""
     step = STEP.fullmatch(text)
     if step:
         pieces = [Piece(f"{step[1]} {step[2]}"), Piece(step[3], links.source(step[3])), Piece(step[4])]
@@ -114,7 +114,7 @@ def linked(text: str, names: Collection[str], link: Callable[[str], str]) -> lis
 
 
 def shortened(text: str, longest: int = 300) -> str:
-    """A text, cut at a word where it is long."""
+    """A text, cut at a word if it is long."""
     if len(text) <= longest:
         return text
     return text[:longest].rsplit(" ", 1)[0] + f" .. ({len(text.split(' '))} words)"

@@ -82,7 +82,7 @@ def one_page(facts: views.Facts, one: Transition, links: Links) -> SectionPage:
 
 
 def architecture_section(one: Transition) -> Section:
-    """How many sources stand how on each architecture."""
+    """How many sources have which state on each architecture."""
     states = (NEW, NEITHER, OLD, MISSING, GONE)
     counts = collections.Counter((architecture, state) for user in one.users
                                  for architecture, state in user.states.items())

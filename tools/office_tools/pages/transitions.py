@@ -18,7 +18,7 @@ OLD, NEW, NEITHER, MISSING, GONE = "old", "new", "neither", "missing", "gone"
 
 @dataclass(frozen=True)
 class Suite:
-    """A suite as the office told it: the version of each source, and the version and source of each row."""
+    """A suite as the office prints it: the version of each source, and the version and source of each row."""
 
     sources: Mapping[str, str]
     rows: Mapping[Key, tuple[str, str]]
@@ -88,7 +88,7 @@ class Transition:
 
     @property
     def pairs(self) -> Sequence[tuple[str, str]]:
-        """Each old name with the new one that is the same but for numbers, or with nothing. One of each are a pair."""
+        """Each old name with the new one that differs only in numbers, or with nothing. One of each are a pair."""
         stems = {stem(name): name for name in self.new}
         only = self.new[0] if len(self.old) == len(self.new) == 1 else ""
         return [(name, stems.get(stem(name), only)) for name in self.old]
@@ -144,7 +144,7 @@ class Reader:
 
     def transition(self, source: str, before: Mapping[Key, str],
                    after: Mapping[Key, Optional[Build]]) -> Optional[Transition]:
-        """The transition of a source with these rows in testing and in unstable; None where it has none."""
+        """The transition of a source with these rows in testing and in unstable; None if it has none."""
         built = {architecture for architecture, _ in after}
         provided = {name for build in after.values() if build for names in clause_names(build.provides)
                     for name in names}

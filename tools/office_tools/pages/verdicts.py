@@ -1,4 +1,4 @@
-"""Verdicts: the words of the JSON, and the one word by which the pages tell how a source stands."""
+"""Verdicts: the words of the JSON, and the one word by which the pages give the state of a source."""
 from typing import Collection, Mapping, Sequence
 
 from office_tools.pages.outcomes import reason_words, What
@@ -40,7 +40,7 @@ def verdict(words: Collection[str]) -> str:
 
 
 def word_of(words: Sequence[str], what: What) -> str:
-    """The one word for how a source stands, of its reasons' words and of what the run did with it."""
+    """The one word for the state of a source, from its reasons' words and from what the run did with it."""
     if what in (What.ACCEPT, What.REMOVED) or not words:
         return OUTCOME_WORDS[what]
     return WORDS[verdict(words)]

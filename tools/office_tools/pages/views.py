@@ -22,7 +22,7 @@ from office_tools.reports import Excuse, Reason, ReasonKind
 
 HINT_LINES: Mapping[ReasonKind, str] = {
     ReasonKind.TOO_YOUNG: "old enough ", ReasonKind.BLOCKED: "blocked ", ReasonKind.REMOVAL: "removal asked "}
-"""What the lines begin with that name the hints behind a reason."""
+"""How the lines begin that name the hints for a reason."""
 
 BLOCK_ALL = "block-all"
 ASKING: Mapping[str, ReasonKind] = {
@@ -36,7 +36,7 @@ NOT_ASKED = "Not asked yet: a later call asks."
 
 @dataclass(frozen=True)
 class Standing:
-    """From which run on a source stood so: its versions, what kept it out, what the run did, and whether it moved."""
+    """From which run on a source had a state: its versions, what kept it out, what the run did, whether it moved."""
 
     run: int
     date: str
@@ -206,13 +206,13 @@ def binaries_of(rows: Sequence[reports.Row]) -> Mapping[str, Sequence[str]]:
 
 
 def why_of(facts: Facts, excuse: Excuse) -> Optional[Why]:
-    """What the office answered about a source, if its excuse is the same but for the age."""
+    """What the office answered about a source, if its excuse is the same except the age."""
     why = facts.whys.get(excuse.source)
     return why if why is not None and why.excuse == without_age(excuse) else None
 
 
 def reason_lines(facts: Facts, excuse: Excuse, links: Links) -> Sequence[Line]:
-    """A sentence for each reason, with the bug as a link, and with the hints behind it where they are known."""
+    """A sentence for each reason, with the bug as a link, and with the hints for it if they are known."""
     why = why_of(facts, excuse)
     lines = why.told.splitlines() if why else None
     return tuple(Line((*reason_pieces(reason, excuse, facts, links), *hint_pieces(facts, reason, excuse, lines, links)))
@@ -236,7 +236,7 @@ def reason_pieces(reason: Reason, excuse: Excuse, facts: Facts, links: Links) ->
 
 def hint_pieces(facts: Facts, reason: Reason, excuse: Excuse, lines: Optional[Sequence[str]],
                 links: Links) -> Sequence[Piece]:
-    """The hints behind a reason, by number and text: those that the office named, else those in force."""
+    """The hints for a reason, by number and text: those that the office named, else those in force."""
     beginning = HINT_LINES.get(reason.kind)
     if beginning is None:
         return ()
@@ -260,7 +260,7 @@ def told_of(facts: Facts, excuse: Optional[Excuse], outcomes: Sequence[SourceOut
 
 
 def row_of(facts: Facts, excuse: Excuse, links: Links) -> Row:
-    """A source as it stands in a list of those that don't move."""
+    """A source in a list of those that don't move."""
     outcomes = facts.outcomes.get(excuse.source, NOTHING)
     what = outcomes[-1].what
     return Row(excuse.source, excuse.testing or "", excuse.unstable, excuse.age, excuse.needed,
@@ -290,7 +290,7 @@ def change_line(change: reports.Change, links: Links) -> Line:
 
 
 def moved_sentence(change: reports.Change) -> str:
-    """How a source moved, or why it waits, behind the word for it."""
+    """How a source moved, or why it waits, after the word for it."""
     if change.offender is not None:
         return "since its move " + breaks(change.offender)
     return "alone" if change.hint is None else f"in the group of easy hint {change.hint}"
@@ -331,7 +331,7 @@ def verdict_of(facts: Facts, name: str) -> str:
 
 
 def ways_out(facts: Facts, name: str, excuse: Optional[Excuse]) -> Sequence[Piece]:
-    """Where more is told of a source."""
+    """Where to find more on a source."""
     version = excuse.unstable if excuse else testing_version(facts, name)
     ways = [Piece("Tracker", facts.patterns.source(name)), Piece("Builds", facts.patterns.logs(name)),
             Piece(f"Changelog of {version}", facts.patterns.changes(name, version) if version else "")]
@@ -352,7 +352,7 @@ def people_of(facts: Facts, name: str) -> Sequence[Piece]:
 
 
 def wait_lines(facts: Facts, waits: Sequence[Wait], links: Links, named: Callable[[Wait], str]) -> Sequence[Line]:
-    """A line for each source at one end of these, by name: what its package needs, and how it stands."""
+    """A line for each source at one end of these, by name: what its package needs, and its state."""
     found: dict[str, list[str]] = {}
     for wait in waits:
         found.setdefault(named(wait), []).append(wait.why)
@@ -378,7 +378,7 @@ def standing_of(facts: Facts, name: str) -> str:
 
 
 def testing_version(facts: Facts, name: str) -> str:
-    """The version in testing, where it is known."""
+    """The version in testing, if known."""
     if facts.testing is not None:
         return facts.testing.sources.get(name, "")
     excuse = facts.excuses.get(name)
@@ -392,7 +392,7 @@ def age_sentence(excuse: Excuse, date: datetime.date) -> str:
 
 
 def history_of(facts: Facts, events: Sequence[Event]) -> Sequence[Standing]:
-    """How a source stood from run to run, the newest first."""
+    """The state of a source from run to run, the newest first."""
     return [Standing(event.run, facts.dates.get(event.run, ""), event.testing, event.unstable,
                      event_pieces(event, facts), outcome_in(event.outcome).what is What.ACCEPT) for event in events]
 
@@ -406,7 +406,7 @@ def event_pieces(event: Event, facts: Facts) -> Sequence[Piece]:
 
 
 def proposal_of(facts: Facts, excuse: Excuse) -> Optional[Proposal]:
-    """What the office proposed for a source, if its excuse is the same but for the age."""
+    """What the office proposed for a source, if its excuse is the same except the age."""
     proposal = facts.proposals.get(excuse.source)
     return proposal if proposal is not None and proposal.excuse == without_age(excuse) else None
 
@@ -414,8 +414,8 @@ def proposal_of(facts: Facts, excuse: Excuse) -> Optional[Proposal]:
 def proposal_lines(facts: Facts, excuse: Optional[Excuse]) -> Sequence[str]:
     """What the office proposes for a source that waits.
 
-    That is the hint of its group, else what it answered for this source alone: the hints on which it rests, and what
-    shows that no group frees it.
+    That is the hint of its group, else what it answered for this source alone: the hints that it needs, and what shows
+    that no group frees it.
     """
     is_waiting = excuse is not None and facts.outcomes.get(excuse.source, NOTHING)[-1].what is What.WAIT
     if excuse is None or facts.proposed is None or not is_waiting:

@@ -1,8 +1,8 @@
-"""What waits for what: of each source that waits the sources that have to move or to be mended first, and the reverse.
+"""What waits for what: for each waiting source the sources that have to move or to be mended first, and the reverse.
 
 The office decides why a source can't move, and shows it by numbered lines (`GET /why/SOURCE`). A line that ends with
-`nothing` is where such a chain ends: the package that it names needs something that is nowhere any more. So its source
-is what has to be mended, or the source whose package in unstable would meet the clause.
+`nothing` ends such a chain: the package that it names needs something that no suite has any more. So its source has to
+be mended, or the source whose package in unstable would meet the clause.
 """
 import collections
 import re
@@ -19,7 +19,7 @@ TOO = "comes too"
 class End:
     """Where a chain ends: a package with its source, the clause that nothing meets, and what of unstable would meet it.
 
-    `others` are the package with its version, its source, and how it stands with that.
+    `others` are the package with its version, its source, and the state of that.
     """
 
     package: str
@@ -78,7 +78,7 @@ def sources_of(waits: Sequence[Wait]) -> Sequence[str]:
 
 
 def ends_of(told: str) -> Iterator[End]:
-    """Where the chains end by which the office shows that a source can't move."""
+    """The ends of the chains by which the office shows that a source can't move."""
     lines = told.splitlines()
     for place, line in enumerate(lines):
         found = STEP.fullmatch(line) if line.endswith(": nothing") else None
@@ -109,7 +109,7 @@ def waits_in(source: str, told: str) -> Sequence[Wait]:
 
 def waits_of(waiting: Mapping[str, tuple[Optional[str], str, str]]) -> Waits:
     """What the waiting sources wait for. Of each it takes what the office answered, if it did, and the first package
-    that its move would break, with the source of that, which is empty if it isn't known."""
+    that its move would break. It gives that package's source, which is empty if it isn't known."""
     by_source: dict[str, Sequence[Wait]] = {}
     by_other: dict[str, list[Wait]] = collections.defaultdict(list)
     for source, (told, package, other) in waiting.items():

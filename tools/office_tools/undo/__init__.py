@@ -1,1 +1,1 @@
-"""A way back from a slip: an office without the drops and removal hints of a feed, in the place of the other one."""
+"""A way back from a slip: an office without the drops and removal hints of a feed, in place of the other one."""

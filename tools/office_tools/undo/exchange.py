@@ -1,6 +1,6 @@
 """Two stores are exchanged, so that at each moment the old one or the new one is whole under its name.
 
-A store that was opened and closed by the program has all that it holds in its file: its log, FILE-wal, is empty but
+A store that was opened and closed by the program has all that it holds in its file: its log, FILE-wal, is empty except
 for its head. So the file alone is the store.
 """
 import contextlib
@@ -22,7 +22,7 @@ State = tuple[tuple[int, int], ...]
 
 
 def removed(path: str) -> None:
-    """Removes a file, if it is there."""
+    """Removes a file, if it exists."""
     with contextlib.suppress(FileNotFoundError):
         os.unlink(path)
 
@@ -69,7 +69,7 @@ class Locked:
         os.close(self.number)
 
     def copy(self, path: str) -> None:
-        """Makes a copy of the store, which is there whole or not at all. The program opens no file with two names."""
+        """Makes a copy of the store, whole or not at all. The program opens no file with two names."""
         part = path + ".part"
         try:
             with open(self.number, "rb", closefd=False) as file, open(part, "wb") as copy:
@@ -105,9 +105,9 @@ def stamp() -> str:
 
 
 def exchange(locked: Locked, new: str, caches: Sequence[str]) -> str:
-    """Puts the new store in the place of the old one, a copy of which gets the name that is given back.
+    """Puts the new store in place of the old one, and returns the name of a copy of the old one.
 
-    The caches are moved away first: each may be lost at any time, and none may stand beside a store of other mail.
+    The caches are moved away first: each may be lost at any time, and none may be next to a store of other mail.
     """
     store = locked.path
     if not is_closed(store) or not is_closed(new):

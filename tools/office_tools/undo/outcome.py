@@ -39,7 +39,7 @@ def replayed(words: Sequence[str], texts: Sequence[bytes]) -> Outcome:
 
 
 def take(outcome: Outcome, lines: Sequence[str]) -> None:
-    """Takes the reports of all runs and testing, which stand one after the other."""
+    """Takes the reports of all runs and testing, one after the other."""
     part: list[str] = []
     for place, line in enumerate(lines):
         is_excuse = place + 1 < len(lines) and lines[place + 1].startswith(" age ")

@@ -113,7 +113,7 @@ def is_feeds(letter: Letter) -> bool:
 
 
 def chosen(letters: Sequence[Letter], slips: Sequence[Slip]) -> Iterator[Letter]:
-    """The messages that these slips name, but for those that say nothing already. A slip without any is a `Fault`."""
+    """The messages that these slips name, without those that say nothing already. A slip without any is a `Fault`."""
     runs = orders(letters)
     found: dict[Label, Letter] = {}
     for entry in slips:
