@@ -37,6 +37,7 @@ try() {
 }
 
 try clients python3 "$here/service/clients.py" "$office"
+try framing python3 "$here/service/framing.py" "$office"
 try stores python3 "$here/service/stores.py" "$office"
 try asking python3 "$here/service/asking.py" "$office"
 try live python3 "$here/service/live.py" "$office"

@@ -64,8 +64,8 @@ LATER = [
     ('more calls of the office', ['office_core::Office', 'office_core_why::one_seen', *(
         f'office_core_outcome::{law}' for law in ('try_is_next_run', 'trials_have_one_end', 'proposals_are_trials'))]),
     ('every route', [f'office_http::{call}' for call in (
-        'serve_one', 'requests_are_steps', 'requests_have_one_answer', 'bound_mail', 'lint_is_mail', 'old_requests_stay',
-        'pages_post_nothing')]),
+        'serve_one', 'serve_as_hosts', 'requests_are_steps', 'requests_have_one_answer', 'bound_mail', 'lint_is_mail',
+        'old_requests_stay', 'pages_post_nothing')]),
     ('every command', ['office_cli_words::read_words']),
     ('certificates', [f'testing_install_why::{call}' for call in (
         'certificate', 'is_shown', 'groundless_isnt_installable', 'each_has_an_order')]),

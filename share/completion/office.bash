@@ -38,7 +38,7 @@ _office() {
             mapfile -t COMPREPLY < <(compgen -f -- "$current")
             return
             ;;
-        --port | --connections | --run | --day) return ;;
+        --port | --connections | --host | --run | --day) return ;;
     esac
     if ((COMP_CWORD == 1)); then
         _office_words 'compare replay serve waiting report runs why try propose hints order lint mail export check' \
@@ -67,7 +67,7 @@ _office() {
         order) _office_words "$(_office_options --day --conf --db)" "$current" ;;
         lint) _office_words "$(_office_options --conf)" "$current" ;;
         mail) _office_words "$(_office_options --conf --db --list)" "$current" ;;
-        serve) _office_words "$(_office_options --conf --port --db --connections)" "$current" ;;
+        serve) _office_words "$(_office_options --conf --port --db --connections --host)" "$current" ;;
     esac
 }
 

@@ -253,7 +253,7 @@ def by_service(seed, office, store, due, sources):
     known = office.known.sources if office.known else {}
     told = {name: call("why", name, *stored)[0] if name in known else "refused NoSource\n" for name in sources}
     pages += [("/why/%s" % name, text) for name, text in told.items()]
-    tries = [["block %s" % name for name in names] for names in (sources[:1], sources) if names]
+    tries = [["block %s" % name for name in names] for names in (sources[:1], sources[:12]) if names]
     pages += [("/try", call("try", *hints, *stored)[0], "\n".join(hints).encode()) for hints in tries]
     words = [program, "serve", *stored[:2], "--port", str(port), "--connections", str(len(pages)), *stored[2:]]
     with subprocess.Popen(words, stdout=subprocess.PIPE) as service:

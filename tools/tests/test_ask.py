@@ -19,7 +19,7 @@ ASKED = [
     ["try", "block greeter", "age-days 0 libgreet/2.0-1"], ["try", "block nosuch"], ["try", "force greeter/1"],
     ["try", "block greeter", "unblock greeter"], ["try", ""], ["try", "block greeter", "--all"],
     ["try", "block greeter", "--day", "2025-04-02"], ["try", "unblock libgreet/2.0-1", "--all", "--day", "2025-04-02"],
-    ["try", "block\ngreeter"], ["try", "block greeter\r"],
+    ["try", "block\ngreeter"], ["try", "block greeter\r"], ["try", *["block greeter"] * 18],
     ["propose"], ["propose", "libgreet"], ["propose", "greeter"], ["propose", "nosuch"],
     ["propose", "libgreet", "greeter"],
     ["propose", "--day", "2025-04-02", "--all"], ["propose", "No"],

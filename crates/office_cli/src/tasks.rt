@@ -25,11 +25,15 @@ use std::{fs, io, mem};
 
 /// What is done in an office, once its store is there.
 #[derive(Clone, Copy)]
-enum Task {
+enum Task<'a> {
     /// The bag on standard input is replayed.
     Replay,
-    /// So many connections are served on a port.
-    Serve { port: u32, connections: u32 },
+    /// So many connections are served on a port, as these hosts.
+    Serve {
+        port: u32,
+        connections: u32,
+        hosts: &'a [&'a str],
+    },
     /// What the first run that isn't ready waits for is told.
     Waiting,
     /// What the first run that isn't ready waits for is told, once the bag on standard input is delivered.
@@ -52,7 +56,15 @@ pub fn run_command(rt: &HostRuntime, words: Words) -> u8 {
             port,
             db,
             connections,
-        } => run_for(rt, conf, db, Task::Serve { port, connections }),
+            hosts,
+        } => {
+            let task = Task::Serve {
+                port,
+                connections,
+                hosts: hosts.as_slice(),
+            };
+            run_for(rt, conf, db, task)
+        }
         Words::Waiting { conf, db: None } => run_for(rt, conf, None, Task::BagWaiting),
         Words::Waiting { conf, db } => run_for(rt, conf, db, Task::Waiting),
         Words::Report { conf, db, report } => run_for(rt, conf, Some(db), Task::Report(report)),
@@ -120,7 +132,7 @@ pub(crate) fn out_of_memory(rt: &HostRuntime) -> u8 {
 }
 
 /// Does a task for the setup in a file, over the store in a file or in memory.
-fn run_for(rt: &HostRuntime, conf: &str, db: Option<&str>, task: Task) -> u8 {
+fn run_for(rt: &HostRuntime, conf: &str, db: Option<&str>, task: Task<'_>) -> u8 {
     match read_setup(rt, conf) {
         Ok(setup) => match db {
             Some(path) => run_stored(rt, path, setup, task),
@@ -157,7 +169,7 @@ pub(crate) fn find_file(rt: &HostRuntime, path: &str) -> io::Result<()> {
 }
 
 /// Looks whether the file is there that a task tells of. Only a replay and a service make one.
-fn find_store_file(rt: &HostRuntime, path: &str, task: Task) -> io::Result<()> {
+fn find_store_file(rt: &HostRuntime, path: &str, task: Task<'_>) -> io::Result<()> {
     match task {
         Task::Waiting | Task::Report(_) | Task::Answer(_) => find_file(rt, path),
         Task::Replay | Task::Serve { .. } | Task::BagWaiting | Task::Lint => Ok(()),
@@ -171,7 +183,7 @@ pub(crate) fn tell_unfound(rt: &HostRuntime, path: &str, fault: io::Error) -> u8
 }
 
 /// Does a task in an office whose store is in a file.
-fn run_stored(rt: &HostRuntime, path: &str, setup: Setup, task: Task) -> u8 {
+fn run_stored(rt: &HostRuntime, path: &str, setup: Setup, task: Task<'_>) -> u8 {
     if let Err(fault) = find_store_file(rt, path, task) {
         return tell_unfound(rt, path, fault);
     }
@@ -221,7 +233,7 @@ pub(crate) fn tell_store(rt: &HostRuntime, path: &str, fault: &FileFault) -> u8 
 
 /// Does a task in an office whose store is in memory. The process ends behind it, which gives back all memory at once, so
 /// the office's values aren't let go one by one.
-fn run_in_memory(rt: &HostRuntime, setup: Setup, task: Task) -> u8 {
+fn run_in_memory(rt: &HostRuntime, setup: Setup, task: Task<'_>) -> u8 {
     match Plain::new(rt.alloc(), &setup) {
         Ok(plain) => {
             let mut office = Office::new(rt.alloc(), setup, plain);
@@ -234,10 +246,14 @@ fn run_in_memory(rt: &HostRuntime, setup: Setup, task: Task) -> u8 {
 }
 
 /// Does a task in an office.
-fn run_over<K: Keeper>(rt: &HostRuntime, office: &mut Office<K>, task: Task) -> u8 {
+fn run_over<K: Keeper>(rt: &HostRuntime, office: &mut Office<K>, task: Task<'_>) -> u8 {
     match task {
         Task::Replay => replay_over(rt, office),
-        Task::Serve { port, connections } => serve_over(rt, office, port, connections),
+        Task::Serve {
+            port,
+            connections,
+            hosts,
+        } => serve_over(rt, office, port, connections, hosts),
         Task::Waiting => tell_waiting(rt, office),
         Task::BagWaiting => deliver_and_tell(rt, office),
         Task::Report(report) => tell_report(rt, office, report),
@@ -300,14 +316,15 @@ fn replay_told<K: Keeper, W: Write>(
     replay_status(&replayed)
 }
 
-/// Serves so many connections on a port, over an office.
+/// Serves so many connections on a port, as these hosts, over an office.
 fn serve_over<K: Keeper>(
     rt: &HostRuntime,
     office: &mut Office<K>,
     port: u32,
     connections: u32,
+    hosts: &[&str],
 ) -> u8 {
-    let served = serve(rt, office, port, connections);
+    let served = serve(rt, office, port, connections, hosts);
     if let Err(fault) = &served {
         let _ = eprintln!(rt; "office: 127.0.0.1:{port}: {fault}");
     }

@@ -6,13 +6,13 @@ use Rattle.office_cli_words.specs.Asked.{ToCheck, ToCompare, ToExport, ToLint, T
 use Rattle.office_cli_words.specs.declared.reports.Report.TheVariants.{Excuses, Testing, Unstable, Update}
 
 -- a service with its defaults
-serve_by_default : words_in (codes "office" ∷ codes "serve" ∷ codes "--conf" ∷ codes "f" ∷ codes "--port" ∷ codes "80" ∷ []) ≡ Some (ToServe (codes "f") 80 None 1_000_000)
+serve_by_default : words_in (codes "office" ∷ codes "serve" ∷ codes "--conf" ∷ codes "f" ∷ codes "--port" ∷ codes "80" ∷ []) ≡ Some (ToServe (codes "f") 80 None 1_000_000 [])
 unfolding clap_on_literals of_three of_five of_nine of_eleven office command_words_in words_in
 serve_by_default = refl
 
 -- every option, in another order and form
-serve_with_all : words_in (codes "office" ∷ codes "serve" ∷ codes "--connections=0" ∷ codes "--db" ∷ codes "g" ∷ codes "--port=65535" ∷ codes "--conf=f" ∷ [])
-    ≡ Some (ToServe (codes "f") 65_535 (Some (codes "g")) 0)
+serve_with_all : words_in (codes "office" ∷ codes "serve" ∷ codes "--connections=0" ∷ codes "--host=b" ∷ codes "--db" ∷ codes "g" ∷ codes "--port=65535" ∷ codes "--host" ∷ codes "a" ∷ codes "--conf=f" ∷ [])
+    ≡ Some (ToServe (codes "f") 65_535 (Some (codes "g")) 0 (codes "b" ∷ codes "a" ∷ []))
 unfolding clap_on_literals of_three of_five of_nine of_eleven office command_words_in words_in
 serve_with_all = refl
 

@@ -1,5 +1,5 @@
 -- Words in which clap finds no fault ask for something.
-use Rattle.std.proofs.Common.{◌≡◌, ℕ, Bool, true, false, not, ◌&&◌, codes, cond, List, [], ◌∷◌, Option, Some, None, refl, sym, subst, arith}
+use Rattle.std.proofs.Common.{◌≡◌, ℕ, Bool, true, false, not, ◌&&◌, codes, cond, List, [], ◌∷◌, Option, Some, None, refl, sym, subst, ◌∙◌, arith}
 use Rattle.std.specs.Prelude.{⊤, find, is_some, option_and_then, option_map, unwrap_or}
 use Rattle.std.specs.List.{list_any}
 use Rattle.std.specs.Option.{option_map_or}
@@ -298,12 +298,12 @@ text_there : (id : Text) (o : Option Text) → HasFirst id o → is_some o ≡ t
 text_there id None has = absurd has
 text_there id (Some v) has = refl
 
-serve_some : (conf : Option Text) (port : Option ℕ) (db : Option Text) (connections : Option ℕ) → is_some conf ≡ true → is_some port ≡ true → is_some connections ≡ true
-    → is_some (serve_of conf port db connections) ≡ true
-serve_some (Some conf) (Some port) db (Some connections) a b c = refl
-serve_some None port db connections a b c = absurd (cc)
-serve_some (Some conf) None db connections a b c = absurd (cc)
-serve_some (Some conf) (Some port) db None a b c = absurd (cc)
+serve_some : (conf : Option Text) (port : Option ℕ) (db : Option Text) (connections : Option ℕ) (hosts : List Text) → is_some conf ≡ true → is_some port ≡ true → is_some connections ≡ true
+    → is_some (serve_of conf port db connections hosts) ≡ true
+serve_some (Some conf) (Some port) db (Some connections) hosts a b c = refl
+serve_some None port db connections hosts a b c = absurd (cc)
+serve_some (Some conf) None db connections hosts a b c = absurd (cc)
+serve_some (Some conf) (Some port) db None hosts a b c = absurd (cc)
 
 reads_one : (b : Bool) → (b && true) ≡ true → b ≡ true
 reads_one true h = refl
@@ -323,21 +323,27 @@ serve_reads words none =
           keeps_value false (ready 1 program.db) refl refl refl (λ values fine. refl),
           (
             keeps_value false connections_rule refl refl refl (λ values fine. numbers_accepted connections_rule 0 1_000_000 values (omega arith) refl fine),
-            (keeps_help false (ready 1 help_rule) refl, tt),
+            (
+              keeps_values false (ready 1 program.host) refl refl refl (λ values fine. refl),
+              (keeps_help false (ready 1 help_rule) refl, tt),
+            ),
           ),
         ),
       ),
     ) in
-    let left = level_leaves (leaf program.serve) words keeps (refl, (refl, (refl, (refl, (refl, tt))))) none in
+    let left = level_leaves (leaf program.serve) words keeps (refl, (refl, (refl, (refl, (refl, (refl, tt)))))) none in
     let conf = text_there (codes "conf") (first_of (codes "conf") rows) (given_first (codes "conf") rows left.0 (left.1.0 refl)) in
     let port = number_there (codes "port") (first_of (codes "port") rows) (λ v h. reads_one (is_some (number_in v)) h) (given_first (codes "port") rows left.0 (left.1.1.0 refl)) in
     let settled_first = (settled (leaf program.serve).rules (walk (leaf program.serve).rules [] nothing_held words).held).rows in
     let before = with_default (with_default (with_default settled_first (ready 1 program.conf)) port_rule) (ready 1 program.db) in
     let after = with_default before connections_rule in
-    let there : has_row (codes "connections") (with_default after (ready 1 help_rule)) ≡ true =
-    subst (λ (r : List Row). has_row (codes "connections") r ≡ true) (sym (no_default after (ready 1 help_rule) refl)) (default_there before connections_rule (codes "1000000") refl) in
+    let hosted : with_default after (ready 1 program.host) ≡ after = no_default after (ready 1 program.host) refl in
+    let there : has_row (codes "connections") (with_default (with_default after (ready 1 program.host)) (ready 1 help_rule)) ≡ true =
+    subst (λ (r : List Row). has_row (codes "connections") r ≡ true) (sym (no_default (with_default after (ready 1 program.host)) (ready 1 help_rule) refl ∙ hosted))
+    (default_there before connections_rule (codes "1000000") refl) in
     let connections = number_there (codes "connections") (first_of (codes "connections") rows) (λ v h. reads_one (is_some (number_in v)) h) (row_first (codes "connections") rows left.0 there) in
-    serve_some (first_of (codes "conf") rows) (option_and_then number_in (first_of (codes "port") rows)) (first_of (codes "db") rows) (option_and_then number_in (first_of (codes "connections") rows)) conf port connections
+    serve_some (first_of (codes "conf") rows) (option_and_then number_in (first_of (codes "port") rows)) (first_of (codes "db") rows) (option_and_then number_in (first_of (codes "connections") rows))
+    (unwrap_or (all_of (codes "host") rows) []) conf port connections
 
 -- ---- the command that the words name
 

@@ -46,9 +46,13 @@ compare = with_rule (with_rule (with_rule (new_app (codes "compare")) (place (co
 abbrev pub replay : App
 replay = with_rule (with_rule (new_app (codes "replay")) conf) db
 
--- `serve --conf F --port N [--db F] [--connections C]`
+-- `--host NAME`, which may be given several times
+abbrev pub host : Rule
+host = record (option (codes "host")) { action = Some Append }
+
+-- `serve --conf F --port N [--db F] [--connections C] [--host NAME]..`
 abbrev pub serve : App
-serve = with_rule (with_rule (with_rule (with_rule (new_app (codes "serve")) conf) port) db) connections
+serve = with_rule (with_rule (with_rule (with_rule (with_rule (new_app (codes "serve")) conf) port) db) connections) host
 
 -- `waiting --conf F [--db F]`
 abbrev pub waiting : App

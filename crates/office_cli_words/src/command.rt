@@ -50,6 +50,9 @@ const AFTER_SERVE: &str = "Example: office serve --conf examples/setup.conf --po
 Prints 'listening N' once it takes connections, and serves one after the other. Without --db the mail is kept
 in memory and is gone at the end.";
 
+const HOST: &str =
+    "A name of this service, besides 127.0.0.1, [::1] and localhost: other hosts are refused";
+
 const WAITING: &str = "Tells what the first run that isn't ready waits for: its order, or mail";
 
 const AFTER_WAITING: &str = "Example: office waiting --conf examples/setup.conf < examples/first.bag
@@ -257,6 +260,18 @@ fn connections_option<'a>(alloc: Global) -> Arg<'a>
         .default_value("1000000")
 }
 
+/// `--host NAME`, which may be given several times.
+fn host_option<'a>(alloc: Global) -> Arg<'a>
+    ensures rule { rule_of result ≡ program.host }
+    ensures local { result.global ≡ false }
+{
+    Arg::new(alloc, "host")
+        .long("host")
+        .value_name("NAME")
+        .help(HOST)
+        .action(ArgAction::Append)
+}
+
 /// A value that is needed, by its place.
 fn place<'a>(alloc: Global, id: &'a str, help: &'a str) -> Arg<'a>
     ensures rule { rule_of result ≡ program.place id.entry.now }
@@ -429,7 +444,7 @@ fn replay_command<'a>(alloc: Global) -> Result<Command<'a>, AllocError>
     with_arg(one, db_option(alloc, STORE))
 }
 
-/// `serve --conf SETUP --port PORT [--db FILE] [--connections COUNT]`.
+/// `serve --conf SETUP --port PORT [--db FILE] [--connections COUNT] [--host NAME]..`.
 fn serve_command<'a>(alloc: Global) -> Result<Command<'a>, AllocError>
     ensures { IfOk result (λ c. app_of c ≡ program.serve) }
 {
@@ -437,7 +452,8 @@ fn serve_command<'a>(alloc: Global) -> Result<Command<'a>, AllocError>
     let one = with_arg(bare, conf_option(alloc));
     let two = with_arg(one, port_option(alloc));
     let three = with_arg(two, db_option(alloc, STORE));
-    with_arg(three, connections_option(alloc))
+    let four = with_arg(three, connections_option(alloc));
+    with_arg(four, host_option(alloc))
 }
 
 /// `waiting --conf SETUP [--db FILE]`.

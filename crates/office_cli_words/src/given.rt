@@ -78,18 +78,25 @@ fn replay_words<'a>(given: &ArgMatches<'a>) -> Option<Words<'a>>
     })
 }
 
-fn serve_words<'a>(given: &ArgMatches<'a>) -> Option<Words<'a>>
-    ensures { option_map asked result ≡ serve_in (rows_of (found_of given.now)) }
+fn serve_words<'a>(alloc: Global, given: &ArgMatches<'a>) -> Result<Option<Words<'a>>, AllocError>
+    ensures { IfOk result (λ words. option_map asked words ≡ serve_in (rows_of (found_of given.now))) }
 {
-    let conf = text_of(given, "conf")?;
-    let port = number_of(given, "port")?;
-    let connections = number_of(given, "connections")?;
-    Some(Words::Serve {
+    let Some(conf) = text_of(given, "conf") else {
+        return Ok(None);
+    };
+    let Some(port) = number_of(given, "port") else {
+        return Ok(None);
+    };
+    let Some(connections) = number_of(given, "connections") else {
+        return Ok(None);
+    };
+    Ok(Some(Words::Serve {
         conf,
         port,
         db: text_of(given, "db"),
         connections,
-    })
+        hosts: listed_texts(alloc, given, "host")?,
+    }))
 }
 
 fn waiting_words<'a>(given: &ArgMatches<'a>) -> Option<Words<'a>>
@@ -256,7 +263,7 @@ fn command_words<'a>(
     match name {
         "compare" => Ok(compare_words(given)),
         "replay" => Ok(replay_words(given)),
-        "serve" => Ok(serve_words(given)),
+        "serve" => serve_words(alloc, given),
         "waiting" => Ok(waiting_words(given)),
         "report" => Ok(report_words(given)),
         "runs" => Ok(runs_words(given)),

@@ -40,12 +40,14 @@ pub enum Words<'a> {
         conf: &'a str,
         db: Option<&'a str>,
     },
-    /// Serve so many connections on a port, for the setup in a file, over a store in a file or in memory.
+    /// Serve so many connections on a port, for the setup in a file, over a store in a file or in memory; if hosts are
+    /// named, for requests to these alone.
     Serve {
         conf: &'a str,
         port: u32,
         db: Option<&'a str>,
         connections: u32,
+        hosts: Vec<&'a str>,
     },
     /// Tell what the first run that isn't ready waits for, for the setup in a file: over a store in a file, or over the
     /// bag on standard input.
@@ -196,7 +198,7 @@ fn read_command<'a>(alloc: Global, words: &'a [&'a str]) -> Result<Words<'a>, Wo
 
 /// What the words ask for, the program's name being the first. `--version` alone asks for the version. All other words
 /// are read as clap reads them in the command `office` with its subcommands `compare V1 OP V2`, `replay --conf F
-/// [--db F]`, `serve --conf F --port N [--db F] [--connections C]`, `waiting --conf F [--db F]`, `report RUN [REPORT]
+/// [--db F]`, `serve --conf F --port N [--db F] [--connections C] [--host NAME]..`, `waiting --conf F [--db F]`, `report RUN [REPORT]
 /// --conf F --db F`, `runs --conf F --db F`, `mail --conf F --db F [--list]`, `export --conf F --db F`, `check --conf F
 /// --db F`, `why SOURCE.. --conf F [--db F] [--run K]`, `try HINT.. --conf F [--db F] [--day DAY] [--all]`, `lint --conf
 /// F`, `order --day DAY --conf F --db F`, `hints --conf F --db F` and `propose [SOURCE..] --conf F [--db F] [--day DAY]
