@@ -38,7 +38,8 @@ INNER = {('office_core_replay', 'settle_behind')}
 FIRST = [
     ('the headline', ['office_core::headline']),
     ('.. of calls and whole replays', [
-        'office_core::steps_follow', 'office_core::delivered', 'office_core::same_texts', 'office_core::runs_stay',
+        'office_core::steps_follow', 'office_core::delivered', 'office_core::unseen', 'office_core::by_role',
+        'office_core::same_texts', 'office_core::runs_stay',
         'office_core::empty_is_sound', 'office_core::Office::deliver', 'office_core::Office::deliver_together',
         'office_core::Office::settle', 'office_core_replay::replays_are_steps', 'office_core_replay::replay',  'office_core_replay::replay_status', 'office_mail::same_set', 'office_mail::later_mail']),
     ('versions', ['deb_version::Version']),
