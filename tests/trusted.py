@@ -476,7 +476,8 @@ def write_figures(tree, users, top):
     counted, all_users = [*claims(tree, users)], lines_of(of_all(tree, users))
     forms = [('(' + words.replace(' ', r'\s') + r'\s)[\d,]+(?=\slines)', rf'\g<1>{n:,}') for words, n in sums(tree, users)]
     forms += [(r'(?<=The other )[\d,]+(?= lines)', f'{lines_of(tree.named.values()) - all_users:,}')]
-    forms += [(r'\s'.join(r'[\d,]+' if w[0].isdigit() else w for w in words.split()), words) for words in counts(tree)]
+    # (each of these stands on one line)
+    forms += [(' '.join(r'[\d,]+' if w[0].isdigit() else w for w in words.split()), words) for words in counts(tree)]
     forms += [(rf'(?m)^\| \*\*{re.escape(row[0])}\*\*: .*$', trust_row(*row)) for row in counted]
     forms += [(rf'(?m)(^\| {re.escape(claim)} \|.* \| )[\d,]+(?= \|$)', rf'\g<1>{lines:,}')
               for claim, lines, _ in counted if lines]
