@@ -331,6 +331,14 @@ CHANGES = [
     (changed_rows("INSERT INTO run VALUES (3, 'x', 'y')"), "tables"),
     (changed_rows("INSERT INTO mail VALUES (0, -1, x'00')"), "tables"),
     (changed_rows("INSERT INTO mail VALUES (9, 1, x'00')"), "tables"),
+    (changed_rows("UPDATE fact SET kind = 9 WHERE kind = 1"), "unread facts"),
+    (changed_rows("INSERT INTO fact SELECT 8, sender, number, 0 FROM mail LIMIT 1"), "unread facts"),
+    (changed_rows("UPDATE fact SET place = 1 WHERE kind = 1"), "unread facts"),
+    (changed_rows("INSERT INTO fact_delays VALUES (2, 1)"), "unread facts"),
+    (changed_rows("UPDATE testing_row SET arch = 16 WHERE arch = 0 AND name = 'greeter'"), "unread testing"),
+    (changed_rows("INSERT INTO testing_row SELECT 2, name, sender, number, place FROM testing_row"
+                  " WHERE arch = 0 AND name = 'greeter'"), "unread testing"),
+    (changed_rows("DELETE FROM run WHERE number = 1"), "unread run 1"),
 ]
 
 

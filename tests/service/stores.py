@@ -161,11 +161,6 @@ def beside_others(folder, conf):
             want("database with %s, %d kept before" % (what, first), [("ok",)], asked(db, "PRAGMA integrity_check"))
             again, status, _ = replay(conf, db, bag_of(MESSAGES))
             want("%s, all again, %d kept before" % (what, first), (0, testing_in(whole)), (status, testing_in(again)))
-    db = os.path.join(folder, "beside-index")
-    replay(conf, db, bag_of(MESSAGES[:3]))
-    asked(db, "CREATE INDEX by_number ON mail(number)")
-    output, status, _ = replay(conf, db, bag_of(MESSAGES))
-    want("an index on mail", (0, testing_in(whole)), (status, testing_in(output)))
 
 
 def refused(folder, conf):
@@ -200,6 +195,8 @@ def refused(folder, conf):
         ("a column more", conf, changed("column", "ALTER TABLE mail ADD COLUMN more INTEGER"), "other tables"),
         # (by the office's own test, or already by SQLite's reader, which reads no trigger)
         ("a trigger on mail", conf, changed("trigger", "CREATE TRIGGER t AFTER INSERT ON mail BEGIN DELETE FROM run; END"), ""),
+        ("a unique index more on runs", conf, changed("unique", "CREATE UNIQUE INDEX more ON run(excuses)"), "other tables"),
+        ("an index more on mail", conf, changed("index", "CREATE INDEX by_number ON mail(number)"), "other tables"),
         ("mail alone", conf, part, "other tables"),
         ("a view of an office's name", conf, view, "other tables"),
         ("a setup that can't be read", conf, changed("setup", "UPDATE office SET setup = 'x'"), "other tables"),

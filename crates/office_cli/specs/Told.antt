@@ -1,4 +1,3 @@
--- Steps: no contract of a call that users make rests on this file.
 -- What is told without a run, and its exit status.
 use Rattle.std.specs.Prelude.{◌≡◌, ◌⊎◌, ◌<◌, ◌==◌, ℕ, List, Option, Some, None, if◌then◌else◌, option_map, length}
 use Rattle.office_core_facts.specs.Outcome.{testing_after, testing_text}

@@ -1,4 +1,3 @@
--- Steps: no contract of a call that users make rests on this file.
 -- The run that a trial of hints tells of, once the hints and the run's order have come.
 use Rattle.std.specs.Prelude.{◌≡◌, ℕ, ◌+◌, ◌<◌, ◌==◌, if◌then◌else◌, List, length, slice_index, Contains, Some}
 use Rattle.std.specs.FinMap.{get}

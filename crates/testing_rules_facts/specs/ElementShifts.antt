@@ -1,3 +1,4 @@
+-- Steps: no contract of a call that users make rests on this file.
 -- Which rows leave the lists of facts, and which come, with one element more. That facts are kept as rows is this office's own.
 use Rattle.std.specs.Prelude.{◌≡◌, Bool, if◌then◌else◌, List, [], ◌∷◌, ◌++◌, map, option_to_list}
 use Rattle.std.specs.declared.cmp.Ordering.{Ordering}

@@ -1,3 +1,4 @@
+-- Steps: no contract of a call that users make rests on this file.
 -- What a run brings into testing, where its facts are said by covered messages. That facts are kept is this office's own.
 use Rattle.std.specs.Prelude.{◌≤◌, List, length}
 use Rattle.testing_rules_items.specs.Words.{Text, most_archs}

@@ -1,3 +1,4 @@
+-- Steps: no contract of a call that users make rests on this file.
 -- Facts put back from their rows. That facts are kept as rows is this office's own.
 use Rattle.std.specs.Prelude.{◌≡◌, List, [], ◌∷◌, length, map, Contains}
 use Rattle.testing_rules_model.specs.FactLists.{FactLists}

@@ -1,3 +1,4 @@
+-- Steps: no contract of a call that users make rests on this file.
 -- Facts that have the same rows. That facts are kept as rows is this office's own.
 use Rattle.testing_rules_model.specs.FactLists.{FactLists}
 use Rattle.testing_rules_model.specs.Suite.{Suite}

@@ -1,3 +1,4 @@
+-- Steps: no contract of a call that users make rests on this file.
 -- Facts that messages say, row by row. That facts are kept as rows is this office's own.
 use Rattle.std.specs.Prelude.{◌≡◌, ◌≤◌, List, Contains, IsSome}
 use Rattle.testing_rules_facts.specs.Restored.{Given, message_of, restored}
