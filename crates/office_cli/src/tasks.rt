@@ -1,10 +1,10 @@
-//! What the program's words ask for: a comparison, the version, why sources stand where a run left them, a trial of
-//! hints, a proposal of some, or a task over a store.
+//! What the program's words ask for: a comparison, the version, why sources stand where a run left them, what changes
+//! break, a trial of hints, a proposal of some, or a task over a store.
 
 use crate::asking::{Question, tell_answer};
 use crate::checking::tell_check;
 use crate::noted::FaultKeepingReader;
-use crate::reasons::{hints_for, why_for};
+use crate::reasons::{breaks_for, hints_for, why_for};
 use crate::service::{serve, service_status};
 use crate::setups::line_of_fault;
 use crate::status::ExitStatus;
@@ -92,6 +92,12 @@ pub fn run_command(rt: &HostRuntime, words: Words) -> u8 {
             all,
             sources,
         } => propose_for(rt, conf, db, day, all, &sources),
+        Words::Breaks {
+            conf,
+            db,
+            run,
+            changes,
+        } => breaks_for(rt, conf, db, run, &changes),
         Words::Version => tell_version(rt),
     }
 }
