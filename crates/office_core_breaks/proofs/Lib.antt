@@ -1,1 +1,4 @@
+pub mod AskedFacts
 pub mod BreaksFacts
+pub mod EachArch
+pub mod Naming

@@ -1,6 +1,6 @@
 //! What is asked about: that a source moves, that a group moves as one, or that versions leave.
 
-ghost use Rattle.std.specs.Prelude.{◌≡◌, IfOk};
+ghost use Rattle.std.specs.Prelude.{◌≡◌, ◌⊎◌, Err, IfOk};
 ghost use Rattle.office_mail.specs.Answers.{Gives};
 ghost use Rattle.office_mail.specs.Read.{read};
 ghost use Rattle.office_core_breaks.specs.Asked as rules;
@@ -102,12 +102,19 @@ fn change_of(alloc: Global, setup: &Setup, words: &str) -> Result<Change, MailFa
     change_by_text(alloc, setup, text.as_str().as_bytes())
 }
 
-/// What some words ask: the name of a source asks about its move, and a hint `easy` or `remove` about what it asks for.
-/// Others are refused as a message of such a hint would be. `NoMemory` may come at any place.
-pub fn question_in(alloc: Global, setup: &Setup, words: &str) -> Result<Question, MailFault>
+/// What some words ask.
+fn question_of(alloc: Global, setup: &Setup, words: &str) -> Result<Question, MailFault>
     ensures { Gives result (rules.question_in setup.now words.now) }
 {
     let change = change_of(alloc, setup, words)?;
     let words = Text::from_str(alloc, words)?;
     Ok(Question { words, change })
+}
+
+/// What some words ask: the name of a source asks about its move, and a hint `easy` or `remove` about what it asks for.
+/// Others are refused as a message of such a hint would be. `NoMemory` may come at any place.
+pub fn question_in(alloc: Global, setup: &Setup, words: &str) -> Result<Question, MailFault>
+    ensures { (result ≡ rules.question_in setup.now words.now) ⊎ (result ≡ Err MailFault.NoMemory) }
+{
+    question_of(alloc, setup, words)
 }

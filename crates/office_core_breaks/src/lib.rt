@@ -6,6 +6,7 @@ mod asked;
 mod breaks;
 mod broken;
 mod change;
+pub mod laws;
 mod lines;
 mod offers;
 mod told;
