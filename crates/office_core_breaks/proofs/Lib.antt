@@ -2,3 +2,4 @@ pub mod AskedFacts
 pub mod BreaksFacts
 pub mod EachArch
 pub mod Naming
+pub mod Working

@@ -3,3 +3,4 @@ pub mod Breaks
 pub mod Grounds
 pub mod Texts
 pub mod Told
+pub mod Worked
