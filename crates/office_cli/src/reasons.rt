@@ -11,7 +11,7 @@ use crate::tasks::{
 };
 use crate::telling::{print_text, refuse, refuse_unfinished};
 use crate::trials::{NextAsk, tell_next};
-use office_core_breaks::{BreaksText, Question, question_in};
+use office_core_breaks::question_in;
 use office_core_check::{office_after, office_before, why_of_run};
 use office_core_orders::{DeliverFault, fault_words};
 use office_http::{Office, StoreFault};
@@ -286,22 +286,17 @@ fn tell_hint<K: Keeper>(rt: &HostRuntime, office: &mut Office<K>, number: u32) -
 /// that name none are refused on standard error.
 fn tell_change<K: Keeper>(rt: &HostRuntime, office: &mut Office<K>, words: &str) -> u8 {
     match question_in(rt.alloc(), office.setup(), words) {
-        Ok(question) => print_breaks(rt, office.breaks_text(&question)),
+        Ok(question) => match office.breaks_text(&question) {
+            Ok(Some(told)) => print_text(rt, &told.text, known_status(told.is_known)),
+            Ok(None) => refuse_unfinished(rt),
+            Err(fault) => refuse(rt, fault),
+        },
         Err(MailFault::NoMemory) => refuse(rt, StoreFault::NoMemory),
         Err(fault) => {
             let (cause, field) = fault_words(DeliverFault::Mail(fault));
             let _ = eprintln!(rt; "office: '{words}': refused {cause}{field}");
             ExitStatus::Refused.code()
         }
-    }
-}
-
-/// Prints what a change breaks, and gives the exit status.
-fn print_breaks(rt: &HostRuntime, told: Result<Option<BreaksText>, StoreFault>) -> u8 {
-    match told {
-        Ok(Some(told)) => print_text(rt, &told.text, known_status(told.is_known)),
-        Ok(None) => refuse_unfinished(rt),
-        Err(fault) => refuse(rt, fault),
     }
 }
 
