@@ -11,8 +11,8 @@ def is_same(version, other):
 
 
 def change_of(office, words):
-    """The sources that come in by a change, those that leave, and the lines of what can't change; None for words that name
-    no change."""
+    """The sources that come in by a change, those that leave, and the lines of what can't change; None for words that
+    name no change."""
     first, *items = words.split()
     unstable = {name: upload[1] for name, upload in office.known.sources.items()}
     pairs = [item.split("/", 1) for item in items]
@@ -21,7 +21,7 @@ def change_of(office, words):
         return [first] if moving else [], [], [] if first in unstable else ["unknown " + first]
     if first == "easy":
         offered = [(name, version) for name, version in pairs if is_same(unstable.get(name), version)]
-        unknown = ["unknown %s/%s" % (name, version) for name, version in pairs if not is_same(unstable.get(name), version)]
+        unknown = ["unknown %s/%s" % pair for pair in map(tuple, pairs) if pair not in offered]
         return [name for name, version in offered if not is_same(office.sources.get(name), version)], [], unknown
     if first == "remove":
         there = [name for name, version in pairs if is_same(office.sources.get(name), version)]

@@ -3,10 +3,10 @@
 
   breaks.py PROGRAM [FIRST-LAST]
 
-PROGRAM is the built program, `crates/office/out/office`. For each seed from FIRST to LAST (1-40) it asks over a bag what
-breaks by the move of each source, by groups and by removals that are drawn. The rows have to be exactly those that the model
-has in the one solution and not in the other, in their order, with what unstable has in their place; the lines behind them
-have to show the first one. Exit status 0 where all was as it is due.
+PROGRAM is the built program, `crates/office/out/office`. For each seed from FIRST to LAST (1-40) it asks over a bag
+what breaks by the move of each source, by groups and by removals that are drawn. The rows have to be exactly those that
+the model has in the one solution and not in the other, in their order, with what unstable has in their place; the lines
+behind them have to show the first one. Exit status 0 where all was as it is due.
 """
 import os
 import random

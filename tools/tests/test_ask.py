@@ -66,7 +66,8 @@ class Ask(Compared):
 
     def test_no_run(self):
         asked = [["why", "greeter"], ["why", "--run", "0", "greeter"], ["why", "--run", "1", "greeter"],
-                 ["breaks", "greeter"], ["why", "--hint", "1"], ["try", "block greeter"], ["try", "--all", "block greeter"],
+                 ["breaks", "greeter"], ["why", "--hint", "1"], ["try", "block greeter"],
+                 ["try", "--all", "block greeter"],
                  ["try", "--all", "--day", "2025-03-01", "block greeter"], ["try", "--day", "2025-03-01", "block aa"],
                  ["propose"], ["propose", "greeter"], ["propose", "--all", "--day", "2025-03-01"], ["hints"], ["runs"],
                  ["waiting"], ["report", "testing"], ["report", "1", "excuses"]]

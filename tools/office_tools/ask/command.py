@@ -48,8 +48,8 @@ def parser() -> argparse.ArgumentParser:
     words.add_argument("--all", action="store_true", help="try, propose: the run covers all mail without a gap")
     words.add_argument("--list", action="store_true", help="mail: each message in a line")
     words.add_argument("question", metavar="QUESTION", choices=FEWEST,
-                       help="why SOURCE.., breaks SOURCE|HINT.., try HINT.., propose [SOURCE..], hints, runs, waiting, report RUN excuses, "
-                            "report RUN update, report testing, unstable, mail, or order")
+                       help="why SOURCE.., breaks SOURCE|HINT.., try HINT.., propose [SOURCE..], hints, runs, waiting, "
+                            "report RUN excuses, report RUN update, report testing, unstable, mail, or order")
     words.add_argument("words", metavar="WORD", nargs="*", help="what it asks about")
     return words
 
