@@ -15,7 +15,7 @@ pub first_named : (arch : ℕ) (group : List Text) (old new : List RowIn)
     → first_failing arch group (judged_on arch old) (judged_on arch new) ≡ least byte_cmp (map (λ r. r.binary.name) (broken_on arch group old new))
 first_named arch group old new = ap (least byte_cmp) (names_same (filter (fails_on arch group (judged_on arch old)) (judged_on arch new)))
 
-as_offender : ℕ → Text → Offender
+abbrev as_offender : ℕ → Text → Offender
 as_offender arch n = record { arch = arch; «package» = n }
 
 some_named : (arch : ℕ) (n : Text) (o : Option Text) → option_map (as_offender arch) (lesser byte_cmp n o) ≡ None → ⊥

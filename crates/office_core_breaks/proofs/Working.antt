@@ -75,7 +75,7 @@ module _ (arch : ℕ) (group : List Text) (before : List RowAnswer) (own all : L
   same_fails j = go (is_watched_on arch j.row) refl
     where
       go : (b : Bool) → is_watched_on arch j.row ≡ b
-          → (b && (not j.is_installable && (is_row_of group j.row || worked_by arch own all j.row))) ≡ (b && (not j.is_installable && (is_row_of group j.row || was_installable before j.row)))
+          → ((b && not j.is_installable) && (is_row_of group j.row || worked_by arch own all j.row)) ≡ ((b && not j.is_installable) && (is_row_of group j.row || was_installable before j.row))
       go true e = ap (λ w. not j.is_installable && (is_row_of group j.row || w)) (watched_worked j.row e)
       go false e = refl
 

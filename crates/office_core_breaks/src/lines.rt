@@ -1,6 +1,6 @@
 //! The lines of what a change breaks.
 
-ghost use Rattle.std.specs.Prelude.{◌≡◌, ◌++◌, IfOk, OnOk, filter, not, string_bytes};
+ghost use Rattle.std.specs.Prelude.{◌≡◌, ◌++◌, IfOk, OnOk, drop, filter, not, string_bytes, take};
 ghost use Rattle.std.specs.List.{flat_map};
 ghost use Rattle.testing_rules_model.specs.Boxed.{unboxed};
 ghost use Rattle.testing_rules_model.specs.FactOrder.{AreBySource};
@@ -92,6 +92,28 @@ fn push_count(text: &mut String, name: &str, count: usize) -> Result<(), AllocEr
     writeln!(text, "broken {name} {count}")
 }
 
+/// The rows that have lines, and the others.
+fn first_rows<'g, 'a>(rows: &'g [LentRow<'a>]) -> (&'g [LentRow<'a>], &'g [LentRow<'a>])
+    ensures told { result.0.now ≡ take 100 rows.entry.now }
+    ensures untold { result.1.now ≡ drop 100 rows.entry.now }
+{
+    if rows.len() <= TOLD {
+        return (rows, &[]);
+    }
+    rows.split_at(TOLD)
+}
+
+/// How many rows have no lines, if there are any.
+#[tactic(auto, using(crate::proofs::Untold::none_untold, crate::proofs::Untold::some_untold))]
+fn push_untold(text: &mut String, rows: &[LentRow]) -> Result<(), AllocError>
+    ensures { OnOk result (string_bytes text.new ≡ string_bytes text.old ++ texts.untold_text (lent rows.now)) }
+{
+    if rows.is_empty() {
+        return Ok(());
+    }
+    writeln!(text, "and {} more", rows.len())
+}
+
 /// The first hundred of the broken rows of an architecture, and how many more there are.
 fn push_first(
     alloc: Global,
@@ -103,12 +125,9 @@ fn push_first(
     requires { AreBySource (unboxed ground.now.unstable.sources.now) }
     ensures { OnOk result (string_bytes text.new ≡ string_bytes text.old ++ texts.first_text (known_on ground.now) (lent ground.now.unstable.rows.now) arch (lent rows.now)) }
 {
-    if rows.len() <= TOLD {
-        return push_each_broken(alloc, text, ground, arch, rows);
-    }
-    let (told, untold) = rows.split_at(TOLD);
+    let (told, untold) = first_rows(rows);
     push_each_broken(alloc, text, ground, arch, told)?;
-    Ok(writeln!(text, "and {} more", untold.len())?)
+    Ok(push_untold(text, untold)?)
 }
 
 /// The rows that a change from the old rows to the new ones breaks on an architecture.

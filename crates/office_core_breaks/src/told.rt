@@ -1,6 +1,7 @@
 //! What is told of a question, by the facts and the testing that a run left.
 
 ghost use Rattle.std.specs.Prelude.{◌≡◌, ◌++◌, IfOk};
+ghost use Rattle.testing_rules_items.specs.Words.{is_empty};
 ghost use Rattle.testing_rules_model.specs.Boxed.{unboxed};
 ghost use Rattle.testing_rules_model.specs.Covered.{Covered};
 ghost use Rattle.testing_rules_model.specs.FactOrder.{AreBySource};
@@ -44,6 +45,21 @@ pub(crate) struct Basis<'g> {
     pub excuses: &'g [Excuse],
 }
 
+/// The rows that a change from the old rows to the new ones breaks, by architecture.
+fn all_lines(
+    alloc: Global,
+    ground: &Ground,
+    old: &[LentRow],
+    new: &[LentRow],
+) -> Result<Text, NoMemory>
+    requires { AreBySource (unboxed ground.now.unstable.sources.now) }
+    ensures { IfOk result (λ text. text ≡ texts.all_text (known_on ground.now) (lent ground.now.unstable.rows.now) (lent old.now) (lent new.now)) }
+{
+    let mut text = String::new(alloc);
+    push_all(alloc, &mut text, ground, old, new)?;
+    Ok(Text::from_string(text))
+}
+
 /// The rows that a change breaks by which this group comes in, where testing has these rows and unstable those.
 fn broken_over<'a>(
     alloc: Global,
@@ -60,9 +76,7 @@ fn broken_over<'a>(
         (rules.rows_after (unboxed ground.now.unstable.sources.now) (lent ground.now.unstable.rows.now) testing.now change.now)) }
 {
     let new = rows_after(alloc, ground.unstable, testing, old, ground.coming, change)?;
-    let mut text = String::new(alloc);
-    push_all(alloc, &mut text, ground, old, &new)?;
-    Ok(Text::from_string(text))
+    all_lines(alloc, ground, old, &new)
 }
 
 /// The rows that a change breaks by which this group comes in.
@@ -77,11 +91,13 @@ fn broken_lines(
     ensures { IfOk result (λ text. text ≡ texts.all_text (known_for basis.now.archs.now basis.now.facts.now.sources basis.now.excuses.now group.now) (unstable_words.built_rows basis.now.archs.now basis.now.facts.now.rows) testing.now.rows
         (rules.rows_after basis.now.facts.now.sources (unstable_words.built_rows basis.now.archs.now basis.now.facts.now.rows) testing.now change.now)) }
 {
-    let facts = basis.facts;
-    let rows = built_rows(alloc, basis.archs, facts.rows())?;
-    let old = lend_rows(alloc, testing.rows())?;
+    let built = basis.facts.rows();
+    let rows = built_rows(alloc, basis.archs, built)?;
+    let there = testing.rows();
+    let old = lend_rows(alloc, there)?;
+    let sources = basis.facts.sources();
     let unstable = Unstable {
-        sources: facts.sources(),
+        sources,
         rows: &rows,
     };
     let ground = Ground {
@@ -125,6 +141,13 @@ fn unknown_lines(
     Ok(Text::from_string(text))
 }
 
+/// Whether there is no line.
+fn is_none(lines: &Text) -> bool
+    ensures { result ≡ is_empty lines.now }
+{
+    lines.as_str().is_empty()
+}
+
 /// The first line, and behind it these lines.
 fn joined(
     alloc: Global,
@@ -162,7 +185,7 @@ fn told_by(
     let text = joined(alloc, run, &question.words, &unknown, &broken, &shown)?;
     Ok(BreaksText {
         text,
-        is_known: unknown.as_str().is_empty(),
+        is_known: is_none(&unknown),
     })
 }
 

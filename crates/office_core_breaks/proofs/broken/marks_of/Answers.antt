@@ -13,5 +13,5 @@ returns c =
     let over : length rows ≤ c.loop-row.row-index = omega arith in
     let all : binaries c.loop-row.packages.items ≡ map (λ r. r.binary) (lent rows) = rw (take_all c.loop-row.row-index rows over) at c.loop-row.invariant in
     IfOk-weaker c.installable.result _ _
-    (λ marks is. is ∙ ap (λ xs. are_installable (binaries xs)) c.deref.ensures.value ∙ ap are_installable all)
+    (λ marks is. is ∙ ap (λ xs. are_installable (binaries xs)) c.deref-2.ensures.value ∙ ap are_installable all)
     c.installable.ensures.computed

@@ -1,0 +1,26 @@
+use Rattle.std.proofs.Common.{◌≡◌, ◌++◌, List, append_assoc, string_bytes, take, ap, ◌∙◌}
+use Rattle.std.proofs.lemmas.Result.{on_ok_weaker}
+use Rattle.std.specs.List.{flat_map}
+use Rattle.testing_rules_items.specs.Words.{Text}
+use Rattle.testing_rules_model.specs.JudgedRows.{lent}
+use Rattle.testing_rules_model.specs.declared.suite.LentRow.{LentRow}
+use Rattle.testing_rules_model.specs.declared.suite.RowIn.{RowIn}
+use Rattle.office_core_breaks.specs.Grounds.{known_on}
+use Rattle.office_core_breaks.specs.Texts.{row_text, untold_text}
+use Rattle.office_core_breaks.proofs.Untold.{first_lent}
+use Rattle.office_core_breaks.proofs.lines.push_first.Goals as goal
+
+pub returns-in_ok-push_untold : goal.returns-in_ok-push_untold
+returns-in_ok-push_untold c =
+    let a = c.args in
+    let g = a.ground.now in
+    let k = known_on g in
+    let unstable : List RowIn = lent g.unstable.rows.now in
+    let old : Text = string_bytes a.text.now in
+    let f : RowIn → Text = row_text k unstable a.arch in
+    let parts = c.first_rows.ensures in
+    c.in_ok-push_untold.ensures ∙ ap (λ (x : Text). x ++ untold_text (lent c.first_rows.result.1.now)) c.in_ok-push_each_broken.ensures
+    ∙ append_assoc old (flat_map f (lent c.first_rows.result.0.now)) (untold_text (lent c.first_rows.result.1.now))
+    ∙ ap (λ (rows : List LentRow). old ++ (flat_map f (lent rows) ++ untold_text (lent c.first_rows.result.1.now))) parts.told
+    ∙ ap (λ (rows : List LentRow). old ++ (flat_map f (lent (take 100 a.rows.now)) ++ untold_text (lent rows))) parts.untold
+    ∙ ap (λ (x : Text). old ++ x) (first_lent k unstable a.arch a.rows.now)
