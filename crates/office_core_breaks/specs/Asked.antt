@@ -22,7 +22,7 @@ use Rattle.office_core_breaks.specs.declared.asked.Question.{Question}
 
 -- the text of a message that gives a hint
 unfoldable pub hint_text : Lists → List ℕ → List ℕ
-hint_text setup hint = codes "From: " ++ name_at setup (release setup) ++ codes "\nNumber: 1\nKind: hint\nHint: " ++ hint ++ codes "\n"
+hint_text setup hint = codes "From: " ++ (name_at setup (release setup) ++ (codes "\nNumber: 1\nKind: hint\nHint: " ++ (hint ++ codes "\n")))
 
 -- what a hint asks to change: a group that moves, or versions that leave
 abbrev pub change_by : Hint → Result Change MailFault

@@ -46,9 +46,10 @@ fn unless_there(
     ensures { IfOk result (λ group. group.items ≡ rules.unless_there testing.now upload.now) }
 {
     let mut group = Vec::new(alloc);
-    if !is_in_testing(testing, upload.source.as_str(), &upload.version) {
-        group.push(upload.source.copy(alloc)?)?;
+    if is_in_testing(testing, upload.source.as_str(), &upload.version) {
+        return Ok(group);
     }
+    group.push(upload.source.copy(alloc)?)?;
     Ok(group)
 }
 

@@ -164,6 +164,13 @@ pub(crate) fn push_all(
     Ok(())
 }
 
+/// The first line: the run, and what was asked.
+pub(crate) fn push_head(text: &mut String, run: u32, words: &str) -> Result<(), AllocError>
+    ensures { OnOk result (string_bytes text.new ≡ string_bytes text.old ++ texts.head_line run words.now) }
+{
+    writeln!(text, "breaks {run} {words}")
+}
+
 /// The line of an item that names another version than there is.
 fn push_item(text: &mut String, item: &HintItem) -> Result<(), AllocError>
     ensures { OnOk result (string_bytes text.new ≡ string_bytes text.old ++ texts.item_line item.now) }

@@ -1,6 +1,6 @@
 //! What is told of a question, by the facts and the testing that a run left.
 
-ghost use Rattle.std.specs.Prelude.{◌≡◌, ◌++◌, IfOk};
+ghost use Rattle.std.specs.Prelude.{◌≡◌, ◌++◌, [], IfOk};
 ghost use Rattle.testing_rules_items.specs.Words.{is_empty};
 ghost use Rattle.testing_rules_model.specs.Boxed.{unboxed};
 ghost use Rattle.testing_rules_model.specs.Covered.{Covered};
@@ -17,7 +17,7 @@ ghost use Rattle.office_core_breaks.specs.Told.{IsTold, IsToldOf, IsWhyBroken, k
 use crate::BreaksText;
 use crate::asked::{Change, Question};
 use crate::change::{coming, rows_after};
-use crate::lines::{push_all, push_unknown};
+use crate::lines::{push_all, push_head, push_unknown};
 use crate::offers::Ground;
 use deb_control::{NoMemory, Text};
 use jiff_core::civil::Date;
@@ -109,6 +109,13 @@ fn broken_lines(
     broken_over(alloc, &ground, testing, &old, change)
 }
 
+/// No line.
+fn no_lines(alloc: Global) -> Text
+    ensures { result ≡ [] }
+{
+    Text::from_string(String::new(alloc))
+}
+
 /// The lines on why the group can't move as one, none where that breaks nothing.
 fn shown_lines(
     alloc: Global,
@@ -122,7 +129,7 @@ fn shown_lines(
     let (archs, facts, excuses) = (basis.archs, basis.facts, basis.excuses);
     match group_refusal(alloc, archs, facts, excuses, group, testing)? {
         Some(text) => Ok(text),
-        None => Ok(Text::from_string(String::new(alloc))),
+        None => Ok(no_lines(alloc)),
     }
 }
 
@@ -159,9 +166,11 @@ fn joined(
 ) -> Result<Text, NoMemory>
     ensures { IfOk result (λ text. text ≡ texts.head_line run words.now ++ unknown.now ++ broken.now ++ shown.now) }
 {
-    let (first, second, third) = (unknown.as_str(), broken.as_str(), shown.as_str());
-    let words = words.as_str();
-    let text = format!(in alloc; "breaks {run} {words}\n{first}{second}{third}")?;
+    let mut text = String::new(alloc);
+    push_head(&mut text, run, words.as_str())?;
+    text.push_str(unknown.as_str())?;
+    text.push_str(broken.as_str())?;
+    text.push_str(shown.as_str())?;
     Ok(Text::from_string(text))
 }
 

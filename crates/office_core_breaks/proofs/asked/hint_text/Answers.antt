@@ -11,4 +11,4 @@ returns c =
     let setup = c.args.setup.now in
     let text : c.from_string.result ≡ c.in_ok-text.text.bytes.items = search rules in
     let name : c.name_at-name.result.now ≡ name_at setup (release setup) = c.name_at-name.ensures ∙ ap (name_at setup) c.release_place.ensures in
-    text ∙ c.in_ok-text.ensures.ok ∙ ap (λ (n : List ℕ). codes "From: " ++ n ++ codes "\nNumber: 1\nKind: hint\nHint: " ++ c.args.hint.now ++ codes "\n") name
+    text ∙ c.in_ok-text.ensures.ok ∙ ap (λ (n : List ℕ). codes "From: " ++ (n ++ (codes "\nNumber: 1\nKind: hint\nHint: " ++ (c.args.hint.now ++ codes "\n")))) name
