@@ -1,6 +1,6 @@
 //! The lines of what a change breaks.
 
-ghost use Rattle.std.specs.Prelude.{◌≡◌, ◌++◌, IfOk, OnOk, drop, filter, not, string_bytes, take};
+ghost use Rattle.std.specs.Prelude.{◌≡◌, ◌++◌, ◌≤◌, IfOk, OnOk, drop, filter, length, not, string_bytes, take};
 ghost use Rattle.std.specs.List.{flat_map};
 ghost use Rattle.testing_rules_model.specs.Boxed.{unboxed};
 ghost use Rattle.testing_rules_model.specs.FactOrder.{AreBySource};
@@ -92,15 +92,17 @@ fn push_count(text: &mut String, name: &str, count: usize) -> Result<(), AllocEr
     writeln!(text, "broken {name} {count}")
 }
 
-/// The rows that have lines, and the others.
-fn first_rows<'g, 'a>(rows: &'g [LentRow<'a>]) -> (&'g [LentRow<'a>], &'g [LentRow<'a>])
-    ensures told { result.0.now ≡ take 100 rows.entry.now }
-    ensures untold { result.1.now ≡ drop 100 rows.entry.now }
+/// How many of the rows have lines.
+fn told_count(rows: &[LentRow]) -> usize
+    ensures within { result ≤ length rows.now }
+    ensures told { take result rows.now ≡ take 100 rows.now }
+    ensures untold { drop result rows.now ≡ drop 100 rows.now }
 {
     if rows.len() <= TOLD {
-        return (rows, &[]);
+        rows.len()
+    } else {
+        TOLD
     }
-    rows.split_at(TOLD)
 }
 
 /// How many rows have no lines, if there are any.
@@ -125,7 +127,7 @@ fn push_first(
     requires { AreBySource (unboxed ground.now.unstable.sources.now) }
     ensures { OnOk result (string_bytes text.new ≡ string_bytes text.old ++ texts.first_text (known_on ground.now) (lent ground.now.unstable.rows.now) arch (lent rows.now)) }
 {
-    let (told, untold) = first_rows(rows);
+    let (told, untold) = rows.split_at(told_count(rows));
     push_each_broken(alloc, text, ground, arch, told)?;
     Ok(push_untold(text, untold)?)
 }

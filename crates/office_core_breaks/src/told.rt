@@ -79,6 +79,47 @@ fn broken_over<'a>(
     all_lines(alloc, ground, old, &new)
 }
 
+/// The same over the rows of a testing.
+fn broken_there<'a>(
+    alloc: Global,
+    ground: &Ground<'_, 'a>,
+    testing: &'a Testing,
+    change: &Change,
+) -> Result<Text, NoMemory>
+    requires sources { AreBySource (unboxed ground.now.unstable.sources.now) }
+    requires group { ground.now.coming.now ≡ rules.coming (unboxed ground.now.unstable.sources.now) testing.now change.now }
+    ensures { IfOk result (λ text. text ≡ texts.all_text (known_on ground.now) (lent ground.now.unstable.rows.now) testing.now.rows
+        (rules.rows_after (unboxed ground.now.unstable.sources.now) (lent ground.now.unstable.rows.now) testing.now change.now)) }
+{
+    let there = testing.rows();
+    let old = lend_rows(alloc, there)?;
+    broken_over(alloc, ground, testing, &old, change)
+}
+
+/// The same, where unstable has these rows.
+fn broken_by(
+    alloc: Global,
+    basis: &Basis<'_>,
+    rows: &[LentRow],
+    testing: &Testing,
+    group: &[Text],
+    change: &Change,
+) -> Result<Text, NoMemory>
+    requires { group.now ≡ rules.coming basis.now.facts.now.sources testing.now change.now }
+    ensures { IfOk result (λ text. text ≡ texts.all_text (known_for basis.now.archs.now basis.now.facts.now.sources basis.now.excuses.now group.now) (lent rows.now) testing.now.rows
+        (rules.rows_after basis.now.facts.now.sources (lent rows.now) testing.now change.now)) }
+{
+    let sources = basis.facts.sources();
+    let unstable = Unstable { sources, rows };
+    let ground = Ground {
+        archs: basis.archs,
+        unstable,
+        excuses: basis.excuses,
+        coming: group,
+    };
+    broken_there(alloc, &ground, testing, change)
+}
+
 /// The rows that a change breaks by which this group comes in.
 fn broken_lines(
     alloc: Global,
@@ -93,20 +134,7 @@ fn broken_lines(
 {
     let built = basis.facts.rows();
     let rows = built_rows(alloc, basis.archs, built)?;
-    let there = testing.rows();
-    let old = lend_rows(alloc, there)?;
-    let sources = basis.facts.sources();
-    let unstable = Unstable {
-        sources,
-        rows: &rows,
-    };
-    let ground = Ground {
-        archs: basis.archs,
-        unstable,
-        excuses: basis.excuses,
-        coming: group,
-    };
-    broken_over(alloc, &ground, testing, &old, change)
+    broken_by(alloc, basis, &rows, testing, group, change)
 }
 
 /// No line.

@@ -1,4 +1,4 @@
-use Rattle.std.proofs.Common.{◌≡◌, ◌++◌, List, append_assoc, string_bytes, take, ap, ◌∙◌}
+use Rattle.std.proofs.Common.{◌≡◌, ◌++◌, List, drop, append_assoc, string_bytes, take, ap, ◌∙◌}
 use Rattle.std.proofs.lemmas.Result.{on_ok_weaker}
 use Rattle.std.specs.List.{flat_map}
 use Rattle.testing_rules_items.specs.Words.{Text}
@@ -18,9 +18,10 @@ returns-in_ok-push_untold c =
     let unstable : List RowIn = lent g.unstable.rows.now in
     let old : Text = string_bytes a.text.now in
     let f : RowIn → Text = row_text k unstable a.arch in
-    let parts = c.first_rows.ensures in
-    c.in_ok-push_untold.ensures ∙ ap (λ (x : Text). x ++ untold_text (lent c.first_rows.result.1.now)) c.in_ok-push_each_broken.ensures
-    ∙ append_assoc old (flat_map f (lent c.first_rows.result.0.now)) (untold_text (lent c.first_rows.result.1.now))
-    ∙ ap (λ (rows : List LentRow). old ++ (flat_map f (lent rows) ++ untold_text (lent c.first_rows.result.1.now))) parts.told
-    ∙ ap (λ (rows : List LentRow). old ++ (flat_map f (lent (take 100 a.rows.now)) ++ untold_text (lent rows))) parts.untold
+    let told : c.split_at.result.0.now ≡ take 100 a.rows.now = c.split_at.ensures.front ∙ c.told_count.ensures.told in
+    let untold : c.split_at.result.1.now ≡ drop 100 a.rows.now = c.split_at.ensures.back ∙ c.told_count.ensures.untold in
+    c.in_ok-push_untold.ensures ∙ ap (λ (x : Text). x ++ untold_text (lent c.split_at.result.1.now)) c.in_ok-push_each_broken.ensures
+    ∙ append_assoc old (flat_map f (lent c.split_at.result.0.now)) (untold_text (lent c.split_at.result.1.now))
+    ∙ ap (λ (rows : List LentRow). old ++ (flat_map f (lent rows) ++ untold_text (lent c.split_at.result.1.now))) told
+    ∙ ap (λ (rows : List LentRow). old ++ (flat_map f (lent (take 100 a.rows.now)) ++ untold_text (lent rows))) untold
     ∙ ap (λ (x : Text). old ++ x) (first_lent k unstable a.arch a.rows.now)
