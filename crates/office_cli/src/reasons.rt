@@ -266,8 +266,8 @@ fn tell_one<K: Keeper>(
     place: usize,
 ) -> u8 {
     match ask {
-        Ask::Sources(words) => tell_source(rt, office, run, words.get(place).map_or("", |w| w)),
-        Ask::Changes(words) => tell_change(rt, office, words.get(place).map_or("", |w| w)),
+        Ask::Sources(words) => tell_source(rt, office, run, words.get(place).map_or("", |word| *word)),
+        Ask::Changes(words) => tell_change(rt, office, words.get(place).map_or("", |word| *word)),
         Ask::Hints(numbers) => tell_hint(rt, office, numbers.get(place).map_or(0, |n| *n)),
         Ask::Next(_) => 0,
     }
