@@ -55,7 +55,7 @@ told_behind setup content q (Some text) date office dated told =
     record {
       date = date;
       dated = dated;
-      told = subst (λ (t : Suite). IsTold setup.archs (covered_items setup content.kept k) t k date q text) office.testing_is told;
+      is = subst (λ (t : Suite). IsTold setup.archs (covered_items setup content.kept k) t k date q text) office.testing_is told;
     }
 
 -- what is told behind the last finished run is what is told of the question

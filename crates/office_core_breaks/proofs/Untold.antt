@@ -18,9 +18,9 @@ pub none_untold : (rows : List LentRow) → (length rows == 0) ≡ true → unto
 none_untold [] e = refl
 none_untold (r ∷ rows) e = absurd (isnt_none r rows e)
 
-pub some_untold : (rows : List LentRow) → (length rows == 0) ≡ false → untold_text (lent rows) ≡ codes "and " ++ decimal (length rows) ++ codes " more\n"
+pub some_untold : (rows : List LentRow) → (length rows == 0) ≡ false → untold_text (lent rows) ≡ codes "and " ++ decimal (length rows) ++ codes " more" ++ 10 ∷ []
 some_untold [] e = absurd (true≢false e)
-some_untold (r ∷ rows) e = ap (λ n. codes "and " ++ decimal n ++ codes " more\n") (length-map (r ∷ rows) row_of)
+some_untold (r ∷ rows) e = ap (λ n. codes "and " ++ decimal n ++ codes " more" ++ 10 ∷ []) (length-map (r ∷ rows) row_of)
 
 -- the first hundred rows that are lent
 pub first_lent : (k : Known) (unstable : List RowIn) (arch : ℕ) (rows : List LentRow)

@@ -49,7 +49,7 @@ IsTold archs s t run date q told = IsToldOf archs (unstable_sources s) (unstable
 pub record IsBreaksAfter (setup : Lists) (kept : Kept) (k : ℕ) (q : Question) (told : BreaksText) : Type 0 where
   pub date : Date
   pub dated : latest_day (orders_to setup kept k) ≡ Some date
-  pub told : IsTold setup.archs (covered_items setup kept k) (testing_after setup kept k) k date q told
+  pub is : IsTold setup.archs (covered_items setup kept k) (testing_after setup kept k) k date q told
 
 -- which rows a change would break where run k left testing, which is the last finished one; none where no run is finished
 abbrev pub IsBreaks : Lists → Kept → ℕ → Question → Option BreaksText → Type 0

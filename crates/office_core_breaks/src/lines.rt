@@ -48,7 +48,9 @@ fn same_rows<'a>(
 fn push_broken_row(text: &mut String, name: &str, row: &LentRow) -> Result<(), AllocError>
     ensures { OnOk result (string_bytes text.new ≡ string_bytes text.old ++ texts.broken_line name.now (row_of row.now)) }
 {
-    write!(text, "uninstallable {name} ")?;
+    text.push_str("uninstallable ")?;
+    text.push_str(name)?;
+    text.push_str(" ")?;
     push_package(text, row)?;
     text.push_str("\n")
 }
@@ -98,11 +100,11 @@ fn told_count(rows: &[LentRow]) -> usize
     ensures told { take result rows.now ≡ take 100 rows.now }
     ensures untold { drop result rows.now ≡ drop 100 rows.now }
 {
-    if rows.len() <= TOLD {
-        rows.len()
-    } else {
-        TOLD
+    let count = rows.len();
+    if count <= TOLD {
+        return count;
     }
+    TOLD
 }
 
 /// How many rows have no lines, if there are any.

@@ -10,8 +10,8 @@ use Rattle.office_core_breaks.specs.Texts.{row_text, untold_text}
 use Rattle.office_core_breaks.proofs.Untold.{first_lent}
 use Rattle.office_core_breaks.proofs.lines.push_first.Goals as goal
 
-pub returns-in_ok-push_untold : goal.returns-in_ok-push_untold
-returns-in_ok-push_untold c =
+pub returns : goal.returns
+returns c =
     let a = c.args in
     let g = a.ground.now in
     let k = known_on g in
