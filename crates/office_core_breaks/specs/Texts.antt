@@ -18,7 +18,7 @@ abbrev pub broken_line : Text → RowIn → Text
 broken_line arch r = codes "uninstallable " ++ arch ++ 32 ∷ package_text r ++ 10 ∷ []
 
 -- a broken row, and how it stands with the row of unstable that has its architecture and name
-abbrev pub row_text : Known → List RowIn → ℕ → RowIn → Text
+unfoldable pub row_text : Known → List RowIn → ℕ → RowIn → Text
 row_text k unstable arch r = broken_line (arch_name k.archs arch) r ++ offers_text k (filter (is_same_key r) unstable)
 
 -- how many rows aren't told, if there are any

@@ -1,6 +1,6 @@
 //! The lines of what a change breaks.
 
-ghost use Rattle.std.specs.Prelude.{◌≡◌, ◌++◌, ◌≤◌, IfOk, OnOk, drop, filter, length, not, string_bytes, take};
+ghost use Rattle.std.specs.Prelude.{◌≡◌, ◌++◌, ◌∷◌, ◌≤◌, [], IfOk, OnOk, codes, drop, filter, length, not, string_bytes, take};
 ghost use Rattle.std.specs.List.{flat_map};
 ghost use Rattle.testing_rules_model.specs.Boxed.{unboxed};
 ghost use Rattle.testing_rules_model.specs.FactOrder.{AreBySource};
@@ -44,18 +44,26 @@ fn same_rows<'a>(
     Ok(same)
 }
 
+/// The words before a broken row.
+fn push_uninstallable(text: &mut String, name: &str) -> Result<(), AllocError>
+    ensures { OnOk result (string_bytes text.new ≡ string_bytes text.old ++ (codes "uninstallable " ++ name.now ++ 32 ∷ [])) }
+{
+    text.push_str("uninstallable ")?;
+    text.push_str(name)?;
+    text.push_str(" ")
+}
+
 /// The line of a broken row.
 fn push_broken_row(text: &mut String, name: &str, row: &LentRow) -> Result<(), AllocError>
     ensures { OnOk result (string_bytes text.new ≡ string_bytes text.old ++ texts.broken_line name.now (row_of row.now)) }
 {
-    text.push_str("uninstallable ")?;
-    text.push_str(name)?;
-    text.push_str(" ")?;
+    push_uninstallable(text, name)?;
     push_package(text, row)?;
     text.push_str("\n")
 }
 
 /// A broken row, and how it stands with what unstable has in its place.
+#[tactic(auto, unfolding(crate::specs::Texts::row_text))]
 fn push_broken(
     alloc: Global,
     text: &mut String,
