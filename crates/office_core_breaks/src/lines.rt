@@ -48,9 +48,7 @@ fn same_rows<'a>(
 fn push_uninstallable(text: &mut String, name: &str) -> Result<(), AllocError>
     ensures { OnOk result (string_bytes text.new ≡ string_bytes text.old ++ (codes "uninstallable " ++ name.now ++ 32 ∷ [])) }
 {
-    text.push_str("uninstallable ")?;
-    text.push_str(name)?;
-    text.push_str(" ")
+    write!(text, "uninstallable {name} ")
 }
 
 /// The line of a broken row.
