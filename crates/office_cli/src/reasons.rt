@@ -106,7 +106,13 @@ fn refuse_number(rt: &HostRuntime, word: &str) -> u8 {
 }
 
 /// Asks a run, for the setup in a file, over the store in another or over the bag on standard input.
-pub(crate) fn ask_for(rt: &HostRuntime, conf: &str, db: Option<&str>, run: Option<u32>, ask: Ask<'_>) -> u8 {
+pub(crate) fn ask_for(
+    rt: &HostRuntime,
+    conf: &str,
+    db: Option<&str>,
+    run: Option<u32>,
+    ask: Ask<'_>,
+) -> u8 {
     match read_setup(rt, conf) {
         Ok(setup) => match db {
             Some(path) => ask_stored(rt, path, setup, run, ask),
@@ -266,7 +272,12 @@ fn tell_one<K: Keeper>(
     place: usize,
 ) -> u8 {
     match ask {
-        Ask::Sources(words) => tell_source(rt, office, run, words.get(place).map_or("", |word| *word)),
+        Ask::Sources(words) => tell_source(
+            rt,
+            office,
+            run,
+            words.get(place).map_or("", |word| *word),
+        ),
         Ask::Changes(words) => tell_change(rt, office, words.get(place).map_or("", |word| *word)),
         Ask::Hints(numbers) => tell_hint(rt, office, numbers.get(place).map_or(0, |n| *n)),
         Ask::Next(_) => 0,

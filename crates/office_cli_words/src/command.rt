@@ -182,7 +182,8 @@ Status 1: there is no hint, or one of the sources isn't moved; 3: no run is fini
 
 const BREAKS: &str = "Tells which packages of testing would break if sources moved or went";
 
-const AFTER_BREAKS: &str = "Examples: office breaks libgreet --conf examples/setup.conf --db store.db
+const AFTER_BREAKS: &str =
+    "Examples: office breaks libgreet --conf examples/setup.conf --db store.db
           office breaks 'remove libgreet/1.2-1' --run 1 --conf examples/setup.conf < examples/archive.bag
 
 For each CHANGE a line breaks RUN CHANGE, then for each architecture broken ARCH COUNT and the first hundred packages

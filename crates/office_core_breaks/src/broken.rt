@@ -105,13 +105,7 @@ fn worked_by(arch: u32, own: &NameSet, all: &NameSet, row: &LentRow) -> bool
 }
 
 /// Whether the row fails, by these names.
-fn fails_by(
-    arch: u32,
-    group: &[Text],
-    own: &NameSet,
-    all: &NameSet,
-    judged: RowAnswer,
-) -> bool
+fn fails_by(arch: u32, group: &[Text], own: &NameSet, all: &NameSet, judged: RowAnswer) -> bool
     ensures { result ≡ fails_by arch group.now own.now.keys all.now.keys (answer judged.entry) }
 {
     is_watched_on(arch, &judged.row)

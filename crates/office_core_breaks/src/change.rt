@@ -38,11 +38,7 @@ pub(crate) fn is_there(testing: &Testing, item: &HintItem) -> bool
 }
 
 /// The source, unless testing has it at this version.
-fn unless_there(
-    alloc: Global,
-    testing: &Testing,
-    upload: &UploadIn,
-) -> Result<Vec<Text>, NoMemory>
+fn unless_there(alloc: Global, testing: &Testing, upload: &UploadIn) -> Result<Vec<Text>, NoMemory>
     ensures { IfOk result (λ group. group.items ≡ rules.unless_there testing.now upload.now) }
 {
     let mut group = Vec::new(alloc);

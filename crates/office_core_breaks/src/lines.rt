@@ -207,11 +207,7 @@ fn push_unoffered(
 }
 
 /// The lines of items whose versions testing doesn't have.
-fn push_absent(
-    text: &mut String,
-    testing: &Testing,
-    items: &[HintItem],
-) -> Result<(), AllocError>
+fn push_absent(text: &mut String, testing: &Testing, items: &[HintItem]) -> Result<(), AllocError>
     ensures { OnOk result (string_bytes text.new ≡ string_bytes text.old ++ flat_map texts.item_line (filter (λ i. not (rules.is_there testing.now i)) items.now)) }
 {
     for item in items {
@@ -223,11 +219,7 @@ fn push_absent(
 }
 
 /// The line of a source that unstable doesn't have.
-fn push_source(
-    text: &mut String,
-    sources: &[Box<UploadIn>],
-    name: &str,
-) -> Result<(), AllocError>
+fn push_source(text: &mut String, sources: &[Box<UploadIn>], name: &str) -> Result<(), AllocError>
     requires { AreBySource (unboxed sources.now) }
     ensures { OnOk result (string_bytes text.new ≡ string_bytes text.old ++ texts.source_line name.now (moves.source_in (unboxed sources.now) name.now)) }
 {
