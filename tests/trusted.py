@@ -30,7 +30,7 @@ from collections import defaultdict
 from pathlib import Path
 
 USERS = ['deb_version', 'deb_control', 'testing_install', 'testing_rules', 'office_mail', 'office_store',
-         'office_core_queries', 'office_core_check', 'office_http', 'testing_rules_refusals', 'office_cli_words', 'office_cli',
+         'office_core_queries', 'office_core_check', 'office_core_breaks', 'office_http', 'testing_rules_refusals', 'office_cli_words', 'office_cli',
          'office']
 INNER = {('office_core_replay', 'settle_behind')}
 # What is claimed of the first commands and routes, each with the calls and laws whose contracts say it: CRATE::CALL,
@@ -63,6 +63,8 @@ FIRST = [
 # What is claimed of the calls, pages and commands that this office added.
 LATER = [
     ('more calls of the office', ['office_core::Office', 'office_core_why::one_seen', *(
+        f'office_core_breaks::{call}' for call in (
+            'question_in', 'first_broken_is_offender', 'allowed_breaks_nothing')), *(
         f'office_core_outcome::{law}' for law in ('try_is_next_run', 'trials_have_one_end', 'proposals_are_trials'))]),
     ('every route', [f'office_http::{call}' for call in (
         'serve_one', 'serve_as_hosts', 'requests_are_steps', 'requests_have_one_answer', 'bound_mail', 'lint_is_mail',

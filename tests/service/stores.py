@@ -120,17 +120,18 @@ def ended_by_force(folder, conf):
 
 
 def refused_setups(folder, conf):
-    """The sentence on a setup that is refused names the line at which its paragraph begins, if the fault is of one."""
+    """The sentence on a setup that is refused names the line at which its paragraph begins, or a role and its senders."""
     with open(conf, encoding="utf-8") as good:
         text = good.read()
-    bad = os.path.join(folder, "bad.conf")
+    bad, roles = os.path.join(folder, "bad.conf"), "an unknown role, or too few or too many senders of a role: "
     for what, old, new, due in [
             ("a name with a blank", "Sender: bts", "Sender: b ts", "a bad sender: see the paragraph at line 9"),
             ("a comment", "Sender: rt", "# the team\nSender: rt", "a paragraph can't be read: see the paragraph at line 12"),
             ("no role", "Role: runs\n", "", "the field Role is missing: see the paragraph at line 15"),
             ("an architecture", "amd64", "AMD64", "a bad architecture: see the paragraph at line 1"),
-            ("a role", "Role: release", "Role: releases",
-             "an unknown role, or too few or too many senders of a role")]:
+            ("a role", "Role: release", "Role: releases", roles + "see the paragraph at line 13"),
+            ("two of a role", "Role: bugs", "Role: runs", roles + "bugs has 0, and 1 is due"),
+            ("one too many", "Role: build", "Role: runs", roles + "build has 0, and at least 1 is due")]:
         assert text.count(old) == 1, old
         with open(bad, "w", encoding="utf-8") as file:
             file.write(text.replace(old, new))

@@ -1,12 +1,12 @@
-//! What the program's words ask for: a comparison, the version, why sources stand where a run left them, a trial of
-//! hints, a proposal of some, or a task over a store.
+//! What the program's words ask for: a comparison, the version, why sources stand where a run left them, what changes
+//! break, a trial of hints, a proposal of some, or a task over a store.
 
 use crate::asking::{Question, tell_answer};
 use crate::checking::tell_check;
 use crate::noted::FaultKeepingReader;
-use crate::reasons::{hints_for, why_for};
+use crate::reasons::{breaks_for, hints_for, why_for};
 use crate::service::{serve, service_status};
-use crate::setups::line_of_fault;
+use crate::setups::{Detail, detail_of, role_words};
 use crate::status::ExitStatus;
 use crate::teller::Teller;
 use crate::telling::{tell_report, tell_version, tell_waiting};
@@ -70,7 +70,10 @@ pub fn run_command(rt: &HostRuntime, words: Words) -> u8 {
         Words::Report { conf, db, report } => run_for(rt, conf, Some(db), Task::Report(report)),
         Words::UnknownReport { run, report } => refuse_report(rt, run, report),
         Words::Runs { conf, db } => answer_for(rt, conf, db, Question::Runs),
-        Words::Mail { conf, db, list } => answer_for(rt, conf, db, mail_question(list)),
+        Words::Mail { conf, db, list } => {
+            let question = if list { Question::List } else { Question::Mail };
+            answer_for(rt, conf, db, question)
+        }
         Words::Export { conf, db } => answer_for(rt, conf, db, Question::Export),
         Words::Check { conf, db } => check_for(rt, conf, db),
         Words::Why {
@@ -104,13 +107,14 @@ pub fn run_command(rt: &HostRuntime, words: Words) -> u8 {
             all,
             sources,
         } => propose_for(rt, conf, db, day, all, &sources),
+        Words::Breaks {
+            conf,
+            db,
+            run,
+            changes,
+        } => breaks_for(rt, conf, db, run, &changes),
         Words::Version => tell_version(rt),
     }
-}
-
-/// What is asked about mail: each message of it, or counts.
-fn mail_question(list: bool) -> Question {
-    if list { Question::List } else { Question::Mail }
 }
 
 /// Answers a question for the setup in a file, from the store in another.
@@ -152,12 +156,18 @@ fn check_for(rt: &HostRuntime, conf: &str, db: &str) -> u8 {
 
 /// Says on standard error why the setup in a file is refused, and gives the exit status.
 pub(crate) fn tell_setup(rt: &HostRuntime, conf: &str, fault: &ConfFault) -> u8 {
-    let line = match fault {
-        ConfFault::Refused(fault) => line_of_fault(rt, conf, *fault),
+    let detail = match fault {
+        ConfFault::Refused(fault) => detail_of(rt, conf, *fault),
         ConfFault::Unreadable(_) => None,
     };
-    let _ = match line {
-        Some(line) => eprintln!(rt; "office: {conf}: {fault}: see the paragraph at line {line}"),
+    let _ = match detail {
+        Some(Detail::Line(line)) => {
+            eprintln!(rt; "office: {conf}: {fault}: see the paragraph at line {line}")
+        }
+        Some(Detail::Role(place, count)) => {
+            let (role, due) = role_words(place);
+            eprintln!(rt; "office: {conf}: {fault}: {role} has {count}, and {due} is due")
+        }
         None => eprintln!(rt; "office: {conf}: {fault}"),
     };
     conf_status(fault)

@@ -11,7 +11,7 @@ use Rattle.office_cli_words.specs.Program.{office}
 use Rattle.office_cli_words.specs.declared.Words.{Words}
 use Rattle.office_cli_words.specs.declared.WordsFault.{WordsFault}
 use Rattle.office_cli_words.specs.declared.WordsFault.TheVariants.{NoMemory, Usage}
-use Rattle.office_cli_words.specs.declared.Words.TheVariants.{Compare, Replay, Serve, Waiting, Report, UnknownReport, Runs, Mail, Export, Check, Why, Try, Lint, Order, Hints, Propose, Version}
+use Rattle.office_cli_words.specs.declared.Words.TheVariants.{Compare, Replay, Serve, Waiting, Report, UnknownReport, Runs, Mail, Export, Check, Why, Try, Lint, Order, Hints, Propose, Breaks, Version}
 use Rattle.office_cli_words.specs.declared.reports.Report.{Report as ReportName}
 use Rattle.office_cli_words.specs.declared.reports.Report.TheVariants.{Testing, Unstable, Excuses, Update}
 
@@ -20,7 +20,7 @@ use Rattle.office_cli_words.specs.declared.reports.Report.TheVariants.{Testing, 
 -- finished runs; to tell the kept mail, by counts or message by message; to export it; to check the store; to tell what a run said of
 -- sources, or of hints by their numbers; to try hints on a day, over the covered mail or over all; to tell which messages of a bag
 -- are refused; to tell the next order on a day, or the hints in force; to tell hints that move groups, or free sources, on the same
--- terms as a trial; or the version
+-- terms as a trial; to tell what changes of testing break; or the version
 pub data Asked : Type 0 where
   ToCompare : Text → Text → Text → Asked
   ToReplay : Text → Option Text → Asked
@@ -38,6 +38,7 @@ pub data Asked : Type 0 where
   ToTellOrder : Text → Text → Text → Asked
   ToTellHints : Text → Text → Asked
   ToPropose : Bool → Text → Option Text → Option Text → List Text → Asked
+  ToTellBreaks : Text → Option Text → Option ℕ → List Text → Asked
   ToTellVersion : Asked
 
 -- what the words of a command ask for that came behind the first three
@@ -55,6 +56,7 @@ added_asked (Lint conf) = ToLint conf.now
 added_asked (Order day conf db) = ToTellOrder day.now conf.now db.now
 added_asked (Hints conf db) = ToTellHints conf.now db.now
 added_asked (Propose conf db day all sources) = ToPropose all conf.now (option_map (λ text. text.now) db) (option_map (λ text. text.now) day) (map (λ text. text.now) sources.items)
+added_asked (Breaks conf db run changes) = ToTellBreaks conf.now (option_map (λ text. text.now) db) run (map (λ text. text.now) changes.items)
 added_asked _ = ToTellVersion
 
 abbrev pub asked : Words → Asked
@@ -168,6 +170,9 @@ propose_in rows =
     option_map (λ (conf : Text). ToPropose (is_set (codes "all") rows) conf (first_of (codes "db") rows) (first_of (codes "day") rows) (unwrap_or (all_of (codes "SOURCE") rows) []))
     (first_of (codes "conf") rows)
 
+abbrev pub breaks_in : List Row → Option Asked
+breaks_in rows = of_values (λ conf changes. ToTellBreaks conf (first_of (codes "db") rows) (number_of (codes "run") rows) changes) (first_of (codes "conf") rows) (all_of (codes "CHANGE") rows)
+
 abbrev pub command_in : Text → List Row → Option Asked
 command_in name rows =
     if bytes_eq name (codes "compare") then compare_in rows
@@ -185,6 +190,7 @@ command_in name rows =
     else if bytes_eq name (codes "order") then order_in rows
     else if bytes_eq name (codes "hints") then stored_in ToTellHints rows
     else if bytes_eq name (codes "propose") then propose_in rows
+    else if bytes_eq name (codes "breaks") then breaks_in rows
     else None
 
 -- by the command that the words name and what they give it

@@ -129,6 +129,14 @@ pub enum Words<'a> {
         all: bool,
         sources: Vec<&'a str>,
     },
+    /// Tell which rows of testing each of these changes would break, where the last finished run left it or another one did,
+    /// for the setup in a file: over a store in a file, or over the bag on standard input.
+    Breaks {
+        conf: &'a str,
+        db: Option<&'a str>,
+        run: Option<u32>,
+        changes: Vec<&'a str>,
+    },
     /// Tell the program's version.
     Version,
 }
@@ -201,9 +209,9 @@ fn read_command<'a>(alloc: Global, words: &'a [&'a str]) -> Result<Words<'a>, Wo
 /// [--db F]`, `serve --conf F --port N [--db F] [--connections C] [--host NAME]..`, `waiting --conf F [--db F]`, `report RUN [REPORT]
 /// --conf F --db F`, `runs --conf F --db F`, `mail --conf F --db F [--list]`, `export --conf F --db F`, `check --conf F
 /// --db F`, `why SOURCE.. --conf F [--db F] [--run K]`, `try HINT.. --conf F [--db F] [--day DAY] [--all]`, `lint --conf
-/// F`, `order --day DAY --conf F --db F`, `hints --conf F --db F` and `propose [SOURCE..] --conf F [--db F] [--day DAY]
-/// [--all]`, where N is from 1 to 65,535, C from 0 to 1,000,000, which it is where it isn't given, and K from 1 to
-/// 999,999,999.
+/// F`, `order --day DAY --conf F --db F`, `hints --conf F --db F`, `propose [SOURCE..] --conf F [--db F] [--day DAY]
+/// [--all]` and `breaks CHANGE.. --conf F [--db F] [--run K]`, where N is from 1 to 65,535, C from 0 to 1,000,000, which it
+/// is where it isn't given, and K from 1 to 999,999,999.
 ///
 /// Refused as `Usage` are words in which clap finds a fault, a request for help among them.
 pub fn read_words<'a>(alloc: Global, words: &'a [&'a str]) -> Result<Words<'a>, WordsFault>

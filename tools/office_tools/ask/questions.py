@@ -113,6 +113,11 @@ class Questions:
         asked = [] if run is None else ["--run", str(run)]
         return self.copy.ask(["why", "--hint", *asked, *numbers])
 
+    def breaks(self, changes: Sequence[str], run: Optional[int]) -> Answer:
+        """What changes would break where a run left testing, by the copy: no route answers it."""
+        asked = [] if run is None else ["--run", str(run)]
+        return self.copy.ask(["breaks", *asked, *changes])
+
     def trial(self, hints: Sequence[str], on: Next) -> Answer:
         """What hints would change in the next run: status 1 if nothing, 3 if one of them is refused."""
         body = lines_of(hints)
