@@ -37,11 +37,13 @@ try() {
 }
 
 try clients python3 "$here/service/clients.py" "$office"
+try framing python3 "$here/service/framing.py" "$office"
 try stores python3 "$here/service/stores.py" "$office"
 try asking python3 "$here/service/asking.py" "$office"
 try live python3 "$here/service/live.py" "$office"
 try proposals python3 "$here/service/proposals.py" "$office"
 try refusals python3 "$here/service/refusals.py" "$office"
+try breaks python3 "$here/service/breaks.py" "$office"
 try replicas python3 "$here/service/replicas.py" "$office"
 try hold python3 "$here/service/hold.py" "$office"
 try browser /usr/bin/python3 "$here/service/browser.py" "$office"

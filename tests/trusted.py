@@ -30,7 +30,7 @@ from collections import defaultdict
 from pathlib import Path
 
 USERS = ['deb_version', 'deb_control', 'testing_install', 'testing_rules', 'office_mail', 'office_store',
-         'office_core_queries', 'office_core_check', 'office_http', 'testing_rules_refusals', 'office_cli_words', 'office_cli',
+         'office_core_queries', 'office_core_check', 'office_core_breaks', 'office_http', 'testing_rules_refusals', 'office_cli_words', 'office_cli',
          'office']
 INNER = {('office_core_replay', 'settle_behind')}
 # What is claimed of the first commands and routes, each with the calls and laws whose contracts say it: CRATE::CALL,
@@ -38,7 +38,8 @@ INNER = {('office_core_replay', 'settle_behind')}
 FIRST = [
     ('the headline', ['office_core::headline']),
     ('.. of calls and whole replays', [
-        'office_core::steps_follow', 'office_core::delivered', 'office_core::same_texts', 'office_core::runs_stay',
+        'office_core::steps_follow', 'office_core::delivered', 'office_core::unseen', 'office_core::by_role',
+        'office_core::same_texts', 'office_core::runs_stay',
         'office_core::empty_is_sound', 'office_core::Office::deliver', 'office_core::Office::deliver_together',
         'office_core::Office::settle', 'office_core_replay::replays_are_steps', 'office_core_replay::replay',  'office_core_replay::replay_status', 'office_mail::same_set', 'office_mail::later_mail']),
     ('versions', ['deb_version::Version']),
@@ -62,10 +63,12 @@ FIRST = [
 # What is claimed of the calls, pages and commands that this office added.
 LATER = [
     ('more calls of the office', ['office_core::Office', 'office_core_why::one_seen', *(
+        f'office_core_breaks::{call}' for call in (
+            'question_in', 'first_broken_is_offender', 'allowed_breaks_nothing')), *(
         f'office_core_outcome::{law}' for law in ('try_is_next_run', 'trials_have_one_end', 'proposals_are_trials'))]),
     ('every route', [f'office_http::{call}' for call in (
-        'serve_one', 'requests_are_steps', 'requests_have_one_answer', 'bound_mail', 'lint_is_mail', 'old_requests_stay',
-        'pages_post_nothing')]),
+        'serve_one', 'serve_as_hosts', 'requests_are_steps', 'requests_have_one_answer', 'bound_mail', 'lint_is_mail',
+        'old_requests_stay', 'pages_post_nothing')]),
     ('every command', ['office_cli_words::read_words']),
     ('certificates', [f'testing_install_why::{call}' for call in (
         'certificate', 'is_shown', 'groundless_isnt_installable', 'each_has_an_order')]),
@@ -437,6 +440,17 @@ def clauses(tree):
              for head in heads]
     return sum(map(len, found)), sum(map(bool, found)), sum(len(c.encode()) for of in found for c in of)
 
+def types(tree):
+    """How many types the definitions of the headline name, and how many lines these have."""
+    found = tree.named_from(*tree.started(FIRST[0][1]), added(tree))
+    texts = [item.head + item.body for item in found if isinstance(item, Item) and item.kind in ('struct', 'enum')]
+    return len(texts), sum(bool(line.strip()) for text in texts for line in text.split('\n'))
+
+def counts(tree):
+    """What TRUST says of clauses and of types, with the numbers of this tree."""
+    (clauses_there, calls, _), (types_there, lines) = clauses(tree), types(tree)
+    return f'{clauses_there:,} clauses in {calls:,} calls', f'{types_there:,} types of {lines:,} lines'
+
 def trust_row(claim, lines, more):
     """A claim's row in the tables of TRUST."""
     return f'| **{claim}**: {f"{lines:,} lines, {more:,} more" if lines else f"{more:,} lines more"} | | | |'
@@ -453,7 +467,8 @@ def figure_faults(tree, users, top):
     known = {f'{n:,}' for n in (whole - lines_of(of_all(tree, users)), *(n for _, n in sums(tree, users)))}
     yield from (f'docs/TRUST.md: it lacks: {words} {n:,} lines' for words, n in sums(tree, users)
                 if f'{words} {n:,} lines' not in ' '.join(trust.split()))
-    told = known | {f'{lines or more:,}' for _, lines, more in counted}
+    yield from (f'docs/TRUST.md: it lacks: {words}' for words in counts(tree) if words not in ' '.join(trust.split()))
+    told = known | {f'{lines or more:,}' for _, lines, more in counted} | {f'{types(tree)[1]:,}'}
     for page, text in (('docs/TRUST.md', trust), ('README.md', readme)):
         others = [n for n in re.findall(r'\b[\d,]+(?=\s+(?:other\s+)?lines\b)', text) if n not in told]
         yield from (f'{page}: {count} lines, which are {", ".join(sorted(known))}' for count in others)
@@ -463,6 +478,8 @@ def write_figures(tree, users, top):
     counted, all_users = [*claims(tree, users)], lines_of(of_all(tree, users))
     forms = [('(' + words.replace(' ', r'\s') + r'\s)[\d,]+(?=\slines)', rf'\g<1>{n:,}') for words, n in sums(tree, users)]
     forms += [(r'(?<=The other )[\d,]+(?= lines)', f'{lines_of(tree.named.values()) - all_users:,}')]
+    # (each of these stands on one line)
+    forms += [(' '.join(r'[\d,]+' if w[0].isdigit() else w for w in words.split()), words) for words in counts(tree)]
     forms += [(rf'(?m)^\| \*\*{re.escape(row[0])}\*\*: .*$', trust_row(*row)) for row in counted]
     forms += [(rf'(?m)(^\| {re.escape(claim)} \|.* \| )[\d,]+(?= \|$)', rf'\g<1>{lines:,}')
               for claim, lines, _ in counted if lines]
@@ -479,7 +496,8 @@ def main():
     tops = [a for a in sys.argv[1:] if not a.startswith('--')] + [Path(__file__).resolve().parents[1]]
     tree = Tree(tops[0])
     users, every = tree.believed(USERS, INNER), tree.believed(tree.crates)
-    heads = [(f.label, head_fault(f, of_all(tree, users))) for f in tree.files.values()]
+    claimed = of_all(tree, users)
+    heads = [(f.label, head_fault(f, claimed)) for f in tree.files.values()]
     faults = [f'{label}: {fault}' for label, fault in heads if fault]
     faults += [*row_faults(tree), *figure_faults(tree, users, tops[0])]
     kinds = {d: 'believed' if d in users else 'cited step' if d in every else 'step' for d in tree.named.values()}

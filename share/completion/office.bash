@@ -38,10 +38,10 @@ _office() {
             mapfile -t COMPREPLY < <(compgen -f -- "$current")
             return
             ;;
-        --port | --connections | --run | --day) return ;;
+        --port | --connections | --host | --run | --day) return ;;
     esac
     if ((COMP_CWORD == 1)); then
-        _office_words 'compare replay serve waiting report runs why try propose hints order lint mail export check' \
+        _office_words 'compare replay serve waiting report runs why try propose breaks hints order lint mail export check' \
             "$current"
         _office_words '--help --version' "$current"
         return
@@ -63,11 +63,12 @@ _office() {
             ;;
         runs | hints | export | check) _office_words "$(_office_options --conf --db)" "$current" ;;
         why) _office_words "$(_office_options --conf --db --run --hint)" "$current" ;;
+        breaks) _office_words "$(_office_options --conf --db --run)" "$current" ;;
         try | propose) _office_words "$(_office_options --conf --db --day --all)" "$current" ;;
         order) _office_words "$(_office_options --day --conf --db)" "$current" ;;
         lint) _office_words "$(_office_options --conf)" "$current" ;;
         mail) _office_words "$(_office_options --conf --db --list)" "$current" ;;
-        serve) _office_words "$(_office_options --conf --port --db --connections)" "$current" ;;
+        serve) _office_words "$(_office_options --conf --port --db --connections --host)" "$current" ;;
     esac
 }
 

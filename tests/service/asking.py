@@ -253,7 +253,7 @@ def by_service(seed, office, store, due, sources):
     known = office.known.sources if office.known else {}
     told = {name: call("why", name, *stored)[0] if name in known else "refused NoSource\n" for name in sources}
     pages += [("/why/%s" % name, text) for name, text in told.items()]
-    tries = [["block %s" % name for name in names] for names in (sources[:1], sources) if names]
+    tries = [["block %s" % name for name in names] for names in (sources[:1], sources[:12]) if names]
     pages += [("/try", call("try", *hints, *stored)[0], "\n".join(hints).encode()) for hints in tries]
     words = [program, "serve", *stored[:2], "--port", str(port), "--connections", str(len(pages)), *stored[2:]]
     with subprocess.Popen(words, stdout=subprocess.PIPE) as service:
@@ -331,6 +331,14 @@ CHANGES = [
     (changed_rows("INSERT INTO run VALUES (3, 'x', 'y')"), "tables"),
     (changed_rows("INSERT INTO mail VALUES (0, -1, x'00')"), "tables"),
     (changed_rows("INSERT INTO mail VALUES (9, 1, x'00')"), "tables"),
+    (changed_rows("UPDATE fact SET kind = 9 WHERE kind = 1"), "unread facts"),
+    (changed_rows("INSERT INTO fact SELECT 8, sender, number, 0 FROM mail LIMIT 1"), "unread facts"),
+    (changed_rows("UPDATE fact SET place = 1 WHERE kind = 1"), "unread facts"),
+    (changed_rows("INSERT INTO fact_delays VALUES (2, 1)"), "unread facts"),
+    (changed_rows("UPDATE testing_row SET arch = 16 WHERE arch = 0 AND name = 'greeter'"), "unread testing"),
+    (changed_rows("INSERT INTO testing_row SELECT 2, name, sender, number, place FROM testing_row"
+                  " WHERE arch = 0 AND name = 'greeter'"), "unread testing"),
+    (changed_rows("DELETE FROM run WHERE number = 1"), "unread run 1"),
 ]
 
 

@@ -1,17 +1,20 @@
 #!/usr/bin/env python3
-"""What a page in a browser may do to a service: it posts nothing.
+"""What a page in a browser may do to a service: it posts nothing, and under a name of its own it reads nothing.
 
   browser.py PROGRAM [PORT]
 
-PROGRAM is the built program, `crates/office/out/office`. The first rows are requests with a browser's fields. If chromium and
-python3-selenium are installed, a page of another site then tries to post by fetch, sendBeacon and a form, also under a
-name that was rebound to 127.0.0.1; else the last line says that this wasn't tried. Run it by the system's Python:
-/usr/bin/python3. Exit status 0 if nothing was kept.
+PROGRAM is the built program, `crates/office/out/office`. The first rows are requests with a browser's fields, to a
+service that is told its hosts, and to one that isn't. If chromium and python3-selenium are installed, a page of another
+site then tries to post by fetch, sendBeacon and a form, also under a name that was rebound to 127.0.0.1, and to read
+there; else the last line says that this wasn't tried. Run it by the system's Python: /usr/bin/python3. Exit status 0 if
+nothing was kept, and nothing was read under another name.
 """
+import contextlib
 import http.client
 import http.server
 import os
 import shutil
+import socket
 import subprocess
 import sys
 import tempfile
@@ -22,6 +25,15 @@ TOP = os.path.join(os.path.dirname(os.path.abspath(__file__)), "..", "..")
 SETUP = os.path.join(TOP, "examples", "setup.conf")
 HINT = "From: rt\nNumber: %d\nKind: hint\nHint: block-all source\n"
 REFUSED = (403, b"refused OtherOrigin\n")
+OTHER_HOST = (403, b"refused OtherHost\n")
+BAD = (400, b"refused BadRequest\n")
+READY = (200, b"ready 0 finished 0\n")
+# Fields `Host` of a service that is told the names office.example and b, and of them those that it takes.
+KNOWN = ["office.example", "OFFICE.Example:18780", "office.example:", "b", "b:1", "127.0.0.1", "127.0.0.1:80",
+         "localhost", "LocalHost:65536", "[::1]", "[::1]:8080"]
+UNKNOWN = ["evil.example", "office.example.evil", "evil.office.example", "office.example:x", "office.example: 1",
+           "office.example.", "a@office.example", "office.example/", "", ":80", "127.0.0.1.evil.example", "127.0.0.2",
+           "localhost.evil.example", "::1", "[::1", "[::1]x", "office.exampl", "bb"]
 # The paths that a POST takes, each with a body.
 POSTS = [("/mail", HINT % 1), ("/mail/rt", HINT % 1), ("/lint", HINT % 1), ("/settle", ""), ("/try", "block-all source\n"),
          ("/try/2025-03-20", "block-all source\n")]
@@ -38,7 +50,7 @@ def want(what, due, got):
 
 def ask(port, method, path, body="", fields=()):
     connection = http.client.HTTPConnection("127.0.0.1", port, timeout=30)
-    connection.putrequest(method, path)
+    connection.putrequest(method, path, skip_host=any(name.lower() == "host" for name, _ in fields))
     for name, value in fields:
         connection.putheader(name, value)
     if method == "POST":
@@ -64,6 +76,43 @@ def try_fields(port):
     want("kept", b"", ask(port, "GET", "/kept/rt/1")[1].replace(b"refused NoMessage\n", b""))
     for fields in ([], [("Sec-Fetch-Site", "none")], [("Sec-Fetch-Site", "same-origin")], [("Origins", "x")]):
         want("POST /lint, %s" % fields, (200, b"held rt 1\n"), ask(port, "POST", "/lint", HINT % 1, fields))
+
+
+def ask_plainly(port, head):
+    """The code and the body for a head as it is."""
+    with socket.create_connection(("127.0.0.1", port), timeout=30) as connection:
+        connection.sendall(head)
+        reply = connection.makefile("rb").read()
+    front, _, body = reply.partition(b"\r\n\r\n")
+    return int(front.split()[1]), body
+
+
+def try_hosts(port):
+    """A service that is told its names answers for these, and for the machine itself."""
+    for host in KNOWN:
+        want("Host: %s" % host, READY, ask(port, "GET", "/status", fields=[("Host", host)]))
+    for host in UNKNOWN:
+        for method, path, body in [("GET", "/status", ""), ("GET", "/nothing", ""), ("PUT", "/mail", ""),
+                                   *[("POST", path, body) for path, body in POSTS]]:
+            want("%s %s, Host: %s" % (method, path, host), OTHER_HOST, ask(port, method, path, body, [("Host", host)]))
+        want("HEAD, Host: %s" % host, (403, b""), ask(port, "HEAD", "/status", fields=[("Host", host)]))
+        want("waits, Host: %s" % host, OTHER_HOST,
+             ask(port, "POST", "/mail", HINT % 1, [("Expect", "100-continue"), ("Host", host)]))
+    want("no host", OTHER_HOST, ask_plainly(port, b"GET /status HTTP/1.1\r\n\r\n"))
+    want("no host, by 1.0", OTHER_HOST, ask_plainly(port, b"GET /status HTTP/1.0\r\n\r\n"))
+    want("two hosts", BAD, ask(port, "GET", "/status", fields=[("Host", "b"), ("Host", "evil.example")]))
+    want("kept for another host", 404, ask(port, "GET", "/kept/rt/1")[0])
+    want("held for its own", (200, b"held rt 1\n"), ask(port, "POST", "/lint", HINT % 1, [("Host", "b:80")]))
+
+
+def try_any_host(port):
+    """A service that isn't told its names answers for each, if a request names one."""
+    for host in KNOWN + UNKNOWN:
+        want("any host: %s" % host, READY, ask(port, "GET", "/status", fields=[("Host", host)]))
+    for head, due in [(b"HTTP/1.1\r\n\r\n", BAD), (b"HTTP/1.0\r\n\r\n", READY),
+                      (b"HTTP/1.1\r\nHost: a\r\nHost: a\r\n\r\n", BAD),
+                      (b"HTTP/1.0\r\nHost: a\r\nhost: b\r\n\r\n", BAD), (b"HTTP/1.1\r\nhOST:a\r\n\r\n", READY)]:
+        want("any host, %s" % head, due, ask_plainly(port, b"GET /status " + head))
 
 
 PAGE = """<!doctype html><title>page</title><body><script>
@@ -131,6 +180,9 @@ def try_browser(port):
         driver.execute_async_script("const end = arguments[0]; fetch('/mail', {method: 'POST', body: "
                                     "'From: rt\\nNumber: 1\\nKind: hint\\nHint: block-all source\\n'}).then(() => end(1), () => end(0));")
         want("kept of a rebound page", 404, ask(port, "GET", "/kept/rt/1")[0])
+        for host, due in (("rebound.example", "refused OtherHost"), ("localhost", "ready 0 finished 0")):
+            driver.get("http://%s:%d/status" % (host, port))
+            want("what a page reads as %s" % host, due, driver.find_element("tag name", "body").text)
     finally:
         driver.quit()
         site.shutdown()
@@ -144,21 +196,32 @@ def has_browser():
     return bool(shutil.which("chromium") and shutil.which("chromedriver"))
 
 
-def main():
-    program = os.path.abspath(sys.argv[1])
-    port = int(sys.argv[2]) if len(sys.argv) > 2 else 18780
-    with tempfile.TemporaryDirectory() as folder, open(os.path.join(folder, "told"), "wb") as told:
-        service = subprocess.Popen([program, "serve", "--conf", SETUP, "--port", str(port)],
+@contextlib.contextmanager
+def serving(program, port, *words):
+    """A service in memory, with these words more."""
+    with tempfile.TemporaryFile() as told:
+        service = subprocess.Popen([program, "serve", "--conf", SETUP, "--port", str(port), *words],
                                    stdout=subprocess.PIPE, stderr=told)
         try:
             service.stdout.readline()
-            try_fields(port)
-            browser = has_browser()
-            if browser:
-                try_browser(port)
+            yield
         finally:
             service.kill()
             service.wait()
+
+
+def main():
+    program = os.path.abspath(sys.argv[1])
+    port = int(sys.argv[2]) if len(sys.argv) > 2 else 18780
+    browser = has_browser()
+    with serving(program, port):
+        try_fields(port)
+        try_any_host(port)
+    with serving(program, port, "--host", "office.example", "--host=b"):
+        try_fields(port)
+        try_hosts(port)
+        if browser:
+            try_browser(port)
     for fault in faults:
         print("FAIL", fault)
     if not browser:

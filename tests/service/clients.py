@@ -82,7 +82,7 @@ def unread(port, request):
 
 def waiting(port, text):
     """Sends the head of a request, waits for 100 Continue, then sends the body."""
-    head, body = post(text).replace(b"Host: x", b"Expect: 100-continue").split(b"\r\n\r\n", 1)
+    head, body = post(text).replace(b"Host: x", b"Host: x\r\nExpect: 100-continue").split(b"\r\n\r\n", 1)
     with connect(port) as client:
         client.settimeout(10)
         client.sendall(head + b"\r\n\r\n")
@@ -169,7 +169,7 @@ def main():
         want("1 status", b"ready 0 finished 0\n", status(port))
         want("2 a byte at a time", ok, exchange(port, post(NONE % 1), 0.002, 1))
         want("3 waits for continue", b"HTTP/1.1 100 Continue\r\n\r\n" + ok, exchange(
-            port, post(NONE % 2).replace(b"Host: x", b"Expect: 100-continue")))
+            port, post(NONE % 2).replace(b"Host: x", b"Host: x\r\nExpect: 100-continue")))
         want("4 end within the head", b"HTTP/1.1 400 ", early_end(port, b"GET /status HT"))
         want("5 end within the body", b"HTTP/1.1 400 ", early_end(port, post(NONE % 3)[:-1]))
         want("6 nothing", b"", early_end(port, b""))

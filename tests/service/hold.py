@@ -1,5 +1,5 @@
 #!/usr/bin/env python3
-"""Silent, slow and many clients of the service: nobody else waits for them.
+"""Silent, slow and many clients of the service, and a trial of many hints: nobody else waits for them.
 
   hold.py PROGRAM [PORT]
 
@@ -127,6 +127,16 @@ def trickle(port, request):
         want("a request a byte at a time", b"ready" in read_all(client), "no status")
 
 
+def many_hints(port):
+    """A trial of as many hints as fit into a body is refused at once."""
+    hints = b"remove source-with-a-long-name-00001/1.0-1\n" * 1500
+    start = time.monotonic()
+    reply = ask(port, b"POST /try HTTP/1.1\r\nHost: localhost\r\nContent-Length: %d\r\n\r\n%s" % (len(hints), hints))
+    seconds = time.monotonic() - start
+    want("a trial of many hints", reply.endswith(b"refused TooManyHints\n") and seconds < BOUND, reply[-60:])
+    beside("a trial of many hints", port)
+
+
 def builds(count):
     """A bag of uploads and builds, so that the text of unstable is long."""
     parts = []
@@ -173,6 +183,7 @@ def run(port):
     want("the first of 700 gives its place", is_closed_after(many[0], 0, 2), "it is still open")
     close_all(many)
     trickle(port, STATUS)
+    many_hints(port)
     long = slow_reader(port)
     want("the long reply", long > 2_000_000, "%d bytes" % long)
     start = time.monotonic()

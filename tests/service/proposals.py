@@ -4,12 +4,13 @@
   proposals.py PROGRAM [FIRST-LAST [PORT]]
 
 PROGRAM is the built program, `crates/office/out/office`. First come worked cases, with all that is printed of them.
-Then each seed from FIRST to LAST (1-60) draws an archive of three to seven sources, some of them waiting. Each proposed
-hint has to be accepted by a trial of all of them, and to move its group there, by the model and by the program. Mailed
-under the printed numbers, and covered by the next order, each has to move its group in that run. The printed counts
-have to be those of that run. A source that is said to be freed has to move by the hints printed for it. Each source
-that blocks of lines show to be stuck has to wait for good whatever groups are tried, and a block has to be right, line
-by line. What the search finds is counted against what all sequences of groups move. Exit status 0 if all was right.
+Then each seed from FIRST to LAST (1-60) draws an archive of three to seven sources of which some wait. Each hint that
+is proposed has to be taken by a trial of all of them, and to move its group there, by the model and by the program;
+mailed under the numbers that were told, and covered by the next order, each has to move its group in that run. What
+moves without the hints has to move with them. The counts that are told have to be those of that run. A source that is
+said to be freed has to move by the hints that are told of it. Each source that blocks of lines show to be stuck has to
+wait for good whatever groups are tried, and a block has to be right, line by line. What the search finds is counted
+beside what all sequences of groups move. Exit status 0 where all was as it is due.
 """
 import os
 import random
@@ -58,6 +59,18 @@ def blocked_knot():
     return letters
 
 
+def trade():
+    """Two sources that need each other's new versions, and five that need the old one of the first."""
+    letters = Letters()
+    letters.source("lib", "1", "2025-03-01", ("lib", ""))
+    letters.order("2025-03-20")
+    letters.source("lib", "2", "2025-03-21", ("lib", "app (>= 2)"))
+    letters.source("app", "2", "2025-03-21", ("app", "lib (>= 2)"))
+    for name in ("old0", "old1", "old2", "old3", "old4"):
+        letters.source(name, "1", "2025-03-21", (name, "lib (<< 2)"))
+    return letters
+
+
 ALBUM = """stuck album 1-1 uninstallable amd64 album
 1 album 1-1 of album comes in, needs viewer: 2
 2 viewer 1-1 of viewer comes in, needs libfoo2 (>= 2): nothing
@@ -92,6 +105,15 @@ ROWS = [
     (knot, ["left", "right"], PING + LAST, 0, None),
     (blocked_knot, [], PING, 0, None),
     (blocked_knot, ["left"], LEFT, 1, None),
+    (
+        trade,
+        ["--all", "--day", "2025-04-10"],
+        "",
+        1,
+        "office: run 2 of 2025-04-10: 0 hints; 5 of 7 sources that wait move, 0 are stuck\n"
+        "office: 1 groups weren't allowed\n",
+    ),
+    (trade, [], "", 1, "office: run 2 of 2025-03-20: 0 hints; 0 of 0 sources that wait move, 0 are stuck\n"),
     (dead_end, [], "", 1, "office: run 3 of 2025-04-10: 0 hints; 0 of 4 sources that wait move, 4 are stuck\n"),
     (dead_end, ["album"], ALBUM + LIBFOO, 1, None),
     (dead_end, ["album", "player"], ALBUM + LIBFOO + PLAYER, 1, None),
@@ -228,8 +250,14 @@ def is_done(update, number):
     return any(line.startswith("easy %d accept " % number) for line in update.splitlines())
 
 
+def moved(behind, hints):
+    """Those of the sources that wait which the run with these hints moves."""
+    late = behind.with_hints(hints)
+    return {name for name in behind.left if late.sources.get(name) == behind.left[name]}
+
+
 def promise(what, behind, hints, texts):
-    """Each hint is done by the run that has them all: by the model, and by the program once all are mailed."""
+    """Each hint is done by the run that has them all, which keeps no source out: by the model, and by the program."""
     for hint in hints:
         items = hint.split(" ")[1:]
         want(what + ": a group", (True, True), (hint.startswith("easy ") and len(items) > 1, items == sorted(items)))
@@ -237,6 +265,7 @@ def promise(what, behind, hints, texts):
     update = late.reports[behind.run][1]
     for number, hint in numbered(behind, hints):
         want("%s: %s by the model" % (what, hint), True, is_done(update, number))
+    want(what + ": what the hints keep out", set(), moved(behind, []) - moved(behind, hints))
     printed, _ = tries.call("replay", "--conf", CONF, bag=mail(texts + mailed(behind, hints)))
     want(what + ": mailed", True, update in printed)
     return late
@@ -245,17 +274,16 @@ def promise(what, behind, hints, texts):
 def tell_of(what, behind, hints, late, said):
     """What is printed of the whole: the run, its day, the numbers, and how many waiting sources move."""
     waiting = set(behind.left)
-    moved = {name for name in waiting if late.sources.get(name) == behind.left[name]}
+    move = {name for name in waiting if late.sources.get(name) == behind.left[name]}
     found = TOLD.match(said)
     if found is None:
         want(what + ": told", "a line of counts", said)
-        return moved
+        return
     parts = found.groups()
     want(what + ": run and day", (str(behind.run), behind.date, str(len(hints))), parts[:3])
     numbers = ("rt", str(behind.first), str(behind.first + len(hints) - 1)) if hints else (None, None, None)
     want(what + ": numbers", numbers, parts[3:6])
-    want(what + ": counts", (str(len(moved)), str(len(waiting))), parts[6:8])
-    return moved
+    want(what + ": counts", (str(len(move)), str(len(waiting))), parts[6:8])
 
 
 # How the search ends for a source, and what holds then: whether the run moves it, and whether some groups do, if known.
@@ -309,8 +337,8 @@ def by_service(what, behind, texts, bag):
             hints = printed.splitlines()
             want(what + ": the page", 200, code)
             if hints:
-                due = tried(behind.office, hints)[0]
-                want(what + ": the trial", (200, due), service.ask("POST", "/try", "\n".join(hints)))
+                due = tried(behind.office, hints[:1])[0]
+                want(what + ": the trial", (200, due), service.ask("POST", "/try", hints[0]))
             for text in mailed(behind, hints):
                 want(what + ": held", 200, service.ask("POST", "/mail", text)[0])
             update = service.ask("GET", "/update/%d" % behind.run)[1]
@@ -335,8 +363,9 @@ def one(seed):
     hints = printed.splitlines()
     want(what + ": status", 0 if hints else 1, status)
     late = promise(what, behind, hints, texts)
-    moved = tell_of(what, behind, hints, late, said)
-    want(what + ": more than can move", set(), moved - can_move)
+    tell_of(what, behind, hints, late, said)
+    move = moved(behind, hints)
+    want(what + ": more than can move", set(), move - can_move)
     found = re.search(r" (\d+) are stuck\n", said)
     over_sources(what, behind, terms, bag, can_move)
     if not terms and seed % 3 == 0:
@@ -344,7 +373,7 @@ def one(seed):
     for name, number in [
         ("wait", len(behind.left)),
         ("can move", len(can_move)),
-        ("move", len(moved)),
+        ("move", len(move)),
         ("stuck", int(found[1]) if found else 0),
         ("hints", len(hints)),
         ("groups", bool(hints)),

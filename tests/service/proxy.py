@@ -176,6 +176,11 @@ def requests():
             want("a page's POST %s, %s" % (path, fields), (403, b"refused OtherOrigin\n"),
                  ask("POST", path, NONE % (b"ftp", 5), "ftp", fields))
         want("a page's POST without a login", OTHER, ask("POST", "/mail/ftp", NONE % (b"ftp", 5), headers=fields))
+    # a page under a name of its own reads nothing past the proxy, whose own name the office needn't know
+    for host, due in [("evil.example", (403, b"refused OtherHost\n")), ("localhost", (200, b"ready 0 finished 0\n"))]:
+        want("Host: %s" % host, due, ask("GET", "/status", headers=[("Host", host)], at=0))
+        want("Host: %s, by the proxy" % host, (200, b"ready 0 finished 0\n"),
+             ask("GET", "/status", user="ftp", headers=[("Host", host)]))
     want("a page looks", (200, b"ready 0 finished 0\n"), ask("GET", "/status", user="ftp", headers=[("Origin", "x")]))
     want("a proposal for a source", (404, b"refused NoRun\n"), ask("GET", "/propose/lib+x.y", user="bts"))
     want("what is kept", b"mail ftp 4 kept, 1 to 4, greatest 4\nmail bd 1 kept, 1 to 1, greatest 1\n"
@@ -231,7 +236,7 @@ def over_a_service():
             conf.write(AROUND % (" user root;" if os.geteuid() == 0 else "", text_of_the_page()))
         with open(os.path.join(folder, "users"), "w", encoding="utf-8") as users:
             users.write("".join("%s:{PLAIN}secret\n" % user for user in USERS))
-        words = [program, "serve", "--conf", CONF, "--port", str(port)]
+        words = [program, "serve", "--conf", CONF, "--port", str(port), "--host", "localhost"]
         service = subprocess.Popen(words, stdout=subprocess.PIPE, stderr=subprocess.DEVNULL)
         service.stdout.readline()
         words = [NGINX, "-p", folder, "-e", "error.log", "-c", "conf"]

@@ -120,17 +120,18 @@ def ended_by_force(folder, conf):
 
 
 def refused_setups(folder, conf):
-    """The sentence on a setup that is refused names the line at which its paragraph begins, if the fault is of one."""
+    """The sentence on a setup that is refused names the line at which its paragraph begins, or a role and its senders."""
     with open(conf, encoding="utf-8") as good:
         text = good.read()
-    bad = os.path.join(folder, "bad.conf")
+    bad, roles = os.path.join(folder, "bad.conf"), "an unknown role, or too few or too many senders of a role: "
     for what, old, new, due in [
             ("a name with a blank", "Sender: bts", "Sender: b ts", "a bad sender: see the paragraph at line 9"),
             ("a comment", "Sender: rt", "# the team\nSender: rt", "a paragraph can't be read: see the paragraph at line 12"),
             ("no role", "Role: runs\n", "", "the field Role is missing: see the paragraph at line 15"),
             ("an architecture", "amd64", "AMD64", "a bad architecture: see the paragraph at line 1"),
-            ("a role", "Role: release", "Role: releases",
-             "an unknown role, or too few or too many senders of a role")]:
+            ("a role", "Role: release", "Role: releases", roles + "see the paragraph at line 13"),
+            ("two of a role", "Role: bugs", "Role: runs", roles + "bugs has 0, and 1 is due"),
+            ("one too many", "Role: build", "Role: runs", roles + "build has 0, and at least 1 is due")]:
         assert text.count(old) == 1, old
         with open(bad, "w", encoding="utf-8") as file:
             file.write(text.replace(old, new))
@@ -161,11 +162,6 @@ def beside_others(folder, conf):
             want("database with %s, %d kept before" % (what, first), [("ok",)], asked(db, "PRAGMA integrity_check"))
             again, status, _ = replay(conf, db, bag_of(MESSAGES))
             want("%s, all again, %d kept before" % (what, first), (0, testing_in(whole)), (status, testing_in(again)))
-    db = os.path.join(folder, "beside-index")
-    replay(conf, db, bag_of(MESSAGES[:3]))
-    asked(db, "CREATE INDEX by_number ON mail(number)")
-    output, status, _ = replay(conf, db, bag_of(MESSAGES))
-    want("an index on mail", (0, testing_in(whole)), (status, testing_in(output)))
 
 
 def refused(folder, conf):
@@ -200,6 +196,8 @@ def refused(folder, conf):
         ("a column more", conf, changed("column", "ALTER TABLE mail ADD COLUMN more INTEGER"), "other tables"),
         # (by the office's own test, or already by SQLite's reader, which reads no trigger)
         ("a trigger on mail", conf, changed("trigger", "CREATE TRIGGER t AFTER INSERT ON mail BEGIN DELETE FROM run; END"), ""),
+        ("a unique index more on runs", conf, changed("unique", "CREATE UNIQUE INDEX more ON run(excuses)"), "other tables"),
+        ("an index more on mail", conf, changed("index", "CREATE INDEX by_number ON mail(number)"), "other tables"),
         ("mail alone", conf, part, "other tables"),
         ("a view of an office's name", conf, view, "other tables"),
         ("a setup that can't be read", conf, changed("setup", "UPDATE office SET setup = 'x'"), "other tables"),

@@ -197,8 +197,12 @@ def transition_begins(archive: Archive) -> None:
     archive.excuse("doc-tool", "1 of 5", "too young", "new bug 5001")
     archive.excuse("app-d")
     archive.counts.coming("why names a rebuild in unstable", "rebuilt" in archive.ask("why", "app-d")[0])
-    archive.counts.coming("why of a young source says what it will wait for",
-                          "uninstallable" in archive.ask("why", "libfoo")[0])
+    own = "".join(f"broken {architecture} 1\nuninstallable {architecture} app-b 0.9-2 of app-b\n"
+                  "unstable app-b 0.9-2 of app-b comes too\n" for architecture in ARCHITECTURES)
+    archive.counts.expect("what a young source lacks", (
+        f"breaks {archive.service.status().finished} app-b\n{own}"
+        "1 app-b 0.9-2 of app-b comes in, needs libfoo2: nothing\n"
+        "unstable libfoo2 2.0-1 of libfoo isn't a candidate: too young\n", 0), archive.ask("breaks", "app-b"))
     told, status = archive.ask("try", "age-days 0 libfoo/2.0-1")
     archive.counts.expect("a trial says it", (True, 0),
                           ("+update wait libfoo 2.0-1 uninstallable amd64 app-a\n" in told, status))
@@ -223,14 +227,28 @@ def removals(archive: Archive) -> None:
     archive.excuse("libfoo", "4 of 5", "too young")
 
 
+def broken(architecture: str) -> str:
+    """What the new library breaks on an architecture while its users are too young, and the rebuilds no sources."""
+    lines = [f"broken {architecture} {len(APPS) + len(REBUILT)}"]
+    for name in sorted([*APPS, *REBUILT]):
+        version, state = (APPS[name][0], "isn't a candidate: too young") if name in APPS else (
+            REBUILT[name][0], "is in testing")
+        lines += [f"uninstallable {architecture} {name} {TESTING[name][0]} of {name}",
+                  f"unstable {name} {version} of {name} {state}"]
+    return "\n".join(lines) + "\n"
+
+
 def transition_ends(archive: Archive) -> None:
     """Days 6 to 9: the library waits for its users, until the rebuilds are sources and the office finds the group."""
     archive.next_day()
     archive.build("editor", [every("editor", "libtk")], "1.2-1", ("arm64",))
     archive.run("wait libfoo 2.0-1 uninstallable amd64 app-a")
-    told = archive.ask("why", "libfoo")[0]
-    is_whole = all(name in told for name in ("app-d", "plugin-e"))
-    archive.counts.coming("why of a transition names all that breaks", is_whole)
+    due = "".join(broken(architecture) for architecture in ARCHITECTURES)
+    told, status = archive.ask("breaks", "libfoo")
+    archive.counts.expect("all that a transition breaks", (
+        f"breaks {archive.service.status().finished} libfoo\n{due}"
+        "1 app-a 1.0-1 of app-a in testing, needs libfoo1 (>= 1.4): nothing\nleaves libfoo1 1.4-1\n"
+        "unstable libfoo1 1.4-1 of libfoo isn't current\n", 0), (told, status))
     archive.next_day()
     alone = [f"wait {name} {APPS[name][0]} uninstallable amd64 {name}" for name in sorted(APPS)]
     archive.run(*alone, "wait libfoo 2.0-1 uninstallable amd64 app-a")
@@ -347,6 +365,7 @@ def stopped(archive: Archive) -> None:
     """The store is whole, and the program answers over it what office-ask printed of the service, byte for byte."""
     asked = [["why", *SOURCES], ["why", "nosuch"], ["hints"], ["runs"], ["mail"], ["waiting"], ["report", "testing"],
              ["propose"], ["report", "unstable"], ["try", "remove glibc/2.36-9"],
+             ["breaks", "remove glibc/2.36-9", "easy toolkit/4.8-1 chat/9", "editor", "nosuch"],
              ["why", "--run", "8", "libfoo", "app-d"]]
     told = [archive.ask(*words) for words in asked]
     archive.end()

@@ -40,10 +40,15 @@ class Trial:
         return [f"the next run would say: {line}" for line in refused]
 
 
+def lines_of(hints: Sequence[str]) -> bytes:
+    """The body that tries hints. A single one has no line end: so a service takes a group of any size."""
+    return (hints[0] if len(hints) == 1 else "".join(hint + "\n" for hint in hints)).encode()
+
+
 def trial(service: Service, hints: Sequence[str], day: datetime.date) -> Trial:
     """Tries hints, each of one line, in the next run on a day. A hint that is refused is a `Fault` of status 3."""
     path = f"/try/{day.isoformat()}"
-    reply = service.post(path, "".join(hint + "\n" for hint in hints).encode())
+    reply = service.post(path, lines_of(hints))
     if reply.status == http.client.BAD_REQUEST and reply.text.startswith("'"):
         raise Fault(reply.text, REFUSED)
     if not reply.is_good:

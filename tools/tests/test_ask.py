@@ -19,7 +19,10 @@ ASKED = [
     ["try", "block greeter", "age-days 0 libgreet/2.0-1"], ["try", "block nosuch"], ["try", "force greeter/1"],
     ["try", "block greeter", "unblock greeter"], ["try", ""], ["try", "block greeter", "--all"],
     ["try", "block greeter", "--day", "2025-04-02"], ["try", "unblock libgreet/2.0-1", "--all", "--day", "2025-04-02"],
-    ["try", "block\ngreeter"], ["try", "block greeter\r"],
+    ["try", "block\ngreeter"], ["try", "block greeter\r"], ["try", *["block greeter"] * 18],
+    ["breaks", "libgreet"], ["breaks", "greeter", "nosuch"], ["breaks", "remove libgreet/1.2-1", "remove greeter/7"],
+    ["breaks", "easy libgreet/2.0-1 greeter/0.9-2"], ["breaks", "--run", "1", "libgreet"], ["breaks", "block greeter"],
+    ["breaks", "--run", "7", "greeter"], ["breaks", "remove greeter"], ["breaks", ""], ["breaks", "Not/A=Name"],
     ["propose"], ["propose", "libgreet"], ["propose", "greeter"], ["propose", "nosuch"],
     ["propose", "libgreet", "greeter"],
     ["propose", "--day", "2025-04-02", "--all"], ["propose", "No"],
@@ -63,7 +66,8 @@ class Ask(Compared):
 
     def test_no_run(self):
         asked = [["why", "greeter"], ["why", "--run", "0", "greeter"], ["why", "--run", "1", "greeter"],
-                 ["why", "--hint", "1"], ["try", "block greeter"], ["try", "--all", "block greeter"],
+                 ["breaks", "greeter"], ["why", "--hint", "1"], ["try", "block greeter"],
+                 ["try", "--all", "block greeter"],
                  ["try", "--all", "--day", "2025-03-01", "block greeter"], ["try", "--day", "2025-03-01", "block aa"],
                  ["propose"], ["propose", "greeter"], ["propose", "--all", "--day", "2025-03-01"], ["hints"], ["runs"],
                  ["waiting"], ["report", "testing"], ["report", "1", "excuses"]]

@@ -1,5 +1,4 @@
--- The text and the exit status of commands that make no run.
--- The claim on other calls rests on the definitions of texts; the others are steps of the proof.
+-- What is told without a run, and its exit status.
 use Rattle.std.specs.Prelude.{◌≡◌, ◌⊎◌, ◌<◌, ◌==◌, ℕ, List, Option, Some, None, if◌then◌else◌, option_map, length}
 use Rattle.office_core_facts.specs.Outcome.{testing_after, testing_text}
 use Rattle.office_core_facts.specs.OfficeState.{OfficeState}

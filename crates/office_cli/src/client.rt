@@ -6,7 +6,7 @@ ghost use Rattle.office_http_requests.specs.Routes.{office_routes};
 use crate::arrived::ArrivedReader;
 use crate::journal::{Level, note_mail};
 use mio::net::TcpStream;
-use office_http::{Office, Routes, ServeFault, serve_with_routes};
+use office_http::{Office, Routes, ServeFault, serve_as_hosts};
 use office_mail::{FromRead, ToWrite};
 use office_store::Keeper;
 use std::cmp::min;
@@ -56,6 +56,14 @@ const QUICK: [&[u8]; 6] = [
     b"GET /runs",
     b"GET /kept",
 ];
+
+/// What a service does beside its office: for which hosts it answers, and which mail it names on standard error.
+#[derive(Clone, Copy)]
+pub struct Manner<'a> {
+    /// Without any it answers for each.
+    pub hosts: &'a [&'a str],
+    pub level: Level,
+}
 
 /// How far a client is.
 #[derive(Clone, Copy, Debug, PartialEq, Eq)]
@@ -225,7 +233,7 @@ impl Client {
         rt: &HostRuntime,
         office: &mut Office<K>,
         table: &Routes,
-        level: Level,
+        manner: Manner<'_>,
         now: Instant,
     ) -> bool
         requires { table.now ≡ office_routes }
@@ -240,13 +248,14 @@ impl Client {
         let served = answer_arrived(
             office,
             table,
+            manner.hosts,
             self.request.as_slice(),
             self.is_ended,
             &mut reply,
         );
         match served {
             Ok(()) => {
-                note_mail(rt, level, self.request.as_slice(), reply.as_slice());
+                note_mail(rt, manner.level, self.request.as_slice(), reply.as_slice());
                 self.take(reply, now);
                 true
             }
@@ -255,6 +264,7 @@ impl Client {
                 false
             }
             Err(ServeFault::Write) => {
+                self.stage = Stage::Taking;
                 self.end_by(rt, ErrorKind::OutOfMemory.into());
                 true
             }
@@ -335,6 +345,7 @@ fn has_head(request: &[u8]) -> bool {
 fn answer_arrived<K: Keeper>(
     office: &mut Office<K>,
     table: &Routes,
+    hosts: &[&str],
     request: &[u8],
     is_ended: bool,
     reply: &mut Vec<u8>,
@@ -344,5 +355,5 @@ fn answer_arrived<K: Keeper>(
     let mut arrived = ArrivedReader::new(request, is_ended);
     let mut reader = FromRead::new(&mut arrived);
     let mut writer = ToWrite::new(reply);
-    serve_with_routes(office, table, &mut reader, &mut writer).map(drop)
+    serve_as_hosts(office, table, hosts, request, &mut reader, &mut writer).map(drop)
 }

@@ -3,8 +3,8 @@
 ghost use Rattle.std.specs.Prelude.{◌≡◌};
 ghost use Rattle.office_http_requests.specs.Routes.{office_routes};
 
-use crate::client::Client;
-use crate::journal::{Level, stated_level};
+use crate::client::{Client, Manner};
+use crate::journal::stated_level;
 use crate::service::ServiceFault;
 use mio::net::{TcpListener, TcpStream};
 use mio::{Events, Interest, Poll, Token};
@@ -33,7 +33,7 @@ const EVENTS: usize = 64;
 
 /// The clients that are connected, and those that may still come.
 #[derive(Drop)]
-pub struct Clients {
+pub struct Clients<'a> {
     poll: Poll,
     events: Events,
     clients: Vec<Client>,
@@ -41,17 +41,17 @@ pub struct Clients {
     left: u32,
     /// How many accepts have failed in a row.
     failed: u32,
-    /// Which mail is named on standard error.
-    level: Level,
+    manner: Manner<'a>,
 }
 
-impl Clients {
-    /// No client yet; this many may be accepted.
+impl<'a> Clients<'a> {
+    /// Nobody is there yet, and so many may come.
     pub fn new(
         rt: &HostRuntime,
         listener: &mut TcpListener,
         connections: u32,
-    ) -> Result<Clients, ServiceFault> {
+        hosts: &'a [&'a str],
+    ) -> Result<Clients<'a>, ServiceFault> {
         let poll = Poll::new(rt).map_err(ServiceFault::Socket)?;
         let Ok(events) = Events::with_capacity(rt.alloc(), EVENTS) else {
             return Err(ServiceFault::NoMemory);
@@ -65,7 +65,10 @@ impl Clients {
             clients: Vec::new(rt.alloc()),
             left: connections,
             failed: 0,
-            level: stated_level(rt),
+            manner: Manner {
+                hosts,
+                level: stated_level(rt),
+            },
         })
     }
 
@@ -207,15 +210,15 @@ impl Clients {
         if self.unsent() > UNSENT {
             self.send_away(false);
         }
-        let level = self.level;
+        let manner = self.manner;
         let mut has_answered = false;
         for client in self.clients.iter_mut() {
-            if client.is_quick() && client.answer(rt, office, table, level, now) {
+            if client.is_quick() && client.answer(rt, office, table, manner, now) {
                 has_answered = true;
             }
         }
         for client in self.clients.iter_mut() {
-            if !client.is_quick() && client.answer(rt, office, table, level, now) {
+            if !client.is_quick() && client.answer(rt, office, table, manner, now) {
                 return true;
             }
         }
@@ -223,17 +226,18 @@ impl Clients {
     }
 }
 
-/// Serves that many connections of a listener.
+/// Serves so many connections of a listener, as these hosts.
 pub fn serve_clients<K: Keeper>(
     rt: &HostRuntime,
     listener: &mut TcpListener,
     office: &mut Office<K>,
     table: &Routes,
     connections: u32,
+    hosts: &[&str],
 ) -> Result<(), ServiceFault>
     requires { table.now ≡ office_routes }
 {
-    let mut clients = Clients::new(rt, listener, connections)?;
+    let mut clients = Clients::new(rt, listener, connections, hosts)?;
     let mut is_busy = false;
     for _ in 0..u64::MAX {
         if clients.is_done() {

@@ -1,4 +1,5 @@
-//! Why sources are where a run left them, and what a run made of hints.
+//! Why sources stand where a run left them, what a run made of hints, and what changes break; and where an office is made that
+//! is asked.
 
 ghost use Rattle.std.specs.Prelude.{◌≡◌, if◌then◌else◌, IfOk};
 ghost use Rattle.office_cli.specs.Told.{IsAsked};
@@ -9,22 +10,27 @@ use crate::tasks::{
     end_store, find_file, out_of_memory, replay_to, tell_setup, tell_store, tell_unfound,
 };
 use crate::telling::{print_text, refuse, refuse_unfinished};
+use crate::trials::{NextAsk, tell_next};
+use office_core_breaks::question_in;
 use office_core_check::{office_after, office_before, why_of_run};
-use office_core_outcome::HintText;
-use office_core_why::WhyText;
+use office_core_orders::{DeliverFault, fault_words};
 use office_http::{Office, StoreFault};
-use office_mail::{MAX_NUMBER, Setup};
+use office_mail::{MAX_NUMBER, MailFault, Setup};
 use office_store::{Keeper, Plain, open_store, read_setup};
 use sqlite::Unknown;
 use std::io;
 
-/// What is asked of a run.
+/// What is asked of a run, or of the next one.
 #[derive(Clone, Copy)]
-enum Ask<'a> {
-    /// Why these sources are where it left them.
+pub(crate) enum Ask<'a> {
+    /// Why these sources stand where it left them.
     Sources(&'a [&'a str]),
     /// What it made of the hints with these numbers.
     Hints(&'a [u32]),
+    /// What changes break that these words name, where it left testing.
+    Changes(&'a [&'a str]),
+    /// What the next run would do.
+    Next(NextAsk<'a>),
 }
 
 /// The run that is asked about, by the finished ones.
@@ -73,6 +79,18 @@ pub fn hints_for(
     ask_for(rt, conf, db, run, Ask::Hints(&numbers))
 }
 
+/// Tells what changes break that words name, for the setup in a file, over the store in another or over the bag on standard
+/// input, and gives the exit status. They are changes of the testing that a run left, without one the last finished run.
+pub fn breaks_for(
+    rt: &HostRuntime,
+    conf: &str,
+    db: Option<&str>,
+    run: Option<u32>,
+    words: &[&str],
+) -> u8 {
+    ask_for(rt, conf, db, run, Ask::Changes(words))
+}
+
 /// The number of a message that a word names.
 fn number_of(word: &str) -> Option<u32> {
     match u32::from_str_radix(word, 10) {
@@ -88,7 +106,13 @@ fn refuse_number(rt: &HostRuntime, word: &str) -> u8 {
 }
 
 /// Asks a run, for the setup in a file, over the store in another or over the bag on standard input.
-fn ask_for(rt: &HostRuntime, conf: &str, db: Option<&str>, run: Option<u32>, ask: Ask<'_>) -> u8 {
+pub(crate) fn ask_for(
+    rt: &HostRuntime,
+    conf: &str,
+    db: Option<&str>,
+    run: Option<u32>,
+    ask: Ask<'_>,
+) -> u8 {
     match read_setup(rt, conf) {
         Ok(setup) => match db {
             Some(path) => ask_stored(rt, path, setup, run, ask),
@@ -145,28 +169,33 @@ fn tell<K: Keeper>(
     ask: Ask<'_>,
 ) -> (K, u8) {
     match ask {
-        Ask::Sources(sources) => tell_why(rt, setup, office, run, sources),
-        Ask::Hints(numbers) => tell_hints(rt, setup, office, run, numbers),
+        Ask::Sources(_) | Ask::Changes(_) => tell_left(rt, setup, office, run, ask),
+        Ask::Hints(_) => tell_hints(rt, setup, office, run, ask),
+        Ask::Next(next) => {
+            let mut office = office;
+            let status = tell_next(rt, &mut office, next);
+            (office.into_keeper(), status)
+        }
     }
 }
 
-/// Prints why sources are where a run of an office left them, and returns the office's store with the exit status.
-fn tell_why<K: Keeper>(
+/// Prints what is asked of the testing that a run of an office left, and gives the office's store with the exit status.
+fn tell_left<K: Keeper>(
     rt: &HostRuntime,
     setup: &Setup,
     office: Office<K>,
     run: Option<u32>,
-    sources: &[&str],
+    ask: Ask<'_>,
 ) -> (K, u8) {
     let mut office = office;
     match asked_run(&mut office, run) {
         Ok(WhichRun::Earlier { run }) => {
             let mut keeper = office.into_keeper();
-            let status = tell_earlier(rt, setup, &mut keeper, run, sources);
+            let status = tell_earlier(rt, setup, &mut keeper, run, ask);
             (keeper, status)
         }
         asked => {
-            let status = tell_last(rt, &mut office, asked, sources);
+            let status = tell_last(rt, &mut office, asked, ask);
             (office.into_keeper(), status)
         }
     }
@@ -178,14 +207,14 @@ fn tell_hints<K: Keeper>(
     setup: &Setup,
     office: Office<K>,
     run: Option<u32>,
-    numbers: &[u32],
+    ask: Ask<'_>,
 ) -> (K, u8) {
     let mut office = office;
     let asked = asked_run(&mut office, run);
     let mut keeper = office.into_keeper();
     let status = match asked {
         Ok(WhichRun::Earlier { run }) | Ok(WhichRun::Last { run }) if run > 0 => {
-            tell_hints_of(rt, setup, &mut keeper, run, numbers)
+            tell_hints_of(rt, setup, &mut keeper, run, ask)
         }
         Ok(_) => refuse_unfinished(rt),
         Err(fault) => refuse(rt, fault),
@@ -200,23 +229,32 @@ fn tell_hints_of<K: Keeper>(
     setup: &Setup,
     keeper: &mut K,
     run: u32,
-    numbers: &[u32],
+    ask: Ask<'_>,
 ) -> u8 {
     match office_before(rt.alloc(), setup, keeper, run) {
         Ok(Some(office)) => {
             let mut office = office;
-            tell_each_hint(rt, &mut office, numbers)
+            tell_each(rt, &mut office, run, ask)
         }
         Ok(None) => tell_other_mail(rt),
         Err(fault) => refuse(rt, fault),
     }
 }
 
-/// Prints what the next run of an office makes of each hint, and returns the exit status.
-fn tell_each_hint<K: Keeper>(rt: &HostRuntime, office: &mut Office<K>, numbers: &[u32]) -> u8 {
+/// How many things are asked for.
+fn count_of(ask: Ask<'_>) -> usize {
+    match ask {
+        Ask::Sources(words) | Ask::Changes(words) => words.len(),
+        Ask::Hints(numbers) => numbers.len(),
+        Ask::Next(_) => 0,
+    }
+}
+
+/// Prints what is told of each thing that is asked for, and gives the exit status.
+fn tell_each<K: Keeper>(rt: &HostRuntime, office: &mut Office<K>, run: u32, ask: Ask<'_>) -> u8 {
     let mut status = 0;
-    for number in numbers {
-        match tell_hint(rt, office, *number) {
+    for place in 0..count_of(ask) {
+        match tell_one(rt, office, run, ask, place) {
             0 => {}
             code if code == ExitStatus::Negative.code() => status = code,
             failed => return failed,
@@ -225,20 +263,59 @@ fn tell_each_hint<K: Keeper>(rt: &HostRuntime, office: &mut Office<K>, numbers: 
     status
 }
 
-/// Prints what the next run of an office makes of a hint, and returns the exit status.
+/// Prints what is told of the thing at a place of those that are asked for, and gives the exit status.
+fn tell_one<K: Keeper>(
+    rt: &HostRuntime,
+    office: &mut Office<K>,
+    run: u32,
+    ask: Ask<'_>,
+    place: usize,
+) -> u8 {
+    match ask {
+        Ask::Sources(words) => tell_source(
+            rt,
+            office,
+            run,
+            words.get(place).map_or("", |word| *word),
+        ),
+        Ask::Changes(words) => tell_change(rt, office, words.get(place).map_or("", |word| *word)),
+        Ask::Hints(numbers) => tell_hint(rt, office, numbers.get(place).map_or(0, |n| *n)),
+        Ask::Next(_) => 0,
+    }
+}
+
+/// Prints what the next run of an office makes of a hint, and gives the exit status.
 fn tell_hint<K: Keeper>(rt: &HostRuntime, office: &mut Office<K>, number: u32) -> u8 {
     match office.hint_told(number) {
-        Ok(Some(told)) => print_text(rt, &told.text, hint_status(&told)),
+        Ok(Some(told)) => print_text(rt, &told.text, known_status(told.is_known)),
         Ok(None) => ExitStatus::Negative.code(),
         Err(fault) => refuse(rt, fault),
     }
 }
 
-/// The exit status for the text on a hint: 1 if the run doesn't cover it.
-fn hint_status(told: &HintText) -> u8
-    ensures { result ≡ (if told.now.is_known then 0 else 1) }
+/// Prints what a change breaks that words name where the last run of an office left testing, and gives the exit status. Words
+/// that name none are refused on standard error.
+fn tell_change<K: Keeper>(rt: &HostRuntime, office: &mut Office<K>, words: &str) -> u8 {
+    match question_in(rt.alloc(), office.setup(), words) {
+        Ok(question) => match office.breaks_text(&question) {
+            Ok(Some(told)) => print_text(rt, &told.text, known_status(told.is_known)),
+            Ok(None) => refuse_unfinished(rt),
+            Err(fault) => refuse(rt, fault),
+        },
+        Err(MailFault::NoMemory) => refuse(rt, StoreFault::NoMemory),
+        Err(fault) => {
+            let (cause, field) = fault_words(DeliverFault::Mail(fault));
+            let _ = eprintln!(rt; "office: '{words}': refused {cause}{field}");
+            ExitStatus::Refused.code()
+        }
+    }
+}
+
+/// The exit status for what is told: 1 where what is asked for isn't known.
+fn known_status(is_known: bool) -> u8
+    ensures { result ≡ (if is_known then 0 else 1) }
 {
-    if told.is_known {
+    if is_known {
         0
     } else {
         ExitStatus::Negative.code()
@@ -272,76 +349,46 @@ fn asked_of(finished: u32, run: Option<u32>) -> WhichRun
     }
 }
 
-/// Prints the texts on sources for the last finished run, and returns the exit status. Prints nothing for a run that
-/// isn't finished.
+/// Prints what is asked of the last finished run, and gives the exit status. Nothing is printed for a run that isn't
+/// finished.
 fn tell_last<K: Keeper>(
     rt: &HostRuntime,
     office: &mut Office<K>,
     asked: Result<WhichRun, StoreFault>,
-    sources: &[&str],
+    ask: Ask<'_>,
 ) -> u8 {
     match asked {
-        Ok(WhichRun::Last { run }) => tell_sources(rt, office, run, sources),
+        Ok(WhichRun::Last { run }) => tell_each(rt, office, run, ask),
         Ok(_) => refuse_unfinished(rt),
         Err(fault) => refuse(rt, fault),
     }
 }
 
-/// Prints the texts on sources for an earlier run of a store, over an office in memory as that run left it, and returns
-/// the exit status.
+/// Prints what is asked of an earlier run of a store, over an office in memory that is as that run left it, and gives the exit
+/// status.
 fn tell_earlier<K: Keeper>(
     rt: &HostRuntime,
     setup: &Setup,
     keeper: &mut K,
     run: u32,
-    sources: &[&str],
+    ask: Ask<'_>,
 ) -> u8 {
     match office_after(rt.alloc(), setup, keeper, run) {
         Ok(Some(office)) => {
             let mut office = office;
-            tell_sources(rt, &mut office, run, sources)
+            tell_each(rt, &mut office, run, ask)
         }
         Ok(None) => tell_other_mail(rt),
         Err(fault) => refuse(rt, fault),
     }
 }
 
-/// Prints why each source is where a run left it, from an office with that as its last finished run, and returns the
-/// exit status.
-fn tell_sources<K: Keeper>(
-    rt: &HostRuntime,
-    office: &mut Office<K>,
-    run: u32,
-    sources: &[&str],
-) -> u8 {
-    let mut status = 0;
-    for source in sources {
-        match tell_source(rt, office, run, source) {
-            0 => {}
-            code if code == ExitStatus::Negative.code() => status = code,
-            failed => return failed,
-        }
-    }
-    status
-}
-
-/// Prints why a source is where a run left it, from an office with that as its last finished run, and returns the exit
-/// status. Prints nothing if no run is finished.
+/// Prints why a source stands where a run left it, by an office of which that is the last finished run, and gives the
+/// exit status. Nothing is printed where no run is finished.
 fn tell_source<K: Keeper>(rt: &HostRuntime, office: &mut Office<K>, run: u32, source: &str) -> u8 {
     match why_of_run(office, run, source) {
-        Ok(Some(why)) => print_text(rt, &why.text, status_of(&why)),
+        Ok(Some(why)) => print_text(rt, &why.text, known_status(why.is_known)),
         Ok(None) => ExitStatus::Negative.code(),
         Err(fault) => refuse(rt, fault),
-    }
-}
-
-/// The exit status for the text on a source: 1 if unstable doesn't have it.
-fn status_of(why: &WhyText) -> u8
-    ensures { result ≡ (if why.now.is_known then 0 else 1) }
-{
-    if why.is_known {
-        0
-    } else {
-        ExitStatus::Negative.code()
     }
 }

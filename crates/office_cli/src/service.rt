@@ -43,12 +43,14 @@ pub fn service_status(served: &Result<(), ServiceFault>) -> u8
     }
 }
 
-/// Serves that many connections on a port of 127.0.0.1. A connection that fails counts.
+/// Serves so many connections on a port of 127.0.0.1, as these hosts, or as each if none is given. A connection that fails
+/// counts.
 pub fn serve<K: Keeper>(
     rt: &HostRuntime,
     office: &mut Office<K>,
     port: u32,
     connections: u32,
+    hosts: &[&str],
 ) -> Result<(), ServiceFault> {
     let Ok(table) = routes(rt.alloc()) else {
         return Err(ServiceFault::NoMemory);
@@ -57,7 +59,7 @@ pub fn serve<K: Keeper>(
     if println!(rt; "listening {port}").is_err() {
         return Err(ServiceFault::Output);
     }
-    serve_clients(rt, &mut listener, office, &table, connections)
+    serve_clients(rt, &mut listener, office, &table, connections, hosts)
 }
 
 /// A listener on a port of 127.0.0.1.
@@ -86,5 +88,5 @@ pub fn serve_next<K: Keeper>(
 ) -> Result<(), ServiceFault>
     requires { table.now ≡ office_routes }
 {
-    serve_clients(rt, listener, office, table, 1)
+    serve_clients(rt, listener, office, table, 1, &[])
 }

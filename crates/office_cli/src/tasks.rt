@@ -1,12 +1,12 @@
-//! What the program's words ask for: a comparison, the version, why sources are where a run left them, a trial of
-//! hints, a proposal of some, or a task over a store.
+//! What the program's words ask for: a comparison, the version, why sources stand where a run left them, what changes
+//! break, a trial of hints, a proposal of some, or a task over a store.
 
 use crate::asking::{Question, tell_answer};
 use crate::checking::tell_check;
 use crate::noted::FaultKeepingReader;
-use crate::reasons::{hints_for, why_for};
+use crate::reasons::{breaks_for, hints_for, why_for};
 use crate::service::{serve, service_status};
-use crate::setups::line_of_fault;
+use crate::setups::{Detail, detail_of, role_words};
 use crate::status::ExitStatus;
 use crate::teller::Teller;
 use crate::telling::{tell_report, tell_version, tell_waiting};
@@ -25,12 +25,16 @@ use std::{fs, io, mem};
 
 /// What is done in an office, once its store is open.
 #[derive(Clone, Copy)]
-enum Task {
-    /// Replays the bag on standard input.
+enum Task<'a> {
+    /// The bag on standard input is replayed.
     Replay,
-    /// Serves that many connections on a port.
-    Serve { port: u32, connections: u32 },
-    /// Prints what the first run that isn't ready waits for.
+    /// So many connections are served on a port, as these hosts.
+    Serve {
+        port: u32,
+        connections: u32,
+        hosts: &'a [&'a str],
+    },
+    /// What the first run that isn't ready waits for is told.
     Waiting,
     /// Delivers the bag on standard input, and then prints what the first run that isn't ready waits for.
     BagWaiting,
@@ -52,13 +56,24 @@ pub fn run_command(rt: &HostRuntime, words: Words) -> u8 {
             port,
             db,
             connections,
-        } => run_for(rt, conf, db, Task::Serve { port, connections }),
+            hosts,
+        } => {
+            let task = Task::Serve {
+                port,
+                connections,
+                hosts: hosts.as_slice(),
+            };
+            run_for(rt, conf, db, task)
+        }
         Words::Waiting { conf, db: None } => run_for(rt, conf, None, Task::BagWaiting),
         Words::Waiting { conf, db } => run_for(rt, conf, db, Task::Waiting),
         Words::Report { conf, db, report } => run_for(rt, conf, Some(db), Task::Report(report)),
         Words::UnknownReport { run, report } => refuse_report(rt, run, report),
         Words::Runs { conf, db } => answer_for(rt, conf, db, Question::Runs),
-        Words::Mail { conf, db, list } => answer_for(rt, conf, db, mail_question(list)),
+        Words::Mail { conf, db, list } => {
+            let question = if list { Question::List } else { Question::Mail };
+            answer_for(rt, conf, db, question)
+        }
         Words::Export { conf, db } => answer_for(rt, conf, db, Question::Export),
         Words::Check { conf, db } => check_for(rt, conf, db),
         Words::Why {
@@ -92,13 +107,14 @@ pub fn run_command(rt: &HostRuntime, words: Words) -> u8 {
             all,
             sources,
         } => propose_for(rt, conf, db, day, all, &sources),
+        Words::Breaks {
+            conf,
+            db,
+            run,
+            changes,
+        } => breaks_for(rt, conf, db, run, &changes),
         Words::Version => tell_version(rt),
     }
-}
-
-/// What is asked about mail: each message of it, or counts.
-fn mail_question(list: bool) -> Question {
-    if list { Question::List } else { Question::Mail }
 }
 
 /// Answers a question for the setup in a file, from the store in another.
@@ -120,7 +136,7 @@ pub(crate) fn out_of_memory(rt: &HostRuntime) -> u8 {
 }
 
 /// Does a task for the setup in a file, over the store in a file or in memory.
-fn run_for(rt: &HostRuntime, conf: &str, db: Option<&str>, task: Task) -> u8 {
+fn run_for(rt: &HostRuntime, conf: &str, db: Option<&str>, task: Task<'_>) -> u8 {
     match read_setup(rt, conf) {
         Ok(setup) => match db {
             Some(path) => run_stored(rt, path, setup, task),
@@ -140,12 +156,18 @@ fn check_for(rt: &HostRuntime, conf: &str, db: &str) -> u8 {
 
 /// Prints on standard error why the setup in a file is refused, and returns the exit status.
 pub(crate) fn tell_setup(rt: &HostRuntime, conf: &str, fault: &ConfFault) -> u8 {
-    let line = match fault {
-        ConfFault::Refused(fault) => line_of_fault(rt, conf, *fault),
+    let detail = match fault {
+        ConfFault::Refused(fault) => detail_of(rt, conf, *fault),
         ConfFault::Unreadable(_) => None,
     };
-    let _ = match line {
-        Some(line) => eprintln!(rt; "office: {conf}: {fault}: see the paragraph at line {line}"),
+    let _ = match detail {
+        Some(Detail::Line(line)) => {
+            eprintln!(rt; "office: {conf}: {fault}: see the paragraph at line {line}")
+        }
+        Some(Detail::Role(place, count)) => {
+            let (role, due) = role_words(place);
+            eprintln!(rt; "office: {conf}: {fault}: {role} has {count}, and {due} is due")
+        }
         None => eprintln!(rt; "office: {conf}: {fault}"),
     };
     conf_status(fault)
@@ -156,8 +178,8 @@ pub(crate) fn find_file(rt: &HostRuntime, path: &str) -> io::Result<()> {
     fs::open(rt, path).map(drop)
 }
 
-/// Checks that the file for a task exists. Only a replay and a service create it.
-fn find_store_file(rt: &HostRuntime, path: &str, task: Task) -> io::Result<()> {
+/// Looks whether the file is there that a task tells of. Only a replay and a service make one.
+fn find_store_file(rt: &HostRuntime, path: &str, task: Task<'_>) -> io::Result<()> {
     match task {
         Task::Waiting | Task::Report(_) | Task::Answer(_) => find_file(rt, path),
         Task::Replay | Task::Serve { .. } | Task::BagWaiting | Task::Lint => Ok(()),
@@ -171,7 +193,7 @@ pub(crate) fn tell_unfound(rt: &HostRuntime, path: &str, fault: io::Error) -> u8
 }
 
 /// Does a task in an office whose store is in a file.
-fn run_stored(rt: &HostRuntime, path: &str, setup: Setup, task: Task) -> u8 {
+fn run_stored(rt: &HostRuntime, path: &str, setup: Setup, task: Task<'_>) -> u8 {
     if let Err(fault) = find_store_file(rt, path, task) {
         return tell_unfound(rt, path, fault);
     }
@@ -219,9 +241,9 @@ pub(crate) fn tell_store(rt: &HostRuntime, path: &str, fault: &FileFault) -> u8 
     store_status(fault)
 }
 
-/// Does a task in an office whose store is in memory. The process then ends and so frees all memory at once, so the
-/// office's values aren't dropped one by one.
-fn run_in_memory(rt: &HostRuntime, setup: Setup, task: Task) -> u8 {
+/// Does a task in an office whose store is in memory. The process ends behind it, which gives back all memory at once, so
+/// the office's values aren't let go one by one.
+fn run_in_memory(rt: &HostRuntime, setup: Setup, task: Task<'_>) -> u8 {
     match Plain::new(rt.alloc(), &setup) {
         Ok(plain) => {
             let mut office = Office::new(rt.alloc(), setup, plain);
@@ -234,10 +256,14 @@ fn run_in_memory(rt: &HostRuntime, setup: Setup, task: Task) -> u8 {
 }
 
 /// Does a task in an office.
-fn run_over<K: Keeper>(rt: &HostRuntime, office: &mut Office<K>, task: Task) -> u8 {
+fn run_over<K: Keeper>(rt: &HostRuntime, office: &mut Office<K>, task: Task<'_>) -> u8 {
     match task {
         Task::Replay => replay_over(rt, office),
-        Task::Serve { port, connections } => serve_over(rt, office, port, connections),
+        Task::Serve {
+            port,
+            connections,
+            hosts,
+        } => serve_over(rt, office, port, connections, hosts),
         Task::Waiting => tell_waiting(rt, office),
         Task::BagWaiting => deliver_and_tell(rt, office),
         Task::Report(report) => tell_report(rt, office, report),
@@ -300,14 +326,15 @@ fn replay_told<K: Keeper, W: Write>(
     replay_status(&replayed)
 }
 
-/// Serves that many connections on a port, over an office.
+/// Serves so many connections on a port, as these hosts, over an office.
 fn serve_over<K: Keeper>(
     rt: &HostRuntime,
     office: &mut Office<K>,
     port: u32,
     connections: u32,
+    hosts: &[&str],
 ) -> u8 {
-    let served = serve(rt, office, port, connections);
+    let served = serve(rt, office, port, connections, hosts);
     if let Err(fault) = &served {
         let _ = eprintln!(rt; "office: 127.0.0.1:{port}: {fault}");
     }

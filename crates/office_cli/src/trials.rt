@@ -1,10 +1,9 @@
 //! Hints that are tried before they are mailed, and hints that are proposed.
 
 use crate::proposals::print_proposal;
+use crate::reasons::{Ask, ask_for};
 use crate::status::ExitStatus;
-use crate::tasks::{
-    end_store, find_file, out_of_memory, replay_to, tell_setup, tell_store, tell_unfound,
-};
+use crate::tasks::out_of_memory;
 use crate::telling::{print_text, refuse};
 use deb_control::{NoMemory, Text, is_package_name};
 use office_core_orders::{DeliverFault, fault_words, name_at};
@@ -14,18 +13,16 @@ use office_core_outcome::{
 use office_http::{Office, StoreFault};
 use office_mail::Setup;
 use office_mail_setup::values::day_in;
-use office_store::{Keeper, Plain, open_store, read_setup};
-use sqlite::Unknown;
+use office_store::Keeper;
 use std::alloc::Global;
-use std::io;
 
-/// What is asked about the next run.
+/// What is asked about the next run, and on which terms.
 #[derive(Clone, Copy)]
-enum Ask<'a> {
+pub(crate) enum NextAsk<'a> {
     /// What these hints would change in it.
-    Try(&'a [Text]),
-    /// Hints that free these sources in it, or that move groups if no source is named.
-    Propose(&'a [Text]),
+    Try(&'a [Text], TrialOptions),
+    /// Hints that free these sources in it, or that move groups where none is named.
+    Propose(&'a [Text], TrialOptions),
 }
 
 /// Tries hints for the setup in a file, over the store in another or over the bag on standard input, and returns the
@@ -44,7 +41,7 @@ pub fn try_for(
     let Ok(hints) = texts_of(rt.alloc(), hints) else {
         return out_of_memory(rt);
     };
-    ask_for(rt, conf, db, Ask::Try(&hints), terms)
+    ask_for(rt, conf, db, None, Ask::Next(NextAsk::Try(&hints, terms)))
 }
 
 /// Proposes hints for the setup in a file, over the store in another or the bag on standard input, and returns the exit
@@ -68,7 +65,13 @@ pub fn propose_for(
     let Ok(sources) = texts_of(rt.alloc(), sources) else {
         return out_of_memory(rt);
     };
-    ask_for(rt, conf, db, Ask::Propose(&sources), terms)
+    ask_for(
+        rt,
+        conf,
+        db,
+        None,
+        Ask::Next(NextAsk::Propose(&sources, terms)),
+    )
 }
 
 /// The terms of a trial, none if a text is no day.
@@ -91,60 +94,15 @@ fn texts_of(alloc: Global, texts: &[&str]) -> Result<Vec<Text>, NoMemory> {
     Ok(copies)
 }
 
-/// Asks about the next run for the setup in a file, over the store in another or over the bag on standard input.
-fn ask_for(
-    rt: &HostRuntime,
-    conf: &str,
-    db: Option<&str>,
-    ask: Ask<'_>,
-    terms: TrialOptions,
-) -> u8 {
-    match (read_setup(rt, conf), db) {
-        (Ok(setup), Some(path)) => ask_stored(rt, path, setup, ask, terms),
-        (Ok(setup), None) => ask_in_memory(rt, setup, ask, terms),
-        (Err(fault), _) => tell_setup(rt, conf, &fault),
-    }
-}
-
-/// Asks about the next run over the store in a file.
-fn ask_stored(rt: &HostRuntime, path: &str, setup: Setup, ask: Ask<'_>, terms: TrialOptions) -> u8 {
-    if let Err(fault) = find_file(rt, path) {
-        return tell_unfound(rt, path, fault);
-    }
-    match open_store(rt, path, Unknown, &setup) {
-        Ok(tables) => {
-            let mut office = Office::new(rt.alloc(), setup, tables);
-            let status = tell_next(rt, &mut office, ask, terms);
-            end_store(rt, path, office.into_keeper(), status)
-        }
-        Err(fault) => tell_store(rt, path, &fault),
-    }
-}
-
-/// Asks about the next run over the bag on standard input. If the bag is refused or mail was lost, prints only that.
-fn ask_in_memory(rt: &HostRuntime, setup: Setup, ask: Ask<'_>, terms: TrialOptions) -> u8 {
-    match Plain::new(rt.alloc(), &setup) {
-        Ok(plain) => {
-            let mut office = Office::new(rt.alloc(), setup, plain);
-            match replay_to(rt, &mut office, &mut io::sink()) {
-                0 => tell_next(rt, &mut office, ask, terms),
-                status => status,
-            }
-        }
-        Err(_) => out_of_memory(rt),
-    }
-}
-
-/// Prints what is asked about the next run of an office, and returns the exit status.
-fn tell_next<K: Keeper>(
+/// Prints what is asked about the next run of an office, and gives the exit status.
+pub(crate) fn tell_next<K: Keeper>(
     rt: &HostRuntime,
     office: &mut Office<K>,
-    ask: Ask<'_>,
-    terms: TrialOptions,
+    ask: NextAsk<'_>,
 ) -> u8 {
     match ask {
-        Ask::Try(hints) => tell_trial(rt, office, hints, terms),
-        Ask::Propose(sources) => tell_proposal(rt, office, sources, terms),
+        NextAsk::Try(hints, terms) => tell_trial(rt, office, hints, terms),
+        NextAsk::Propose(sources, terms) => tell_proposal(rt, office, sources, terms),
     }
 }
 

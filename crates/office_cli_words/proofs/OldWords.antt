@@ -13,7 +13,7 @@ use Rattle.clap.specs.Kinds.{Kinds, or_else}
 use Rattle.clap.specs.Simple.{App, Shape, argument_words, built, built_leaf, entered, inherited, label_of, names_of, rows_at, subcommand_of}
 use Rattle.clap.specs.Walk.{Names, Row, Text, Waiting, Walk, after_step, answers_to, finished, idle, nothing_held, option, positional, settled, stop_after, subcommand_met, subcommand_or_other, value, walk, walk_from, walked, walked_from}
 use Rattle.office_cli_words.specs.Program as program
-use Rattle.office_cli_words.specs.Asked.{Asked, ToCheck, ToExport, ToTellHints, ToTellRuns, ToTellVersion, asked_by, command_in, command_words_in, compare_in, if_faultless, lint_in, mail_in, order_in, propose_in, replay_in, report_in, serve_in, stored_in, try_in, waiting_in, why_in, words_in}
+use Rattle.office_cli_words.specs.Asked.{Asked, ToCheck, ToExport, ToTellHints, ToTellRuns, ToTellVersion, asked_by, breaks_in, command_in, command_words_in, compare_in, if_faultless, lint_in, mail_in, order_in, propose_in, replay_in, report_in, serve_in, stored_in, try_in, waiting_in, why_in, words_in}
 use Rattle.office_cli_words.specs.Laws.{OldWordsStay, old_words_in, one_of_three}
 use Rattle.office_cli_words.proofs.Walks.{never_none, no_kinds}
 
@@ -134,13 +134,13 @@ new_leaf a = built_leaf (inherited three.top a.top)
 
 abbrev new_shapes : List Shape
 new_shapes = new_leaf program.waiting ∷ new_leaf program.report ∷ new_leaf program.runs ∷ new_leaf program.mail ∷ new_leaf program.export ∷ new_leaf program.check ∷ new_leaf program.why ∷ new_leaf program.tries
-    ∷ new_leaf program.lint ∷ new_leaf program.order ∷ new_leaf program.hints ∷ new_leaf program.propose ∷ []
+    ∷ new_leaf program.lint ∷ new_leaf program.order ∷ new_leaf program.hints ∷ new_leaf program.propose ∷ new_leaf program.breaks ∷ []
 
 abbrev plain_name : Text → Text × List Text
 plain_name name = (name, [])
 
 abbrev new_names : List Text
-new_names = codes "waiting" ∷ codes "report" ∷ codes "runs" ∷ codes "mail" ∷ codes "export" ∷ codes "check" ∷ codes "why" ∷ codes "try" ∷ codes "lint" ∷ codes "order" ∷ codes "hints" ∷ codes "propose" ∷ []
+new_names = codes "waiting" ∷ codes "report" ∷ codes "runs" ∷ codes "mail" ∷ codes "export" ∷ codes "check" ∷ codes "why" ∷ codes "try" ∷ codes "lint" ∷ codes "order" ∷ codes "hints" ∷ codes "propose" ∷ codes "breaks" ∷ []
 
 stray_waiting : IsStray three.top (codes "waiting")
 unfolding clap_on_literals program.of_three
@@ -190,6 +190,10 @@ stray_propose : IsStray three.top (codes "propose")
 unfolding clap_on_literals program.of_three
 stray_propose w none = never_none kind.UnknownArgument (kind.InvalidSubcommand ∷ []) none
 
+stray_breaks : IsStray three.top (codes "breaks")
+unfolding clap_on_literals program.of_three
+stray_breaks w none = never_none kind.UnknownArgument (kind.InvalidSubcommand ∷ []) none
+
 abbrev EachStray : List Text → Type 0
 EachStray [] = ⊤
 EachStray (name ∷ rest) = IsStray three.top name × EachStray rest
@@ -204,7 +208,7 @@ strays_among (name ∷ rest) each word there = go (bytes_eq name word) refl (str
     go false other later found = later found
 
 new_strays : (word : Text) → is_some (find (answers_to word) (map plain_name new_names)) ≡ true → IsStray three.top word
-new_strays = strays_among new_names (stray_waiting, (stray_report, (stray_runs, (stray_mail, (stray_export, (stray_check, (stray_why, (stray_try, (stray_lint, (stray_order, (stray_hints, (stray_propose, tt))))))))))))
+new_strays = strays_among new_names (stray_waiting, (stray_report, (stray_runs, (stray_mail, (stray_export, (stray_check, (stray_why, (stray_try, (stray_lint, (stray_order, (stray_hints, (stray_propose, (stray_breaks, tt)))))))))))))
 
 faultless_parts : (kinds : Kinds) (found : Option Asked) (ask : Asked) → if_faultless kinds found ≡ Some ask → (kinds ≡ []) × (found ≡ Some ask)
 faultless_parts [] found ask is = (refl, is)
@@ -229,7 +233,8 @@ new_command name rows =
     (cond (bytes_eq name (codes "lint")) (lint_in rows)
     (cond (bytes_eq name (codes "order")) (order_in rows)
     (cond (bytes_eq name (codes "hints")) (stored_in ToTellHints rows)
-    (cond (bytes_eq name (codes "propose")) (propose_in rows) None)))))))))))
+    (cond (bytes_eq name (codes "propose")) (propose_in rows)
+    (cond (bytes_eq name (codes "breaks")) (breaks_in rows) None))))))))))))
 
 command_same : (name : Text) (rows : List Row) (ask : Asked) → one_of_three name rows ≡ Some ask → command_in name rows ≡ Some ask
 command_same name rows ask is =
@@ -243,7 +248,7 @@ command_same name rows ask is =
     go x y z rest false false false some = absurd (cc)
 
 command_stays : (words : List Text) (ask : Asked) → old_words_in words ≡ Some ask → command_words_in words ≡ Some ask
-unfolding program.of_three program.of_five program.of_nine program.of_eleven program.office command_words_in
+unfolding program.of_three program.of_five program.of_nine program.of_eleven program.of_fifteen program.office command_words_in
 command_stays words ask is =
     let parts = faultless_parts (fault_of program.of_three words) (option_and_then (λ found. one_of_three found.0 found.1) (subcommand_of program.of_three words)) ask is in
     let found = found_parts (subcommand_of program.of_three words) ask parts.1 in

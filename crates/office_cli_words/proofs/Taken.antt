@@ -1,5 +1,5 @@
 -- Words in which clap finds no fault ask for something.
-use Rattle.std.proofs.Common.{◌≡◌, ℕ, Bool, true, false, not, ◌&&◌, codes, cond, List, [], ◌∷◌, Option, Some, None, refl, sym, subst, arith}
+use Rattle.std.proofs.Common.{◌≡◌, ℕ, Bool, true, false, not, ◌&&◌, codes, cond, List, [], ◌∷◌, Option, Some, None, refl, sym, subst, ◌∙◌, arith}
 use Rattle.std.specs.Prelude.{⊤, find, is_some, option_and_then, option_map, unwrap_or}
 use Rattle.std.specs.List.{list_any}
 use Rattle.std.specs.Option.{option_map_or}
@@ -11,7 +11,7 @@ use Rattle.clap.specs.Kinds.{check_kinds, or_else}
 use Rattle.clap.specs.Simple.{App, Shape, argument_words, built, built_leaf, entered, filled, help_rule, inherited, label_of, names_of, rows_at, subcommand_of, with_index}
 use Rattle.clap.specs.Walk.{Row, Rule, Text, all_of, answers_to, finished, first_of, has_row, nothing_held, rows_after, settled, stop_after, walk, walk_from, with_default}
 use Rattle.office_cli_words.specs.Program as program
-use Rattle.office_cli_words.specs.Asked.{Asked, ToCheck, ToExport, ToLint, ToPropose, ToReplay, ToTellHints, ToTellMail, ToTellOrder, ToTellRuns, ToTellWaiting, ToTellWhy, ToTry, asked_by, command_in, compare_of, is_set, number_in, number_of, of_store, of_values, report_from, serve_of, stored_in}
+use Rattle.office_cli_words.specs.Asked.{Asked, ToCheck, ToExport, ToLint, ToPropose, ToReplay, ToTellBreaks, ToTellHints, ToTellMail, ToTellOrder, ToTellRuns, ToTellWaiting, ToTellWhy, ToTry, asked_by, command_in, compare_of, is_set, number_in, number_of, of_store, of_values, report_from, serve_of, stored_in}
 use Rattle.office_cli_words.proofs.Walks.{EachKeeps, never_none, no_kinds}
 use Rattle.office_cli_words.proofs.Values.{Good, HasFirst, fits, default_there, given_all, given_first, keeps_flag, keeps_help, keeps_value, keeps_values, level_leaves, no_default, numbers_accepted, row_first}
 
@@ -33,7 +33,7 @@ compare_read (Some v1) None v2 a b c = absurd b
 compare_read (Some v1) (Some op) None a b c = absurd c
 
 compare_reads : Reads (leaf program.compare)
-unfolding program.of_three program.of_five program.of_nine program.of_eleven program.office
+unfolding program.of_three program.of_five program.of_nine program.of_eleven program.of_fifteen program.office
 compare_reads words none =
     let rows = rows_after (leaf program.compare).rules [] words in
     let keeps : EachKeeps Good false (leaf program.compare).rules = (
@@ -55,7 +55,7 @@ replay_read (Some conf) rows a = refl
 replay_read None rows a = absurd a
 
 replay_reads : Reads (leaf program.replay)
-unfolding program.of_three program.of_five program.of_nine program.of_eleven program.office
+unfolding program.of_three program.of_five program.of_nine program.of_eleven program.of_fifteen program.office
 replay_reads words none =
     let rows = rows_after (leaf program.replay).rules [] words in
     let keeps : EachKeeps Good false (leaf program.replay).rules = (
@@ -73,7 +73,7 @@ waiting_read (Some conf) rows a = refl
 waiting_read None rows a = absurd a
 
 waiting_reads : Reads (leaf program.waiting)
-unfolding program.of_three program.of_five program.of_nine program.of_eleven program.office
+unfolding program.of_three program.of_five program.of_nine program.of_eleven program.of_fifteen program.office
 waiting_reads words none =
     let rows = rows_after (leaf program.waiting).rules [] words in
     let keeps : EachKeeps Good false (leaf program.waiting).rules = (
@@ -94,7 +94,7 @@ report_read (Some conf) None run word a b c = absurd b
 report_read (Some conf) (Some db) None word a b c = absurd c
 
 report_reads : Reads (leaf program.report)
-unfolding program.of_three program.of_five program.of_nine program.of_eleven program.office
+unfolding program.of_three program.of_five program.of_nine program.of_eleven program.of_fifteen program.office
 report_reads words none =
     let rows = rows_after (leaf program.report).rules [] words in
     let keeps : EachKeeps Good false (leaf program.report).rules = (
@@ -122,7 +122,7 @@ store_read ask (Some conf) None a b = absurd b
 -- a command that takes a setup and a store, whatever its name
 looking_reads : (name : Text) (ask : Text → Text → Asked) (words : List Text) → level_fault (leaf (program.looking name)) [] nothing_held words false [] ≡ []
     → is_some (stored_in ask (rows_after (leaf (program.looking name)).rules [] words)) ≡ true
-unfolding program.of_three program.of_five program.of_nine program.of_eleven program.office
+unfolding program.of_three program.of_five program.of_nine program.of_eleven program.of_fifteen program.office
 looking_reads name ask words none =
     let rows = rows_after (leaf (program.looking name)).rules [] words in
     let keeps : EachKeeps Good false (leaf (program.looking name)).rules = (
@@ -136,19 +136,19 @@ looking_reads name ask words none =
     store_read ask (first_of (codes "conf") rows) (first_of (codes "db") rows) (given_first (codes "conf") rows left.0 (left.1.0 refl)) (given_first (codes "db") rows left.0 (left.1.1.0 refl))
 
 runs_reads : Reads (leaf program.runs)
-unfolding program.of_three program.of_five program.of_nine program.of_eleven program.office
+unfolding program.of_three program.of_five program.of_nine program.of_eleven program.of_fifteen program.office
 runs_reads words none = looking_reads (codes "runs") ToTellRuns words none
 
 export_reads : Reads (leaf program.export)
-unfolding program.of_three program.of_five program.of_nine program.of_eleven program.office
+unfolding program.of_three program.of_five program.of_nine program.of_eleven program.of_fifteen program.office
 export_reads words none = looking_reads (codes "export") ToExport words none
 
 check_reads : Reads (leaf program.check)
-unfolding program.of_three program.of_five program.of_nine program.of_eleven program.office
+unfolding program.of_three program.of_five program.of_nine program.of_eleven program.of_fifteen program.office
 check_reads words none = looking_reads (codes "check") ToCheck words none
 
 mail_reads : Reads (leaf program.mail)
-unfolding program.of_three program.of_five program.of_nine program.of_eleven program.office
+unfolding program.of_three program.of_five program.of_nine program.of_eleven program.of_fifteen program.office
 mail_reads words none =
     let rows = rows_after (leaf program.mail).rules [] words in
     let keeps : EachKeeps Good false (leaf program.mail).rules = (
@@ -171,7 +171,7 @@ values_read ask None values a b = absurd a
 values_read ask (Some conf) None a b = absurd (cc)
 
 why_reads : Reads (leaf program.why)
-unfolding program.of_three program.of_five program.of_nine program.of_eleven program.office
+unfolding program.of_three program.of_five program.of_nine program.of_eleven program.of_fifteen program.office
 why_reads words none =
     let rows = rows_after (leaf program.why).rules [] words in
     let run_rule = ready 2 program.run in
@@ -196,7 +196,7 @@ why_reads words none =
     (given_first (codes "conf") rows left.0 (left.1.1.0 refl)) (given_all (codes "SOURCE") rows (left.1.0 refl))
 
 try_reads : Reads (leaf program.tries)
-unfolding program.of_three program.of_five program.of_nine program.of_eleven program.office
+unfolding program.of_three program.of_five program.of_nine program.of_eleven program.of_fifteen program.office
 try_reads words none =
     let rows = rows_after (leaf program.tries).rules [] words in
     let keeps : EachKeeps Good false (leaf program.tries).rules = (
@@ -224,7 +224,7 @@ lint_read (Some conf) a = refl
 lint_read None a = absurd a
 
 lint_reads : Reads (leaf program.lint)
-unfolding program.of_three program.of_five program.of_nine program.of_eleven program.office
+unfolding program.of_three program.of_five program.of_nine program.of_eleven program.of_fifteen program.office
 lint_reads words none =
     let rows = rows_after (leaf program.lint).rules [] words in
     let keeps : EachKeeps Good false (leaf program.lint).rules = (
@@ -240,7 +240,7 @@ order_read (Some day) conf db a b c = store_read (ToTellOrder day) conf db b c
 order_read None conf db a b c = absurd a
 
 order_reads : Reads (leaf program.order)
-unfolding program.of_three program.of_five program.of_nine program.of_eleven program.office
+unfolding program.of_three program.of_five program.of_nine program.of_eleven program.of_fifteen program.office
 order_reads words none =
     let rows = rows_after (leaf program.order).rules [] words in
     let keeps : EachKeeps Good false (leaf program.order).rules = (
@@ -258,7 +258,7 @@ order_reads words none =
     (given_first (codes "day") rows left.0 (left.1.0 refl)) (given_first (codes "conf") rows left.0 (left.1.1.0 refl)) (given_first (codes "db") rows left.0 (left.1.1.1.0 refl))
 
 hints_reads : Reads (leaf program.hints)
-unfolding program.of_three program.of_five program.of_nine program.of_eleven program.office
+unfolding program.of_three program.of_five program.of_nine program.of_eleven program.of_fifteen program.office
 hints_reads words none = looking_reads (codes "hints") ToTellHints words none
 
 propose_read : (conf : Option Text) (rows : List Row) → HasFirst (codes "conf") conf
@@ -267,7 +267,7 @@ propose_read (Some conf) rows a = refl
 propose_read None rows a = absurd a
 
 propose_reads : Reads (leaf program.propose)
-unfolding program.of_three program.of_five program.of_nine program.of_eleven program.office
+unfolding program.of_three program.of_five program.of_nine program.of_eleven program.of_fifteen program.office
 propose_reads words none =
     let rows = rows_after (leaf program.propose).rules [] words in
     let keeps : EachKeeps Good false (leaf program.propose).rules = (
@@ -289,6 +289,28 @@ propose_reads words none =
     let left = level_leaves (leaf program.propose) words keeps (refl, (refl, (refl, (refl, (refl, (refl, tt)))))) none in
     propose_read (first_of (codes "conf") rows) rows (given_first (codes "conf") rows left.0 (left.1.1.0 refl))
 
+breaks_reads : Reads (leaf program.breaks)
+unfolding program.of_three program.of_five program.of_nine program.of_eleven program.of_fifteen program.office
+breaks_reads words none =
+    let rows = rows_after (leaf program.breaks).rules [] words in
+    let run_rule = ready 2 program.run in
+    let keeps : EachKeeps Good false (leaf program.breaks).rules = (
+      keeps_values false (ready 1 (program.places (codes "CHANGE"))) refl refl refl (λ values fine. refl),
+      (
+        keeps_value false (ready 2 program.conf) refl refl refl (λ values fine. refl),
+        (
+          keeps_value false (ready 2 program.db) refl refl refl (λ values fine. refl),
+          (
+            keeps_value false run_rule refl refl refl (λ values fine. numbers_accepted run_rule 1 999_999_999 values (omega arith) refl fine),
+            (keeps_help false (ready 2 help_rule) refl, tt),
+          ),
+        ),
+      ),
+    ) in
+    let left = level_leaves (leaf program.breaks) words keeps (refl, (refl, (refl, (refl, (refl, tt))))) none in
+    values_read (λ conf changes. ToTellBreaks conf (first_of (codes "db") rows) (number_of (codes "run") rows) changes) (first_of (codes "conf") rows) (all_of (codes "CHANGE") rows)
+    (given_first (codes "conf") rows left.0 (left.1.1.0 refl)) (given_all (codes "CHANGE") rows (left.1.0 refl))
+
 -- a first value of a number is one
 number_there : (id : Text) (o : Option Text) → (fits_number : (v : Text) → fits id (v ∷ []) ≡ true → is_some (number_in v) ≡ true) → HasFirst id o → is_some (option_and_then number_in o) ≡ true
 number_there id None number has = absurd has
@@ -298,19 +320,19 @@ text_there : (id : Text) (o : Option Text) → HasFirst id o → is_some o ≡ t
 text_there id None has = absurd has
 text_there id (Some v) has = refl
 
-serve_some : (conf : Option Text) (port : Option ℕ) (db : Option Text) (connections : Option ℕ) → is_some conf ≡ true → is_some port ≡ true → is_some connections ≡ true
-    → is_some (serve_of conf port db connections) ≡ true
-serve_some (Some conf) (Some port) db (Some connections) a b c = refl
-serve_some None port db connections a b c = absurd (cc)
-serve_some (Some conf) None db connections a b c = absurd (cc)
-serve_some (Some conf) (Some port) db None a b c = absurd (cc)
+serve_some : (conf : Option Text) (port : Option ℕ) (db : Option Text) (connections : Option ℕ) (hosts : List Text) → is_some conf ≡ true → is_some port ≡ true → is_some connections ≡ true
+    → is_some (serve_of conf port db connections hosts) ≡ true
+serve_some (Some conf) (Some port) db (Some connections) hosts a b c = refl
+serve_some None port db connections hosts a b c = absurd (cc)
+serve_some (Some conf) None db connections hosts a b c = absurd (cc)
+serve_some (Some conf) (Some port) db None hosts a b c = absurd (cc)
 
 reads_one : (b : Bool) → (b && true) ≡ true → b ≡ true
 reads_one true h = refl
 reads_one false h = h
 
 serve_reads : Reads (leaf program.serve)
-unfolding program.of_three program.of_five program.of_nine program.of_eleven program.office
+unfolding program.of_three program.of_five program.of_nine program.of_eleven program.of_fifteen program.office
 serve_reads words none =
     let rows = rows_after (leaf program.serve).rules [] words in
     let port_rule = ready 1 program.port in
@@ -323,21 +345,27 @@ serve_reads words none =
           keeps_value false (ready 1 program.db) refl refl refl (λ values fine. refl),
           (
             keeps_value false connections_rule refl refl refl (λ values fine. numbers_accepted connections_rule 0 1_000_000 values (omega arith) refl fine),
-            (keeps_help false (ready 1 help_rule) refl, tt),
+            (
+              keeps_values false (ready 1 program.host) refl refl refl (λ values fine. refl),
+              (keeps_help false (ready 1 help_rule) refl, tt),
+            ),
           ),
         ),
       ),
     ) in
-    let left = level_leaves (leaf program.serve) words keeps (refl, (refl, (refl, (refl, (refl, tt))))) none in
+    let left = level_leaves (leaf program.serve) words keeps (refl, (refl, (refl, (refl, (refl, (refl, tt)))))) none in
     let conf = text_there (codes "conf") (first_of (codes "conf") rows) (given_first (codes "conf") rows left.0 (left.1.0 refl)) in
     let port = number_there (codes "port") (first_of (codes "port") rows) (λ v h. reads_one (is_some (number_in v)) h) (given_first (codes "port") rows left.0 (left.1.1.0 refl)) in
     let settled_first = (settled (leaf program.serve).rules (walk (leaf program.serve).rules [] nothing_held words).held).rows in
     let before = with_default (with_default (with_default settled_first (ready 1 program.conf)) port_rule) (ready 1 program.db) in
     let after = with_default before connections_rule in
-    let there : has_row (codes "connections") (with_default after (ready 1 help_rule)) ≡ true =
-    subst (λ (r : List Row). has_row (codes "connections") r ≡ true) (sym (no_default after (ready 1 help_rule) refl)) (default_there before connections_rule (codes "1000000") refl) in
+    let hosted : with_default after (ready 1 program.host) ≡ after = no_default after (ready 1 program.host) refl in
+    let there : has_row (codes "connections") (with_default (with_default after (ready 1 program.host)) (ready 1 help_rule)) ≡ true =
+    subst (λ (r : List Row). has_row (codes "connections") r ≡ true) (sym (no_default (with_default after (ready 1 program.host)) (ready 1 help_rule) refl ∙ hosted))
+    (default_there before connections_rule (codes "1000000") refl) in
     let connections = number_there (codes "connections") (first_of (codes "connections") rows) (λ v h. reads_one (is_some (number_in v)) h) (row_first (codes "connections") rows left.0 there) in
-    serve_some (first_of (codes "conf") rows) (option_and_then number_in (first_of (codes "port") rows)) (first_of (codes "db") rows) (option_and_then number_in (first_of (codes "connections") rows)) conf port connections
+    serve_some (first_of (codes "conf") rows) (option_and_then number_in (first_of (codes "port") rows)) (first_of (codes "db") rows) (option_and_then number_in (first_of (codes "connections") rows))
+    (unwrap_or (all_of (codes "host") rows) []) conf port connections
 
 -- ---- the command that the words name
 
@@ -392,6 +420,6 @@ command_reads a words required each none =
 
 -- words in which clap finds no fault ask for something
 pub taken_words_ask : (words : List Text) → fault_of program.office words ≡ [] → is_some (asked_by (subcommand_of program.office words)) ≡ true
-unfolding program.of_three program.of_five program.of_nine program.of_eleven program.office
+unfolding program.of_three program.of_five program.of_nine program.of_eleven program.of_fifteen program.office
 taken_words_ask words none =
-    command_reads (built program.office) (argument_words program.office words) refl (compare_reads, (replay_reads, (serve_reads, (waiting_reads, (report_reads, (runs_reads, (mail_reads, (export_reads, (check_reads, (why_reads, (try_reads, (lint_reads, (order_reads, (hints_reads, (propose_reads, tt))))))))))))))) none
+    command_reads (built program.office) (argument_words program.office words) refl (compare_reads, (replay_reads, (serve_reads, (waiting_reads, (report_reads, (runs_reads, (mail_reads, (export_reads, (check_reads, (why_reads, (try_reads, (lint_reads, (order_reads, (hints_reads, (propose_reads, (breaks_reads, tt)))))))))))))))) none

@@ -11,20 +11,20 @@ use Rattle.office_cli_words.specs.Program.{office}
 use Rattle.office_cli_words.specs.declared.Words.{Words}
 use Rattle.office_cli_words.specs.declared.WordsFault.{WordsFault}
 use Rattle.office_cli_words.specs.declared.WordsFault.TheVariants.{NoMemory, Usage}
-use Rattle.office_cli_words.specs.declared.Words.TheVariants.{Compare, Replay, Serve, Waiting, Report, UnknownReport, Runs, Mail, Export, Check, Why, Try, Lint, Order, Hints, Propose, Version}
+use Rattle.office_cli_words.specs.declared.Words.TheVariants.{Compare, Replay, Serve, Waiting, Report, UnknownReport, Runs, Mail, Export, Check, Why, Try, Lint, Order, Hints, Propose, Breaks, Version}
 use Rattle.office_cli_words.specs.declared.reports.Report.{Report as ReportName}
 use Rattle.office_cli_words.specs.declared.reports.Report.TheVariants.{Testing, Unstable, Excuses, Update}
 
--- what is asked: to compare two versions by an operator; to replay a bag for the setup in a file, over a store in a
--- file or in memory; to serve that many connections for it on a port; to print what a run waits for, a report, or one
--- that isn't known, the finished runs, or the kept mail, by counts or message by message; to export it; to check the
--- store; to print what a run said of sources, or of hints by their numbers; to try hints on a day, over the covered
--- mail or over all; to print which messages of a bag are refused, the next order on a day, the hints in force, or hints
--- that move groups or free sources, on the same terms as a trial; or the version
+-- what is asked: to compare two versions by an operator; to replay a bag for the setup in a file, over a store in a file or in memory;
+-- to serve so many connections for it on a port, as these hosts; to tell what a run waits for; to tell a report, or one that isn't known; to tell the
+-- finished runs; to tell the kept mail, by counts or message by message; to export it; to check the store; to tell what a run said of
+-- sources, or of hints by their numbers; to try hints on a day, over the covered mail or over all; to tell which messages of a bag
+-- are refused; to tell the next order on a day, or the hints in force; to tell hints that move groups, or free sources, on the same
+-- terms as a trial; to tell what changes of testing break; or the version
 pub data Asked : Type 0 where
   ToCompare : Text → Text → Text → Asked
   ToReplay : Text → Option Text → Asked
-  ToServe : Text → ℕ → Option Text → ℕ → Asked
+  ToServe : Text → ℕ → Option Text → ℕ → List Text → Asked
   ToTellWaiting : Text → Option Text → Asked
   ToReport : Text → Text → ReportName → Asked
   ToRefuseReport : Text → Option Text → Asked
@@ -38,6 +38,7 @@ pub data Asked : Type 0 where
   ToTellOrder : Text → Text → Text → Asked
   ToTellHints : Text → Text → Asked
   ToPropose : Bool → Text → Option Text → Option Text → List Text → Asked
+  ToTellBreaks : Text → Option Text → Option ℕ → List Text → Asked
   ToTellVersion : Asked
 
 -- what the words of a command added to the first three ask for
@@ -55,12 +56,13 @@ added_asked (Lint conf) = ToLint conf.now
 added_asked (Order day conf db) = ToTellOrder day.now conf.now db.now
 added_asked (Hints conf db) = ToTellHints conf.now db.now
 added_asked (Propose conf db day all sources) = ToPropose all conf.now (option_map (λ text. text.now) db) (option_map (λ text. text.now) day) (map (λ text. text.now) sources.items)
+added_asked (Breaks conf db run changes) = ToTellBreaks conf.now (option_map (λ text. text.now) db) run (map (λ text. text.now) changes.items)
 added_asked _ = ToTellVersion
 
 abbrev pub asked : Words → Asked
 asked (Compare v1 op v2) = ToCompare v1.now op.now v2.now
 asked (Replay conf db) = ToReplay conf.now (option_map (λ text. text.now) db)
-asked (Serve conf port db connections) = ToServe conf.now port (option_map (λ text. text.now) db) connections
+asked (Serve conf port db connections hosts) = ToServe conf.now port (option_map (λ text. text.now) db) connections (map (λ text. text.now) hosts.items)
 asked added = added_asked added
 
 -- decimal digits, of a number of 32 bits
@@ -103,9 +105,9 @@ abbrev pub compare_of : Option Text → Option Text → Option Text → Option A
 compare_of (Some v1) (Some op) (Some v2) = Some (ToCompare v1 op v2)
 compare_of _ _ _ = None
 
-abbrev pub serve_of : Option Text → Option ℕ → Option Text → Option ℕ → Option Asked
-serve_of (Some conf) (Some port) db (Some connections) = Some (ToServe conf port db connections)
-serve_of _ _ _ _ = None
+abbrev pub serve_of : Option Text → Option ℕ → Option Text → Option ℕ → List Text → Option Asked
+serve_of (Some conf) (Some port) db (Some connections) hosts = Some (ToServe conf port db connections hosts)
+serve_of _ _ _ _ _ = None
 
 abbrev pub compare_in : List Row → Option Asked
 compare_in rows = compare_of (first_of (codes "V1") rows) (first_of (codes "OP") rows) (first_of (codes "V2") rows)
@@ -114,7 +116,8 @@ abbrev pub replay_in : List Row → Option Asked
 replay_in rows = option_map (λ conf. ToReplay conf (first_of (codes "db") rows)) (first_of (codes "conf") rows)
 
 abbrev pub serve_in : List Row → Option Asked
-serve_in rows = serve_of (first_of (codes "conf") rows) (number_of (codes "port") rows) (first_of (codes "db") rows) (number_of (codes "connections") rows)
+serve_in rows =
+    serve_of (first_of (codes "conf") rows) (number_of (codes "port") rows) (first_of (codes "db") rows) (number_of (codes "connections") rows) (unwrap_or (all_of (codes "host") rows) [])
 
 abbrev pub waiting_in : List Row → Option Asked
 waiting_in rows = option_map (λ conf. ToTellWaiting conf (first_of (codes "db") rows)) (first_of (codes "conf") rows)
@@ -167,6 +170,9 @@ propose_in rows =
     option_map (λ (conf : Text). ToPropose (is_set (codes "all") rows) conf (first_of (codes "db") rows) (first_of (codes "day") rows) (unwrap_or (all_of (codes "SOURCE") rows) []))
     (first_of (codes "conf") rows)
 
+abbrev pub breaks_in : List Row → Option Asked
+breaks_in rows = of_values (λ conf changes. ToTellBreaks conf (first_of (codes "db") rows) (number_of (codes "run") rows) changes) (first_of (codes "conf") rows) (all_of (codes "CHANGE") rows)
+
 abbrev pub command_in : Text → List Row → Option Asked
 command_in name rows =
     if bytes_eq name (codes "compare") then compare_in rows
@@ -184,6 +190,7 @@ command_in name rows =
     else if bytes_eq name (codes "order") then order_in rows
     else if bytes_eq name (codes "hints") then stored_in ToTellHints rows
     else if bytes_eq name (codes "propose") then propose_in rows
+    else if bytes_eq name (codes "breaks") then breaks_in rows
     else None
 
 -- by the command that the words name and what they give it

@@ -46,9 +46,13 @@ compare = with_rule (with_rule (with_rule (new_app (codes "compare")) (place (co
 abbrev pub replay : App
 replay = with_rule (with_rule (new_app (codes "replay")) conf) db
 
--- `serve --conf F --port N [--db F] [--connections C]`
+-- `--host NAME`, which may be given several times
+abbrev pub host : Rule
+host = record (option (codes "host")) { action = Some Append }
+
+-- `serve --conf F --port N [--db F] [--connections C] [--host NAME]..`
 abbrev pub serve : App
-serve = with_rule (with_rule (with_rule (with_rule (new_app (codes "serve")) conf) port) db) connections
+serve = with_rule (with_rule (with_rule (with_rule (with_rule (new_app (codes "serve")) conf) port) db) connections) host
 
 -- `waiting --conf F [--db F]`
 abbrev pub waiting : App
@@ -127,7 +131,11 @@ sources = record (new_rule (codes "SOURCE")) { action = Some Append }
 abbrev pub propose : App
 propose = with_rule (with_rule (with_rule (with_rule (with_rule (new_app (codes "propose")) sources) conf) db) day) all
 
--- `office COMMAND ..`: a command is required, and no words at all are a call for help
+-- `breaks CHANGE.. --conf F [--db F] [--run K]`
+abbrev pub breaks : App
+breaks = with_rule (with_rule (with_rule (with_rule (new_app (codes "breaks")) (places (codes "CHANGE"))) conf) db) run
+
+-- `office COMMAND ..`: a command has to be named, and no words at all are a call for help
 abbrev pub bare : App
 bare = record (new_app (codes "office")) {
   top = record (new_app (codes "office")).top {
@@ -153,6 +161,10 @@ of_nine = with_subcommand (with_subcommand (with_subcommand (with_subcommand of_
 unfoldable pub of_eleven : App
 of_eleven = with_subcommand (with_subcommand of_nine why.top) tries.top
 
--- the program's command, which also prints a bag's refused messages, the next order, hints in force, and group hints
+-- the command that also tells which messages of a bag are refused, the next order, the hints in force, and hints that move groups
+unfoldable pub of_fifteen : App
+of_fifteen = with_subcommand (with_subcommand (with_subcommand (with_subcommand of_eleven lint.top) order.top) hints.top) propose.top
+
+-- the program's command, which also tells what changes break
 unfoldable pub office : App
-office = with_subcommand (with_subcommand (with_subcommand (with_subcommand of_eleven lint.top) order.top) hints.top) propose.top
+office = with_subcommand of_fifteen breaks.top

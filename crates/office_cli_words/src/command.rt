@@ -14,7 +14,7 @@ const AFTER: &str =
     "office --version tells the version. Each command has its own help: office compare --help, office replay --help,
 office serve --help, office waiting --help, office report --help, office runs --help, office mail --help,
 office export --help, office check --help, office why --help, office try --help, office lint --help,
-office order --help, office hints --help, office propose --help.
+office order --help, office hints --help, office propose --help, office breaks --help.
 
 Exit status: 0 done, or the comparison is true; 1 the comparison is false, an ordered run waits for mail, the run of a
 report isn't finished, the store isn't what its mail gives, unstable doesn't have a source, hints change nothing, a
@@ -49,6 +49,9 @@ const AFTER_SERVE: &str = "Example: office serve --conf examples/setup.conf --po
 
 Prints 'listening N' once it takes connections, and serves one after the other. Without --db the mail is kept
 in memory and is gone at the end.";
+
+const HOST: &str =
+    "A name of this service, besides 127.0.0.1, [::1] and localhost: other hosts are refused";
 
 const WAITING: &str = "Tells what the first run that isn't ready waits for: its order, or mail";
 
@@ -180,6 +183,20 @@ Prints easy hints, one in a line, in the order in which they are to be numbered:
 group. With a SOURCE the hints that free it; standard error tells of each source that has none. Nothing is kept.
 Status 1: there is no hint, or one of the sources isn't moved; 3: no run is finished, and no day is named.";
 
+const BREAKS: &str = "Tells which packages of testing would break if sources moved or went";
+
+const AFTER_BREAKS: &str =
+    "Examples: office breaks libgreet --conf examples/setup.conf --db store.db
+          office breaks 'remove libgreet/1.2-1' --run 1 --conf examples/setup.conf < examples/archive.bag
+
+For each CHANGE a line breaks RUN CHANGE, then for each architecture broken ARCH COUNT and the first hundred packages
+that would no longer be installable, each with what unstable has in its place; and if sources come in, what shows it of
+the first package. Nothing is kept. Status 1: the run isn't finished, or a line unknown tells what can't change; 3: a
+CHANGE is no name of a source, and no hint easy or remove.";
+
+const CHANGE: &str =
+    "The name of a source that moves, or a hint: easy NAME/VERSION .. or remove NAME/VERSION ..";
+
 const FREED: &str = "The name of a source that is to move";
 
 const SETUP: &str =
@@ -257,7 +274,19 @@ fn connections_option<'a>(alloc: Global) -> Arg<'a>
         .default_value("1000000")
 }
 
-/// A required value, by its place.
+/// `--host NAME`, which may be given several times.
+fn host_option<'a>(alloc: Global) -> Arg<'a>
+    ensures rule { rule_of result ≡ program.host }
+    ensures local { result.global ≡ false }
+{
+    Arg::new(alloc, "host")
+        .long("host")
+        .value_name("NAME")
+        .help(HOST)
+        .action(ArgAction::Append)
+}
+
+/// A value that is needed, by its place.
 fn place<'a>(alloc: Global, id: &'a str, help: &'a str) -> Arg<'a>
     ensures rule { rule_of result ≡ program.place id.entry.now }
     ensures local { result.global ≡ false }
@@ -429,7 +458,7 @@ fn replay_command<'a>(alloc: Global) -> Result<Command<'a>, AllocError>
     with_arg(one, db_option(alloc, STORE))
 }
 
-/// `serve --conf SETUP --port PORT [--db FILE] [--connections COUNT]`.
+/// `serve --conf SETUP --port PORT [--db FILE] [--connections COUNT] [--host NAME]..`.
 fn serve_command<'a>(alloc: Global) -> Result<Command<'a>, AllocError>
     ensures { IfOk result (λ c. app_of c ≡ program.serve) }
 {
@@ -437,7 +466,8 @@ fn serve_command<'a>(alloc: Global) -> Result<Command<'a>, AllocError>
     let one = with_arg(bare, conf_option(alloc));
     let two = with_arg(one, port_option(alloc));
     let three = with_arg(two, db_option(alloc, STORE));
-    with_arg(three, connections_option(alloc))
+    let four = with_arg(three, connections_option(alloc));
+    with_arg(four, host_option(alloc))
 }
 
 /// `waiting --conf SETUP [--db FILE]`.
@@ -536,6 +566,17 @@ fn propose_command<'a>(alloc: Global) -> Result<Command<'a>, AllocError>
     with_arg(four, all_option(alloc))
 }
 
+/// `breaks CHANGE.. --conf SETUP [--db FILE] [--run RUN]`.
+fn breaks_command<'a>(alloc: Global) -> Result<Command<'a>, AllocError>
+    ensures { IfOk result (λ c. app_of c ≡ program.breaks) }
+{
+    let bare = named(alloc, "breaks", BREAKS, AFTER_BREAKS);
+    let one = with_arg(bare, places(alloc, "CHANGE", CHANGE));
+    let two = with_arg(one, conf_option(alloc));
+    let three = with_arg(two, db_option(alloc, LOOKED_AT));
+    with_arg(three, run_option(alloc))
+}
+
 /// The command without its subcommands.
 fn bare_command<'a>(alloc: Global) -> Command<'a>
     ensures { app_of result ≡ program.bare }
@@ -586,13 +627,20 @@ fn command_of_eleven<'a>(alloc: Global) -> Result<Command<'a>, AllocError>
     with_command(ten, try_command(alloc))
 }
 
-/// The program's command.
-pub(crate) fn office_command<'a>(alloc: Global) -> Result<Command<'a>, AllocError>
-    ensures { IfOk result (λ c. app_of c ≡ program.office) }
+/// The command that also tells which messages of a bag are refused, the next order and hints.
+fn command_of_fifteen<'a>(alloc: Global) -> Result<Command<'a>, AllocError>
+    ensures { IfOk result (λ c. app_of c ≡ program.of_fifteen) }
 {
     let twelve = with_command(command_of_eleven(alloc), lint_command(alloc));
     let thirteen = with_command(twelve, order_command(alloc));
     let hints = looking_command(alloc, "hints", HINTS, AFTER_HINTS);
     let fourteen = with_command(thirteen, hints);
     with_command(fourteen, propose_command(alloc))
+}
+
+/// The program's command.
+pub(crate) fn office_command<'a>(alloc: Global) -> Result<Command<'a>, AllocError>
+    ensures { IfOk result (λ c. app_of c ≡ program.office) }
+{
+    with_command(command_of_fifteen(alloc), breaks_command(alloc))
 }

@@ -2,7 +2,7 @@
 
 ghost use Rattle.std.specs.Prelude.{◌≡◌, map, option_map, IfOk, [], unwrap_or};
 ghost use Rattle.clap.specs.Words.{all_of, first_of, found_of, rows_of, subcommand_rows_of};
-ghost use Rattle.office_cli_words.specs.Asked.{ToCheck, ToExport, ToTellHints, ToTellRuns, asked, asked_by, command_in, compare_in, is_set, lint_in, mail_in, number_of, order_in, propose_in, replay_in, report_in, report_of, serve_in, asked_report, stored_in, try_in, waiting_in, why_in};
+ghost use Rattle.office_cli_words.specs.Asked.{ToCheck, ToExport, ToTellHints, ToTellRuns, asked, asked_by, breaks_in, command_in, compare_in, is_set, lint_in, mail_in, number_of, order_in, propose_in, replay_in, report_in, report_of, serve_in, asked_report, stored_in, try_in, waiting_in, why_in};
 
 use crate::Words;
 use crate::reports::{number_in, report_of};
@@ -78,18 +78,25 @@ fn replay_words<'a>(given: &ArgMatches<'a>) -> Option<Words<'a>>
     })
 }
 
-fn serve_words<'a>(given: &ArgMatches<'a>) -> Option<Words<'a>>
-    ensures { option_map asked result ≡ serve_in (rows_of (found_of given.now)) }
+fn serve_words<'a>(alloc: Global, given: &ArgMatches<'a>) -> Result<Option<Words<'a>>, AllocError>
+    ensures { IfOk result (λ words. option_map asked words ≡ serve_in (rows_of (found_of given.now))) }
 {
-    let conf = text_of(given, "conf")?;
-    let port = number_of(given, "port")?;
-    let connections = number_of(given, "connections")?;
-    Some(Words::Serve {
+    let Some(conf) = text_of(given, "conf") else {
+        return Ok(None);
+    };
+    let Some(port) = number_of(given, "port") else {
+        return Ok(None);
+    };
+    let Some(connections) = number_of(given, "connections") else {
+        return Ok(None);
+    };
+    Ok(Some(Words::Serve {
         conf,
         port,
         db: text_of(given, "db"),
         connections,
-    })
+        hosts: listed_texts(alloc, given, "host")?,
+    }))
 }
 
 fn waiting_words<'a>(given: &ArgMatches<'a>) -> Option<Words<'a>>
@@ -246,6 +253,23 @@ fn propose_words<'a>(alloc: Global, given: &ArgMatches<'a>) -> Result<Option<Wor
     }))
 }
 
+fn breaks_words<'a>(alloc: Global, given: &ArgMatches<'a>) -> Result<Option<Words<'a>>, AllocError>
+    ensures { IfOk result (λ words. option_map asked words ≡ breaks_in (rows_of (found_of given.now))) }
+{
+    let Some(conf) = text_of(given, "conf") else {
+        return Ok(None);
+    };
+    match texts_of(alloc, given, "CHANGE")? {
+        Some(changes) => Ok(Some(Words::Breaks {
+            conf,
+            db: text_of(given, "db"),
+            run: number_of(given, "run"),
+            changes,
+        })),
+        None => Ok(None),
+    }
+}
+
 fn command_words<'a>(
     alloc: Global,
     name: &str,
@@ -256,7 +280,7 @@ fn command_words<'a>(
     match name {
         "compare" => Ok(compare_words(given)),
         "replay" => Ok(replay_words(given)),
-        "serve" => Ok(serve_words(given)),
+        "serve" => serve_words(alloc, given),
         "waiting" => Ok(waiting_words(given)),
         "report" => Ok(report_words(given)),
         "runs" => Ok(runs_words(given)),
@@ -269,6 +293,7 @@ fn command_words<'a>(
         "order" => Ok(order_words(given)),
         "hints" => Ok(hints_words(given)),
         "propose" => propose_words(alloc, given),
+        "breaks" => breaks_words(alloc, given),
         _ => Ok(None),
     }
 }

@@ -40,12 +40,14 @@ pub enum Words<'a> {
         conf: &'a str,
         db: Option<&'a str>,
     },
-    /// Serve that many connections on a port, for the setup in a file, over a store in a file or in memory.
+    /// Serve so many connections on a port, for the setup in a file, over a store in a file or in memory; if hosts are
+    /// named, for requests to these alone.
     Serve {
         conf: &'a str,
         port: u32,
         db: Option<&'a str>,
         connections: u32,
+        hosts: Vec<&'a str>,
     },
     /// Print what the first run that isn't ready waits for, for the setup in a file: over a store in a file, or over
     /// the bag on standard input.
@@ -127,7 +129,15 @@ pub enum Words<'a> {
         all: bool,
         sources: Vec<&'a str>,
     },
-    /// Print the program's version.
+    /// Tell which rows of testing each of these changes would break, where the last finished run left it or another one did,
+    /// for the setup in a file: over a store in a file, or over the bag on standard input.
+    Breaks {
+        conf: &'a str,
+        db: Option<&'a str>,
+        run: Option<u32>,
+        changes: Vec<&'a str>,
+    },
+    /// Tell the program's version.
     Version,
 }
 
@@ -194,13 +204,14 @@ fn read_command<'a>(alloc: Global, words: &'a [&'a str]) -> Result<Words<'a>, Wo
     }
 }
 
-/// What the words ask for, beginning with the program's name. `--version` alone asks for the version. All other words
-/// are read as clap reads them in the command `office` with its subcommands `compare V1 OP V2`, `replay --conf F [--db
-/// F]`, `serve --conf F --port N [--db F] [--connections C]`, `waiting --conf F [--db F]`, `report RUN [REPORT] --conf
-/// F --db F`, `runs --conf F --db F`, `mail --conf F --db F [--list]`, `export --conf F --db F`, `check --conf F --db
-/// F`, `why SOURCE.. --conf F [--db F] [--run K]`, `try HINT.. --conf F [--db F] [--day DAY] [--all]`, `lint --conf F`,
-/// `order --day DAY --conf F --db F`, `hints --conf F --db F` and `propose [SOURCE..] --conf F [--db F] [--day DAY]
-/// [--all]`. N is from 1 to 65,535, C from 0 to 1,000,000, which is its default, and K from 1 to 999,999,999.
+/// What the words ask for, the program's name being the first. `--version` alone asks for the version. All other words
+/// are read as clap reads them in the command `office` with its subcommands `compare V1 OP V2`, `replay --conf F
+/// [--db F]`, `serve --conf F --port N [--db F] [--connections C] [--host NAME]..`, `waiting --conf F [--db F]`, `report RUN [REPORT]
+/// --conf F --db F`, `runs --conf F --db F`, `mail --conf F --db F [--list]`, `export --conf F --db F`, `check --conf F
+/// --db F`, `why SOURCE.. --conf F [--db F] [--run K]`, `try HINT.. --conf F [--db F] [--day DAY] [--all]`, `lint --conf
+/// F`, `order --day DAY --conf F --db F`, `hints --conf F --db F`, `propose [SOURCE..] --conf F [--db F] [--day DAY]
+/// [--all]` and `breaks CHANGE.. --conf F [--db F] [--run K]`, where N is from 1 to 65,535, C from 0 to 1,000,000, which it
+/// is where it isn't given, and K from 1 to 999,999,999.
 ///
 /// Words are refused as `Usage` if clap finds a fault in them; a request for help counts as one.
 pub fn read_words<'a>(alloc: Global, words: &'a [&'a str]) -> Result<Words<'a>, WordsFault>

@@ -10,5 +10,7 @@ pub mod LawFacts
 pub mod MigratedFacts
 pub mod OfficeFacts
 pub mod OrderTexts
+pub mod RoleFacts
 pub mod RunFacts
+pub mod UnseenFacts
 pub mod UnbrokenFacts

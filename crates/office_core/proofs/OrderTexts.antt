@@ -23,22 +23,22 @@ use Rattle.office_mail.specs.Read.{read, paragraphs_say, message_of, has_fields_
 use Rattle.office_mail_setup.specs.Setup.{place_of_role, same_role}
 use Rattle.office_mail.specs.Runs.{runs, order_in_body}
 
-ok_same : {A E : Type 0} (a b : A) → ◌≡◌ {A = Result A E} (Ok a) (Ok b) → a ≡ b
+pub ok_same : {A E : Type 0} (a b : A) → ◌≡◌ {A = Result A E} (Ok a) (Ok b) → a ≡ b
 ok_same a b e = cc
 
-some_same : {A : Type 0} (a b : A) → Some a ≡ Some b → a ≡ b
+pub some_same : {A : Type 0} (a b : A) → Some a ≡ Some b → a ≡ b
 some_same a b e = cc
 
 -- what follows from a step that goes on
-then_ok : {A B E : Type 0} (P : Type 0) (r : Result A E) (f : A → Result B E) (b : B) → (r >>= f) ≡ Ok b → ((a : A) → r ≡ Ok a → f a ≡ Ok b → P) → P
+pub then_ok : {A B E : Type 0} (P : Type 0) (r : Result A E) (f : A → Result B E) (b : B) → (r >>= f) ≡ Ok b → ((a : A) → r ≡ Ok a → f a ≡ Ok b → P) → P
 then_ok P (Ok a) f b e go = go a refl e
 then_ok P (Err x) f b e go = absurd (cc)
 
-given_ok : {A E : Type 0} (o : Option A) (fault : E) (a : A) → given o fault ≡ Ok a → o ≡ Some a
+pub given_ok : {A E : Type 0} (o : Option A) (fault : E) (a : A) → given o fault ≡ Ok a → o ≡ Some a
 given_ok (Some x) fault a e = ap Some (ok_same x a e)
 given_ok None fault a e = absurd (cc)
 
-needs_ok : {E : Type 0} (b : Bool) (fault : E) (y : Bool) → needs b fault ≡ Ok y → b ≡ true
+pub needs_ok : {E : Type 0} (b : Bool) (fault : E) (y : Bool) → needs b fault ≡ Ok y → b ≡ true
 needs_ok true fault y e = refl
 needs_ok false fault y e = absurd (cc)
 

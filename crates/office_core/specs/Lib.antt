@@ -5,6 +5,7 @@ pub mod GatherSteps
 pub mod History
 pub mod Laws
 pub mod Migrated
+pub mod OneSender
 pub mod Preserves
 pub mod Together
 pub mod Unbroken

@@ -1,5 +1,5 @@
 //! What is true of every store, and of every office whatever mail comes and in whatever order.
-ghost use Rattle.std.specs.Prelude.{◌≡◌, ◌+◌, ◌-◌, ◌≤◌, ◌↔◌, ℕ, List, [], ◌∷◌, ◌++◌, true, length, Contains, Some, None};
+ghost use Rattle.std.specs.Prelude.{◌≡◌, ◌≢◌, ◌+◌, ◌-◌, ◌≤◌, ◌↔◌, ℕ, List, [], ◌∷◌, ◌++◌, true, length, Contains, Some, None};
 ghost use Rattle.std.specs.FinMap.{get};
 ghost use Rattle.office_mail.specs.Kept.{Kept, Within, kept_from};
 ghost use Rattle.office_mail.specs.Laws.{OneText, SameTexts};
@@ -7,15 +7,18 @@ ghost use Rattle.office_mail.specs.Lists.{Lists};
 ghost use Rattle.office_mail.specs.Runs.{IsReady, IsReadyCount, order_at};
 ghost use Rattle.office_mail.specs.Setup.{count_of};
 ghost use Rattle.office_mail.specs.declared.message.RunOrder.{RunOrder};
-ghost use Rattle.office_mail_setup.specs.declared.setup.Role.TheVariants.{Release};
+ghost use Rattle.office_mail_setup.specs.declared.setup.Role.{Role};
+ghost use Rattle.office_mail_setup.specs.declared.setup.Role.TheVariants.{Release, Runs};
 ghost use Rattle.office_store_keeper.specs.Content.{Content, item_from_one, no_content};
 ghost use Rattle.office_store_keeper.specs.LastDelays.{GetsLast};
+ghost use Rattle.office_store_keeper.specs.Provenance.{AreOwnTexts};
 ghost use Rattle.office_core_orders.specs.declared.waiting_lines.Lack.{Lack};
 ghost use Rattle.office_core.specs.Came.{AllCame, CameBeside};
 ghost use Rattle.office_core.specs.History.{Step, Looked, Settled, Leads, IsByRules, Agree, coming, is_settled, texts_in};
 ghost use Rattle.office_core.specs.Laws.{RunsStand, TookTexts};
 ghost use Rattle.office_core.specs.Migrated.{IsOfficeBefore};
-ghost use Rattle.office_core_facts.specs.Outcome.{outcome_of, reports_to};
+ghost use Rattle.office_core.specs.OneSender.{ButOf, DifferByRole, IsUnseen, role_at};
+ghost use Rattle.office_core_facts.specs.Outcome.{covered_items, outcome_of, reports_to};
 ghost use Rattle.office_core_facts.specs.State.{IsOffice, IsSound};
 ghost use Rattle.office_core_orders.specs.Waiting.{AreLacks};
 
@@ -75,8 +78,22 @@ pub fn runs_stay()
     ensures office { (setup : Lists) (old new : Content) → IsOffice setup old → IsOffice setup new → Within old.kept new.kept → length old.reports ≤ length new.reports → RunsStand old new }
 {}
 
-/// An office of schema 1 holds what an office leaves, once it has the row of the last delays covered by the finished
-/// runs: its rows represent all covered mail.
+/// What one sender can do. Mail of it that a run doesn't cover changes nothing of the run: neither whether it is ready, nor
+/// the reports and the testing of the runs up to it.
+pub fn unseen()
+    ensures ready { (setup : Lists) (sender k : ℕ) (a b : Kept) → IsUnseen setup sender k a b → IsReady setup a k ↔ IsReady setup b k }
+    ensures outcome { (setup : Lists) (sender k : ℕ) (a b : Kept) → IsUnseen setup sender k a b → outcome_of setup a k ≡ outcome_of setup b k }
+    ensures reports { (setup : Lists) (sender k : ℕ) (a b : Kept) → IsUnseen setup sender k a b → reports_to setup a k ≡ reports_to setup b k }
+{}
+
+/// Of a run that covers mail of it, one sender changes only what its role may say: no other role's uploads, drops, builds, bugs,
+/// hints, unhints or delays. All else can change by the sender of run orders alone.
+pub fn by_role()
+    ensures { (setup : Lists) (sender k : ℕ) (a b : Kept) (role : Role) → ButOf sender a b → AreOwnTexts setup a → AreOwnTexts setup b → role_at setup sender ≡ Some role → role ≢ Runs → DifferByRole role (covered_items setup a k) (covered_items setup b k) }
+{}
+
+/// What an office of schema 1 left, once it has the row of the last delays that the finished runs cover, is what an office
+/// leaves: its rows of facts are those of facts that stand for all covered mail.
 pub fn migrated_is_office()
     ensures { (setup : Lists) (old new : Content) → count_of Release setup.senders ≡ 1 → IsOfficeBefore setup old → GetsLast setup old new → IsOffice setup new }
 {}

@@ -18,6 +18,7 @@ ghost use Rattle.office_core_orders.specs.StaysTrusted.{StaysTrusted};
 ghost use Rattle.office_core_facts.specs.Outcome.{testing_after, testing_text};
 ghost use Rattle.office_core_facts.specs.State.{IsSound, KeepsFacts, state_of, answer_to, AnswersDelivery, reports_at};
 ghost use Rattle.office_core_orders.specs.Waiting.{Awaits, AwaitsSome};
+ghost use Rattle.office_core_breaks.specs.Told.{IsBreaks};
 ghost use Rattle.office_core_why.specs.Hints.{IsHintsText};
 ghost use Rattle.office_core_why.specs.UnstableText.{IsUnstableText};
 ghost use Rattle.office_core_why.specs.Why.{IsWhy};
@@ -33,6 +34,7 @@ use crate::runs::settle;
 use crate::texts::kept_testing_text;
 use crate::unbroken::unbroken_counts;
 use deb_control::Text;
+use office_core_breaks::{BreaksText, Question, breaks_text};
 use office_core_facts::covered::KnownFacts;
 use office_core_orders::ready::ready_count;
 use office_core_orders::waiting::waiting;
@@ -438,8 +440,28 @@ impl<K: Keeper> Office<K> {
         )
     }
 
-    /// The number up to which each sender's mail is kept without a gap, in the setup's order, 0 if number 1 isn't kept.
-    /// It fails only if memory runs out or the store fails.
+    /// Which rows a change would break where the last finished run left testing, and whether all that is asked for can change;
+    /// none where no run is finished. It fails for want of memory or of the store alone.
+    pub fn breaks_text(&mut self, question: &Question) -> Result<Option<BreaksText>, StoreFault>
+        ensures breaks { K.is_trusted self.new → IsSound K.Keeper self.old → IfOk result (IsBreaks (K.setup self.old) (K.content self.old).kept (state_of K.Keeper self.old).finished question.now) }
+        ensures same { K.is_trusted self.new → K.content self.new ≡ K.content self.old }
+        ensures setup { K.setup self.new ≡ K.setup self.old }
+        ensures sound { K.is_trusted self.new → IsSound K.Keeper self.old → IsSound K.Keeper self.new }
+        ensures before { K.is_trusted self.new → K.is_trusted self.old }
+        ensures lasts { StaysTrusted K.Keeper self.old self.new (is_ok result) }
+        ensures counted { Counted (K.refusals self.old) (K.refusals self.new) result }
+    {
+        breaks_text(
+            self.alloc,
+            &self.setup,
+            &mut self.keeper,
+            &mut self.known,
+            question,
+        )
+    }
+
+    /// Up to which number each sender's mail is kept without a gap, in the setup's order, 0 where number 1 isn't kept. It fails
+    /// for want of memory or of the store alone.
     pub fn unbroken(&mut self) -> Result<Vec<u32>, StoreFault>
         ensures unbroken { K.is_trusted self.new → IsSound K.Keeper self.old → IfOk result (λ unbroken. AreUnbroken (K.content self.old).kept (slice_index unbroken.items)) }
         ensures same { K.is_trusted self.new → K.content self.new ≡ K.content self.old }

@@ -21,7 +21,7 @@ use Rattle.office_core_check.specs.Comparing.{IsCompared, IsMade, IsReadAs, IsSh
 use Rattle.office_core_check.specs.Reading.{IsFront}
 use Rattle.office_core_check.specs.Whole.{AreOfSenders, IsDifference, IsFound, excuses_at, update_at}
 use Rattle.office_core_check.specs.declared.Checked.{Checked}
-use Rattle.office_core_check.specs.declared.Checked.TheVariants.{Whole, Differs}
+use Rattle.office_core_check.specs.declared.Checked.TheVariants.{Whole, Differs, Unread}
 use Rattle.office_core_check.specs.declared.Difference.{Difference}
 use Rattle.office_core_check.specs.declared.Difference.TheVariants.{Mail, RunMail, Excuses, Update, Testing, Facts, Tables}
 use Rattle.office_core_check.proofs.ComparedFacts.{kept_rows, same_from_one, same_sets}
@@ -100,7 +100,7 @@ module _ (legible : Type 0) where
 
   -- what is found of the tables where an office made anew is like the store
   pub tables_found : (setup : Lists) (c a : Content) (runs : ℕ) (found : Checked) → IsOffice setup a → length a.reports ≡ runs → length c.reports ≡ runs → IsFront c.kept (length setup.senders) 0 a.kept
-      → IsCompared c a runs None → IsReadAs (legible × (len c.kept ≡ len a.kept)) runs found → IsFound setup c legible found
+      → IsCompared c a runs None → IsReadAs (legible × (len c.kept ≡ len a.kept)) runs found → IsFound setup c legible legible found
   tables_found setup c a runs (Whole k) office one other front same it =
       (it.0 ∙ sym other, it.1.0, compared_whole setup c a runs office one other front same (front_senders setup c.kept a.kept front it.1.1))
   tables_found setup c a runs (Differs Tables) office one other front same it = λ are so. it (so, ap len (sym (front_all setup c.kept a.kept front are)))
@@ -110,6 +110,7 @@ module _ (legible : Type 0) where
   tables_found setup c a runs (Differs (Update run)) office one other front same it = absurd it
   tables_found setup c a runs (Differs Testing) office one other front same it = absurd it
   tables_found setup c a runs (Differs Facts) office one other front same it = absurd it
+  tables_found setup c a runs (Unread part) office one other front same it = absurd it
 
 none_of : {A : Type 0} (o : Option A) → is_some o ≡ false → o ≡ None
 none_of None e = refl
@@ -155,6 +156,7 @@ module _ (legible : Type 0) where
   no_difference setup c Tables so office h = h so
 
   -- so it is found whole
-  pub office_whole : (setup : Lists) (c : Content) (found : Checked) → legible → IsOffice setup c → IsFound setup c legible found → found ≡ Whole (length c.reports)
+  pub office_whole : (setup : Lists) (c : Content) (found : Checked) → legible → IsOffice setup c → IsFound setup c legible legible found → found ≡ Whole (length c.reports)
   office_whole setup c (Whole runs) so office h = ap Whole h.0
   office_whole setup c (Differs d) so office h = absurd (no_difference setup c d so office (h (office_senders setup c office)))
+  office_whole setup c (Unread part) so office h = absurd (h so office)

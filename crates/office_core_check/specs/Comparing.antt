@@ -14,7 +14,7 @@ use Rattle.office_core_check.specs.Reading.{IsFront}
 use Rattle.office_core_check.specs.Whole.{IsForeign, excuses_at, update_at}
 use Rattle.office_core_check.specs.declared.memory.Bounded.{Bounded}
 use Rattle.office_core_check.specs.declared.Checked.{Checked}
-use Rattle.office_core_check.specs.declared.Checked.TheVariants.{Whole, Differs}
+use Rattle.office_core_check.specs.declared.Checked.TheVariants.{Whole, Differs, Unread}
 use Rattle.office_core_check.specs.declared.Difference.{Difference}
 use Rattle.office_core_check.specs.declared.Difference.TheVariants.{Mail, RunMail, Excuses, Update, Testing, Facts, Tables}
 
@@ -91,3 +91,4 @@ abbrev pub IsReadAs : Type 0 → ℕ → Checked → Type 0
 IsReadAs both runs (Whole found) = (found ≡ runs) × both
 IsReadAs both runs (Differs Tables) = both → ⊥
 IsReadAs both runs (Differs _) = ⊥
+IsReadAs both runs (Unread part) = ⊥

@@ -1,15 +1,18 @@
--- What this office's check finds of a store: it is legible and holds what an office leaves, or where it doesn't.
-use Rattle.std.specs.Prelude.{◌≡◌, ◌≢◌, ℕ, ◌<◌, ◌≤◌, List, length, Option, Some, IsSome, option_map}
+-- What a check finds of a store: that it is legible and holds what an office leaves, or where it doesn't. That a store is checked is this office's own.
+use Rattle.std.specs.Prelude.{◌≡◌, ◌≢◌, ℕ, ◌<◌, ◌≤◌, Bool, true, false, List, length, Option, Some, IsSome, Result, Ok, Err, option_map}
 use Rattle.std.specs.FinMap.{get}
+use Rattle.office_mail.specs.Counts.{HasRisen}
 use Rattle.office_mail.specs.Kept.{Kept, Place, placed}
 use Rattle.office_mail.specs.Lists.{Lists}
 use Rattle.office_mail.specs.Runs.{IsReady}
 use Rattle.office_store_keeper.specs.Content.{Content, item_from_one}
+use Rattle.office_store_keeper.specs.declared.faults.KeepFault.{KeepFault}
+use Rattle.office_store_keeper.specs.declared.faults.KeepFault.TheVariants.{NoMemory, Store}
 use Rattle.office_store_keeper.specs.declared.values.Reports.{Reports}
 use Rattle.office_core_facts.specs.Outcome.{reports_of, testing_after}
 use Rattle.office_core_facts.specs.State.{IsOffice, KeepsFacts}
 use Rattle.office_core_check.specs.declared.Checked.{Checked}
-use Rattle.office_core_check.specs.declared.Checked.TheVariants.{Whole, Differs}
+use Rattle.office_core_check.specs.declared.Checked.TheVariants.{Whole, Differs, Unread}
 use Rattle.office_core_check.specs.declared.Difference.{Difference}
 use Rattle.office_core_check.specs.declared.Difference.TheVariants.{Mail, RunMail, Excuses, Update, Testing, Facts, Tables}
 
@@ -43,8 +46,23 @@ IsDifference setup content legible Testing = content.testing ≢ testing_after s
 IsDifference setup content legible Facts = KeepsFacts setup content → ⊥
 IsDifference setup content legible Tables = legible → ⊥
 
--- The finding on a store, legible or not. It is legible and holds what an office leaves; or there is a difference, if
--- its mail is of senders of the setup.
-abbrev pub IsFound : Lists → Content → Type 0 → Checked → Type 0
-IsFound setup content legible (Whole runs) = (runs ≡ length content.reports) × legible × IsOffice setup content
-IsFound setup content legible (Differs difference) = AreOfSenders setup content.kept → IsDifference setup content legible difference
+-- What is found of a store, which was legible before or not, and is after it or not: it is legible and holds what an office
+-- leaves; or there is a difference, where its mail is of senders of the setup; or a row doesn't read, as in no legible store
+-- that an office left.
+abbrev pub IsFound : Lists → Content → Type 0 → Type 0 → Checked → Type 0
+IsFound setup content was legible (Whole runs) = (runs ≡ length content.reports) × legible × IsOffice setup content
+IsFound setup content was legible (Differs difference) = AreOfSenders setup content.kept → IsDifference setup content legible difference
+IsFound setup content was legible (Unread part) = was → IsOffice setup content → ⊥
+
+-- a check came to its end, with every row read
+abbrev pub is_read : Result Checked KeepFault → Bool
+is_read (Ok (Unread part)) = false
+is_read (Ok found) = true
+is_read (Err fault) = false
+
+-- the store counts a refusal where a row doesn't read, and where the database failed
+abbrev pub CountedCheck : ℕ → ℕ → Result Checked KeepFault → Type 0
+CountedCheck before after (Ok (Unread part)) = HasRisen before after
+CountedCheck before after (Ok found) = after ≡ before
+CountedCheck before after (Err NoMemory) = after ≡ before
+CountedCheck before after (Err (Store cause)) = HasRisen before after

@@ -1,6 +1,6 @@
-//! Whether a store holds what an office leaves, and nothing else: all its runs are rebuilt from the mail that it keeps,
-//! and what it holds of them is compared. Also an office in memory as an earlier run of a store left it, rebuilt from
-//! the same mail; and what an office reports on a source for a run.
+//! Whether a store's tables hold what an office leaves, and no row more: all its runs are made anew from the mail that it keeps,
+//! and what it holds of them is compared. And an office in memory as an earlier run of a store left it, which is made of the same
+//! mail; and what an office tells of a source for a run.
 #![tactic(auto)]
 
 mod checking;
@@ -10,6 +10,7 @@ mod earlier;
 mod letters;
 mod memory;
 mod telling;
+mod unread;
 
 pub use checking::check;
 pub use earlier::{office_after, office_before, told_after_run, why_of_run};
@@ -35,6 +36,19 @@ pub enum Difference {
     Tables,
 }
 
+/// A part of a store.
+#[derive(Clone, Copy, Debug, PartialEq, Eq)]
+pub enum Part {
+    /// The office's own row.
+    Office,
+    /// The mail of a sender.
+    Mail { sender: u32 },
+    /// The reports of a run.
+    Run { run: u32 },
+    Testing,
+    Facts,
+}
+
 /// What a check of a store found.
 #[derive(Clone, Copy, Debug, PartialEq, Eq)]
 pub enum Checked {
@@ -42,4 +56,6 @@ pub enum Checked {
     Whole { runs: u32 },
     /// It doesn't.
     Differs(Difference),
+    /// A row of this part doesn't read as an office writes it, or names mail that isn't kept or doesn't give it.
+    Unread { part: Part },
 }

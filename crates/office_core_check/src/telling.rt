@@ -1,8 +1,8 @@
 //! What a check of a store found, in words.
-ghost use Rattle.std.specs.Prelude.{◌≡◌, IfOk, string_bytes};
-ghost use Rattle.office_core_check.specs.Telling.{checked_text, checked_words, difference_words, status_of_check};
+ghost use Rattle.std.specs.Prelude.{◌≡◌, ◌++◌, IfOk, codes, string_bytes};
+ghost use Rattle.office_core_check.specs.Telling.{checked_text, checked_words, difference_words, part_words, status_of_check};
 
-use crate::{Checked, Difference};
+use crate::{Checked, Difference, Part};
 use deb_control::{NoMemory, Text};
 use office_core_orders::name_at;
 use office_mail::Setup;
@@ -30,6 +30,30 @@ fn difference_words(
     }
 }
 
+/// A part of a store in words.
+fn part_words(alloc: Global, setup: &Setup, part: Part) -> Result<String, AllocError>
+    ensures { IfOk result (λ text. string_bytes text ≡ part_words setup.now part) }
+{
+    match part {
+        Part::Office => String::from_str(alloc, "office"),
+        Part::Mail { sender } => {
+            let sender = name_at(setup, sender);
+            format!(in alloc; "mail {sender}")
+        }
+        Part::Run { run } => format!(in alloc; "run {run}"),
+        Part::Testing => String::from_str(alloc, "testing"),
+        Part::Facts => String::from_str(alloc, "facts"),
+    }
+}
+
+/// That a row of a part doesn't read, in words.
+fn unread_words(alloc: Global, setup: &Setup, part: Part) -> Result<String, AllocError>
+    ensures { IfOk result (λ text. string_bytes text ≡ codes "unread " ++ part_words setup.now part) }
+{
+    let words = part_words(alloc, setup, part)?;
+    format!(in alloc; "unread {words}")
+}
+
 /// What was found, in words.
 fn checked_words(alloc: Global, setup: &Setup, checked: Checked) -> Result<String, AllocError>
     ensures { IfOk result (λ text. string_bytes text ≡ checked_words setup.now checked) }
@@ -37,11 +61,13 @@ fn checked_words(alloc: Global, setup: &Setup, checked: Checked) -> Result<Strin
     match checked {
         Checked::Whole { runs } => format!(in alloc; "whole {runs} runs"),
         Checked::Differs(difference) => difference_words(alloc, setup, difference),
+        Checked::Unread { part } => unread_words(alloc, setup, part),
     }
 }
 
-/// The line with the result of a check: `whole N runs`, or else the difference as `mail SENDER NUMBER`, `run K mail`,
-/// `run K excuses`, `run K update`, `testing`, `facts` or `tables`.
+/// The line that tells what a check found: `whole N runs`, or else the difference as `mail SENDER NUMBER`, `run K mail`,
+/// `run K excuses`, `run K update`, `testing`, `facts` or `tables`; or `unread` and the part of which a row doesn't read, as
+/// `office`, `mail SENDER`, `run K`, `testing` or `facts`.
 #[tactic(auto, unfolding(crate::specs::Telling::checked_text))]
 pub fn checked_text(alloc: Global, setup: &Setup, checked: Checked) -> Result<Text, NoMemory>
     ensures { IfOk result (λ text. text ≡ checked_text setup.now checked) }
@@ -57,6 +83,6 @@ pub fn check_status(checked: Checked) -> u8
 {
     match checked {
         Checked::Whole { .. } => 0,
-        Checked::Differs(_) => 1,
+        Checked::Differs(_) | Checked::Unread { .. } => 1,
     }
 }

@@ -8,3 +8,4 @@ pub mod ProposalFacts
 pub mod RefusalFacts
 pub mod StuckFacts
 pub mod HintTextFacts
+pub mod KeepFacts

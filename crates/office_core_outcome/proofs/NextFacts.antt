@@ -142,9 +142,10 @@ module _ (setup : Lists) (kept late : Kept) (k : ℕ) (all : Bool) (day : Option
       let same : covers p.0.0 ≡ covers (release setup) = ap covers own in
       let found = letter_at_number setup (covers (release setup)) hints p.0.1 (omega (arith, lt, same)) (omega (arith, high, is, own_cover setup covers (length hints) p.0.0 own, same)) in
       let at : p.0 ≡ (release setup, found.letter.number) = ap (λ (s : ℕ). (s, p.0.1)) own ∙ ap (λ (j : ℕ). (release setup, j)) (sym found.own) in
-      let text : said.0 ≡ found.letter.text = some_same said.0 found.letter.text (sym said.1 ∙ ap (get late) at ∙ come.letters found.letter found.among) in
+      let came = come.letters found.letter found.among in
+      let text : said.0 ≡ came.text = some_same said.0 came.text (sym said.1 ∙ ap (get late) at ∙ came.there) in
       letter_among setup (release setup) letters (items_within setup kept covers) found.letter m found.among
-      (ap (λ (q : Place). item_at setup (q, found.letter.text)) (sym at) ∙ ap (λ (t : List ℕ). item_at setup (p.0, t)) (sym text) ∙ said.2))
+      (sym came.says ∙ ap (λ (q : Place). item_at setup (q, came.text)) (sym at) ∙ ap (λ (t : List ℕ). item_at setup (p.0, t)) (sym text) ∙ said.2))
       (λ other. absurd (omega (arith, lt, high, is, other_cover setup covers (length hints) p.0.0 other)))
       (cases_eq p.0.0 (release setup)))
       (λ (le : p.0.1 ≤ covers p.0.0).
@@ -157,14 +158,14 @@ module _ (setup : Lists) (kept late : Kept) (k : ℕ) (all : Bool) (day : Option
   tried_then : (m : CoveredItem) → Contains mail m → Contains walked m
   tried_then m c = elim (letters_or_mail setup (release setup) letters (items_within setup kept covers) m c) [
     | inl says ↦
-        let at = come.letters says.letter says.among in
-        let low = (places (release setup, says.letter.number) (is_some (get late (release setup, says.letter.number)) says.letter.text at)).sender in
+        let came = come.letters says.letter says.among in
+        let low = (places (release setup, says.letter.number) (is_some (get late (release setup, says.letter.number)) came.text came.there)).sender in
         let number = numbers_within setup (covers (release setup)) hints says.letter says.among in
         place_within setup late now n m (release setup, says.letter.number) (record {
           sender = low;
           low = omega (arith, number.0);
           high = omega (arith, number.1, now_is (release setup) low, own_cover setup covers (length hints) (release setup) refl);
-          is = ap (item_of setup (release setup, says.letter.number)) at ∙ says.is;
+          is = ap (item_of setup (release setup, says.letter.number)) came.there ∙ came.says ∙ says.is;
         })
     | inr among ↦
         let says = says_within setup kept covers m among in

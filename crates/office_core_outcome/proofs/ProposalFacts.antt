@@ -1,6 +1,5 @@
 -- What is proposed.
-use Rattle.std.proofs.Common.{◌≡◌, ℕ, ◌+◌, Bool, true, ◌&&◌, List, [], ◌∷◌, Option, Some, None, length, ap, sym, subst, ◌∙◌, refl}
-use Rattle.std.specs.List.{list_all, list_any}
+use Rattle.std.proofs.Common.{◌≡◌, ℕ, ◌+◌, true, List, [], Option, Some, None, length, ap, sym, subst, ◌∙◌, refl}
 use Rattle.jiff_core.specs.declared.civil.date.Date.{Date}
 use Rattle.testing_rules_items.specs.Words.{Text}
 use Rattle.testing_rules_model.specs.Covered.{Covered}
@@ -19,19 +18,14 @@ use Rattle.office_core_facts.specs.State.{IsOffice}
 use Rattle.office_core_outcome.specs.declared.TrialOptions.{TrialOptions}
 use Rattle.office_core_outcome.specs.declared.proposal.Proposal.{Proposal}
 use Rattle.office_core_outcome.specs.Hints.{first_refused, hint_letters, with_letters}
-use Rattle.office_core_outcome.specs.Proposal.{AreShownStuck, IsProposed, are_done, decisions_by, freed_by, is_done, tried_decisions}
-use Rattle.office_core_outcome.specs.Settled.{AreStuckOver, IsProposedOver, IsSettled}
+use Rattle.office_core_outcome.specs.Proposal.{AreShownStuck, IsProposed, KeepsMoves, are_done, decisions_by, freed_by, tried_decisions}
+use Rattle.office_core_outcome.specs.Settled.{AreStuckOver, IsProposedOver, IsSettled, KeepsRun}
 use Rattle.office_core_facts.specs.Outcome.{outcome}
 use Rattle.testing_rules_reports.specs.Reports.{update_text}
 use Rattle.office_core_outcome.specs.declared.Trial.TheVariants.{Told}
 use Rattle.office_core_outcome.specs.Trial.{IsTrial, judged, trial_date, tried}
 use Rattle.office_core_outcome.specs.WhyRefused.{AreReasons}
 use Rattle.office_core_outcome.proofs.TryFacts.{is_trial, trial_told}
-
--- the groups of all hints moved where those of all their messages did
-pub done_by_letters : (setup : Lists) (number : ℕ) (hints : List (List ℕ)) (ds : List Decision) → list_all (λ (l : Letter). list_any (is_done l.number) ds) (hint_letters setup number hints) ≡ are_done number (length hints) ds
-done_by_letters setup number [] ds = refl
-done_by_letters setup number (hint ∷ rest) ds = ap (λ (b : Bool). list_any (is_done (number + 1)) ds && b) (done_by_letters setup (number + 1) rest ds)
 
 -- no letters say nothing more
 pub with_none : (setup : Lists) (sender : ℕ) (mail : Covered) → mail ≡ with_letters setup sender [] mail
@@ -48,10 +42,10 @@ settled_none setup date number facts t ds by = record {
 
 -- what the run decides with hints of which it does each
 pub settled_all : (setup : Lists) (date : Date) (number : ℕ) (facts : FactLists) (t : Suite) (hints : List (List ℕ)) (letters : List Letter) (ds : List Decision) → None ≡ first_refused setup number 0 hints → letters ≡ hint_letters setup number hints
-    → list_all (λ (l : Letter). list_any (is_done l.number) ds) letters ≡ true → ((s : Covered) → StandsFor facts s t → ds ≡ decisions_by setup date (with_letters setup (release setup) letters s) t) → IsSettled setup date number facts t hints ds
+    → are_done number hints ds ≡ true → ((s : Covered) → StandsFor facts s t → ds ≡ decisions_by setup date (with_letters setup (release setup) letters s) t) → IsSettled setup date number facts t hints ds
 settled_all setup date number facts t hints letters ds taken are done by = record {
   taken = sym taken;
-  done = sym (done_by_letters setup number hints ds) ∙ ap (list_all (λ (l : Letter). list_any (is_done l.number) ds)) (sym are) ∙ done;
+  done = done;
   decided = λ s stands. by s stands ∙ ap (λ (ls : List Letter). decisions_by setup date (with_letters setup (release setup) ls s) t) are;
 }
 
@@ -70,11 +64,18 @@ module _ (setup : Lists) (content : Content) (date : Date) (covers : ℕ → ℕ
   pub taken_over : first_refused setup (covers (release setup)) 0 hints ≡ None
   taken_over = subst (λ (n : ℕ). first_refused setup n 0 hints ≡ None) at settled.taken
 
-  pub done_over : are_done (covers (release setup)) (length hints) (tried_decisions setup content.kept (length content.reports) date covers hints) ≡ true
+  pub done_over : are_done (covers (release setup)) hints (tried_decisions setup content.kept (length content.reports) date covers hints) ≡ true
   done_over =
-      ap (λ (n : ℕ). are_done n (length hints) (tried_decisions setup content.kept (length content.reports) date covers hints)) (sym at)
-      ∙ ap (are_done number (length hints)) (sym decided_is)
+      ap (λ (n : ℕ). are_done n hints (tried_decisions setup content.kept (length content.reports) date covers hints)) (sym at)
+      ∙ ap (are_done number hints) (sym decided_is)
       ∙ settled.done
+
+  -- and move all that the run moves without the hints
+  pub keeps_over : KeepsRun setup date facts content.testing ds
+      → KeepsMoves (decisions_by setup date mail (testing_after setup content.kept (length content.reports))) (tried_decisions setup content.kept (length content.reports) date covers hints)
+  keeps_over keeps =
+      subst (λ (t : Suite). KeepsMoves (decisions_by setup date mail t) (tried_decisions setup content.kept (length content.reports) date covers hints)) office.testing_is
+      (subst (KeepsMoves (decisions_by setup date mail content.testing)) decided_is (keeps mail stands))
 
   -- what shows that sources are stuck
   pub shown_is : (sources : List Text) (texts : List (Option Text)) → AreStuckOver setup.archs date facts content.testing ds sources texts
@@ -93,7 +94,8 @@ proposed_is setup kept k terms date covers sources p are day over = record {
   run = over.run;
   first = over.first;
   taken = over.taken;
-  done = subst (λ (d : Date). are_done (covers (release setup)) (length p.hints.items) (tried_decisions setup kept k d covers p.hints.items) ≡ true) (sym over.dated) over.done;
+  done = subst (λ (d : Date). are_done (covers (release setup)) p.hints.items (tried_decisions setup kept k d covers p.hints.items) ≡ true) (sym over.dated) over.done;
+  keeps = subst (λ (d : Date). KeepsMoves (decisions_by setup d (items_within setup kept covers) (testing_after setup kept k)) (tried_decisions setup kept k d covers p.hints.items)) (sym over.dated) over.keeps;
   freed = subst (λ (d : Date). p.freed.items ≡ freed_by (tried_decisions setup kept k d covers p.hints.items) sources) (sym over.dated) over.freed;
   stuck = subst (λ (d : Date). AreShownStuck setup.archs d (items_within setup kept covers) (testing_after setup kept k) (tried_decisions setup kept k d covers p.hints.items) sources p.stuck.items) (sym over.dated) over.stuck;
 }

@@ -1,6 +1,6 @@
--- Hints that are proposed: a trial accepts them, and its run does each. And what shows that no group frees a source.
-use Rattle.std.specs.Prelude.{◌≡◌, ℕ, ◌+◌, ◌==◌, Bool, true, false, List, [], ◌∷◌, ◌++◌, filter, length, Option, Some, None, unwrap_or, IfSome}
-use Rattle.std.specs.List.{AllZip, flat_map, list_all, list_any, range_with_len}
+-- Hints that are proposed: a trial takes them, and its run does each. And what shows that no group frees a source.
+use Rattle.std.specs.Prelude.{◌≡◌, ℕ, ◌+◌, ◌==◌, Bool, true, false, ◌&&◌, List, [], ◌∷◌, ◌++◌, codes, filter, Option, Some, None, unwrap_or, IfSome}
+use Rattle.std.specs.List.{AllZip, flat_map, list_any}
 use Rattle.std.specs.Str.{bytes_eq}
 use Rattle.jiff_core.specs.declared.civil.date.Date.{Date}
 use Rattle.testing_rules_items.specs.Words.{Text}
@@ -11,6 +11,7 @@ use Rattle.testing_rules_model.specs.Unstable.{in_force, unstable_rows, unstable
 use Rattle.testing_rules_model.specs.Updates.{in_turn, move_easy, remove_item, removals_of, update_of}
 use Rattle.testing_rules_model.specs.declared.excuse.Excuse.{Excuse}
 use Rattle.testing_rules_model.specs.declared.update.Decision.{Decision}
+use Rattle.testing_rules_model.specs.declared.update.Moved.{Moved}
 use Rattle.testing_rules_model.specs.declared.update.Decision.TheVariants.{RemoveDone, RemoveRefused, EasyDone, EasyNotCandidate, EasyRefused, Accept, Wait}
 use Rattle.testing_rules_refusals.specs.Stuck.{IsStuckText}
 use Rattle.office_mail.specs.Lists.{Lists}
@@ -32,17 +33,13 @@ abbrev pub tried_decisions : Lists → Kept → ℕ → Date → (ℕ → ℕ) �
 tried_decisions setup kept k date covers hints =
     decisions_by setup date (with_letters setup (release setup) (hint_letters setup (covers (release setup)) hints) (items_within setup kept covers)) (testing_after setup kept k)
 
--- the group of the hint with this number moved
-abbrev pub is_done : ℕ → Decision → Bool
-is_done number d = elim d [
-  | RemoveDone hint name v ↦ false
-  | RemoveRefused hint name v offender ↦ false
-  | EasyDone hint items ↦ hint == number
-  | EasyNotCandidate hint name v ↦ false
-  | EasyRefused hint offender ↦ false
-  | Accept name v ↦ false
-  | Wait name v offender ↦ false
-]
+-- the hint for a group
+abbrev pub easy_text : List Moved → List ℕ
+easy_text group = codes "easy" ++ flat_map (λ m. 32 ∷ m.name ++ 47 ∷ m.version) group
+
+-- by this number a group moved, and this is its hint
+abbrev pub is_done : ℕ → List ℕ → Decision → Bool
+is_done number hint d = elim d [ EasyDone n group ↦ (n == number) && bytes_eq (easy_text group) hint | _ ↦ false ]
 
 -- the source moved, in a group or alone
 abbrev pub is_moved : Text → Decision → Bool
@@ -56,9 +53,14 @@ is_moved source d = elim d [
   | Wait name v offender ↦ false
 ]
 
--- n hints, numbered from the one after this number, each have a group that moved
-abbrev pub are_done : ℕ → ℕ → List Decision → Bool
-are_done behind count ds = list_all (λ number. list_any (is_done number) ds) (range_with_len (behind + 1) count)
+-- each of the hints, whose numbers go on behind this one, is that of a group that moved by its number
+abbrev pub are_done : ℕ → List (List ℕ) → List Decision → Bool
+are_done number [] ds = true
+are_done number (hint ∷ rest) ds = list_any (is_done (number + 1) hint) ds && are_done (number + 1) rest ds
+
+-- all sources that move in the one run move in the other too
+abbrev pub KeepsMoves : List Decision → List Decision → Type 0
+KeepsMoves one other = (source : Text) → list_any (is_moved source) one ≡ true → list_any (is_moved source) other ≡ true
 
 -- those of the sources that moved
 abbrev pub freed_by : List Decision → List Text → List Text
@@ -80,8 +82,9 @@ abbrev pub AreShownStuck : List Text → Date → Covered → Suite → List Dec
 AreShownStuck archs date mail t ds sources texts =
     AllZip (λ source text. IfSome text (λ shown. (list_any (is_moved source) ds ≡ false) × IsShownStuck archs date mail t source shown)) sources texts
 
--- Proposed after k finished runs: a trial on these terms accepts the hints, and its run does the group of each. The
--- sources said to be freed are those that it moves. A text on why no group frees another source shows just that.
+-- Proposed behind k finished runs: a trial on these terms takes the hints, its run moves the group of each, and all that moves without the
+-- hints. Those of the sources that are said to be freed are those that it moves. What is said to show that no group frees another of them
+-- shows it.
 pub record IsProposed (setup : Lists) (kept : Kept) (k : ℕ) (terms : TrialOptions) (sources : List Text) (p : Proposal) : Type 0 where
   pub covers : ℕ → ℕ
   pub are : AreTrialCovers setup kept k terms.all covers
@@ -89,7 +92,8 @@ pub record IsProposed (setup : Lists) (kept : Kept) (k : ℕ) (terms : TrialOpti
   pub run : p.run ≡ k + 1
   pub first : p.first ≡ covers (release setup) + 1
   pub taken : first_refused setup (covers (release setup)) 0 p.hints.items ≡ None
-  pub done : are_done (covers (release setup)) (length p.hints.items) (tried_decisions setup kept k p.date covers p.hints.items) ≡ true
+  pub done : are_done (covers (release setup)) p.hints.items (tried_decisions setup kept k p.date covers p.hints.items) ≡ true
+  pub keeps : KeepsMoves (decisions_by setup p.date (items_within setup kept covers) (testing_after setup kept k)) (tried_decisions setup kept k p.date covers p.hints.items)
   pub freed : p.freed.items ≡ freed_by (tried_decisions setup kept k p.date covers p.hints.items) sources
   pub stuck : AreShownStuck setup.archs p.date (items_within setup kept covers) (testing_after setup kept k) (tried_decisions setup kept k p.date covers p.hints.items) sources p.stuck.items
 

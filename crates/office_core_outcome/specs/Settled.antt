@@ -1,6 +1,6 @@
 -- Steps: no contract of a call that users make rests on this file.
--- Hints that the run does, each of them, and proofs that no group frees a source.
-use Rattle.std.specs.Prelude.{◌≡◌, ℕ, ◌+◌, true, false, List, Option, None, IfSome, length}
+-- Hints of which the run does each, and what shows of sources that no group frees them.
+use Rattle.std.specs.Prelude.{◌≡◌, ℕ, ◌+◌, true, false, List, [], ◌∷◌, map, Option, None, IfSome}
 use Rattle.std.specs.List.{AllZip, list_any}
 use Rattle.jiff_core.specs.declared.civil.date.Date.{Date}
 use Rattle.testing_rules_model.specs.Covered.{Covered}
@@ -10,6 +10,7 @@ use Rattle.testing_rules_model.specs.Suite.{Suite}
 use Rattle.testing_rules_model.specs.Unstable.{built_rows}
 use Rattle.testing_rules_model.specs.declared.excuse.Excuse.{Excuse}
 use Rattle.testing_rules_model.specs.declared.update.Decision.{Decision}
+use Rattle.testing_rules_model.specs.declared.update.Decision.TheVariants.{RemoveDone, RemoveRefused, EasyDone, EasyNotCandidate, EasyRefused, Accept, Wait}
 use Rattle.testing_rules_items.specs.Words.{Text}
 use Rattle.testing_rules_refusals.specs.Stuck.{IsStuckText}
 use Rattle.office_mail.specs.Lists.{Lists}
@@ -17,16 +18,32 @@ use Rattle.office_mail.specs.Kept.{Kept}
 use Rattle.office_core_facts.specs.Outcome.{testing_after}
 use Rattle.office_core_facts.specs.Seen.{items_within, release}
 use Rattle.office_core_outcome.specs.Hints.{first_refused, hint_letters, with_letters}
-use Rattle.office_core_outcome.specs.Proposal.{AreShownStuck, are_done, decisions_by, freed_by, is_moved, tried_decisions}
+use Rattle.office_core_outcome.specs.Proposal.{AreShownStuck, KeepsMoves, are_done, decisions_by, freed_by, is_moved, tried_decisions}
 use Rattle.office_core_outcome.specs.declared.proposal.Proposal.{Proposal}
 
--- the hints after a number are accepted; these are the run's decisions over all that the facts represent, doing each
+-- the names of the sources that the decision moves
+abbrev pub names_in : Decision → List Text
+names_in d = elim d [
+  | RemoveDone hint name v ↦ []
+  | RemoveRefused hint name v offender ↦ []
+  | EasyDone hint items ↦ map (λ m. m.name) items
+  | EasyNotCandidate hint name v ↦ []
+  | EasyRefused hint offender ↦ []
+  | Accept name v ↦ name ∷ []
+  | Wait name v offender ↦ []
+]
+
+-- hints behind a number are taken, and these are the decisions of the run with them, over all that the facts stand for, which does each
 pub record IsSettled (setup : Lists) (date : Date) (number : ℕ) (facts : FactLists) (t : Suite) (hints : List (List ℕ)) (ds : List Decision) : Type 0 where
   pub taken : first_refused setup number 0 hints ≡ None
-  pub done : are_done number (length hints) ds ≡ true
+  pub done : are_done number hints ds ≡ true
   pub decided : (s : Covered) → StandsFor facts s t → ds ≡ decisions_by setup date (with_letters setup (release setup) (hint_letters setup number hints) s) t
 
--- by facts, excuses, and testing after the hints in force, a text shows that no group frees this unmoved source
+-- the decisions move all that the run moves without the hints, over all that the facts stand for
+abbrev pub KeepsRun : Lists → Date → FactLists → Suite → List Decision → Type 0
+KeepsRun setup date facts t ds = (s : Covered) → StandsFor facts s t → KeepsMoves (decisions_by setup date s t) ds
+
+-- by facts, excuses, and testing behind the hints that stand, a text shows that no group frees the source, which these decisions don't move
 abbrev pub IsStuckBehind : List Text → FactLists → List Excuse → Suite → List Decision → Text → Text → Type 0
 IsStuckBehind archs facts excuses behind ds source text =
     (list_any (is_moved source) ds ≡ false) × IsStuckText archs facts.sources (built_rows archs facts.rows) excuses behind source text
@@ -46,6 +63,7 @@ pub record IsProposedOver (setup : Lists) (kept : Kept) (k : ℕ) (date : Date) 
   pub run : p.run ≡ k + 1
   pub first : p.first ≡ covers (release setup) + 1
   pub taken : first_refused setup (covers (release setup)) 0 p.hints.items ≡ None
-  pub done : are_done (covers (release setup)) (length p.hints.items) (tried_decisions setup kept k date covers p.hints.items) ≡ true
+  pub done : are_done (covers (release setup)) p.hints.items (tried_decisions setup kept k date covers p.hints.items) ≡ true
+  pub keeps : KeepsMoves (decisions_by setup date (items_within setup kept covers) (testing_after setup kept k)) (tried_decisions setup kept k date covers p.hints.items)
   pub freed : p.freed.items ≡ freed_by (tried_decisions setup kept k date covers p.hints.items) sources
   pub stuck : AreShownStuck setup.archs date (items_within setup kept covers) (testing_after setup kept k) (tried_decisions setup kept k date covers p.hints.items) sources p.stuck.items

@@ -4,8 +4,10 @@
 
 mod asked;
 mod deciding;
+mod grouped;
 mod hint_texts;
 mod hints;
+mod keeping;
 pub mod laws;
 mod proposal;
 mod proposing;

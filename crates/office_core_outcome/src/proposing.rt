@@ -11,7 +11,7 @@ ghost use Rattle.office_core_facts.specs.State.{IsOffice};
 ghost use Rattle.office_core_orders.specs.StaysTrusted.{StaysTrusted};
 ghost use Rattle.office_core_facts.specs.Seen.{release};
 ghost use Rattle.office_core_outcome.specs.Proposal.{IsProposed, freed_by};
-ghost use Rattle.office_core_outcome.specs.Settled.{AreStuckOver, IsProposedOver, IsSettled};
+ghost use Rattle.office_core_outcome.specs.Settled.{AreStuckOver, IsProposedOver, IsSettled, KeepsRun};
 ghost use Rattle.office_core_outcome.specs.Trial.{trial_date};
 
 use crate::TrialOptions;
@@ -34,7 +34,7 @@ use office_store_keeper::Keeper;
 use std::alloc::Global;
 use testing_rules_excuses::excuses;
 use testing_rules_groups::{Found, find_groups};
-use testing_rules_laws::{Facts, Testing, Update};
+use testing_rules_laws::{Decision, Testing, Update};
 
 /// Hints that the run does, each of them, its decisions then, the proofs that sources are stuck, and notes.
 #[derive(Drop)]
@@ -53,39 +53,24 @@ struct AskedProposal<'a> {
     terms: TrialOptions,
 }
 
-/// The decisions of the run with the hints in force, unless there is none. It fails only if memory runs out.
-fn standing_decisions(
+/// The groups that a search over the facts and testing finds, behind the hints that stand, by what the run decides with
+/// these alone. It fails for want of memory alone.
+fn groups_found(
     alloc: Global,
-    setup: &Setup,
-    date: Date,
-    facts: &Facts,
-    testing: &mut Testing,
-) -> Result<Update, NoMemory>
-    ensures { testing.new ≡ testing.old }
-{
-    if facts.hints().is_empty() {
-        return Ok(Update::of(Vec::new(alloc)));
-    }
-    decisions_beside(alloc, setup, date, facts, testing)
-}
-
-/// The groups that a search over the facts and testing finds. Testing stays. It fails only if memory runs out.
-fn groups_found(alloc: Global, asked: &Asked<'_>, testing: &mut Testing) -> Result<Found, NoMemory>
-    ensures { testing.new ≡ testing.old }
-{
-    let (setup, date, facts) = (asked.setup, asked.date, asked.facts);
-    let (archs, wanted) = (setup.archs(), asked.sources);
-    let update = standing_decisions(alloc, setup, date, facts, testing)?;
-    let excuses = excuses(alloc, archs, facts, testing, date)?;
-    let decisions = update.as_slice();
+    asked: &Asked<'_>,
+    testing: &Testing,
+    decisions: &[Decision],
+) -> Result<Found, NoMemory> {
+    let (archs, facts, wanted) = (asked.setup.archs(), asked.facts, asked.sources);
+    let excuses = excuses(alloc, archs, facts, testing, asked.date)?;
     let found = find_groups(alloc, archs, facts, &excuses, testing, decisions, wanted)?;
     drop(excuses);
-    drop(update);
     Ok(found)
 }
 
-/// Hints, numbered from the one after the given number, that the run does, each of them. Also proofs that no group
-/// frees a source. Testing and the facts stay. It fails only if memory runs out.
+/// Hints whose numbers go on behind the one asked for, and of which the run does each and moves all that moves without
+/// them; and what shows of the sources that no group frees them. Testing and the facts stay. It fails for want of memory
+/// alone.
 fn settled_hints(
     alloc: Global,
     asked: &Asked<'_>,
@@ -93,14 +78,16 @@ fn settled_hints(
 ) -> Result<SettledHints, StoreFault>
     ensures same { testing.new ≡ testing.old }
     ensures settled { IfOk result (λ o. IsSettled asked.now.setup.now asked.now.date asked.now.number asked.now.facts.now testing.old o.hints.items o.update) }
+    ensures keeps { IfOk result (λ o. KeepsRun asked.now.setup.now asked.now.date asked.now.facts.now testing.old o.update) }
     ensures freed { IfOk result (λ o. o.freed.items ≡ freed_by o.update asked.now.sources.now) }
     ensures stuck { IfOk result (λ o. AreStuckOver asked.now.setup.now.archs asked.now.date asked.now.facts.now testing.old o.update asked.now.sources.now o.stuck.items) }
     ensures no_store { IfErr result (λ fault. fault ≡ StoreFault.NoMemory) }
 {
-    let found = groups_found(alloc, asked, testing)?;
-    let (groups, beside) = parts_of(found);
     let (setup, date, facts) = (asked.setup, asked.date, asked.facts);
-    let (hints, update) = settle(alloc, setup, date, facts, testing, asked.number, groups)?;
+    let base = decisions_beside(alloc, setup, date, facts, testing)?;
+    let found = groups_found(alloc, asked, testing, base.as_slice())?;
+    let (groups, beside) = parts_of(found);
+    let (hints, update) = settle(alloc, asked, testing, base, groups)?;
     let decisions = update.as_slice();
     let freed = freed_by(alloc, decisions, asked.sources)?;
     let stuck = stuck_texts(alloc, asked, testing, &beside.dead, decisions)?;
@@ -122,6 +109,7 @@ fn settled_kept<K: Keeper>(
     asked: &Asked<'_>,
 ) -> Result<SettledHints, StoreFault>
     ensures settled { K.is_trusted keeper.new → K.is_legible keeper.old → IfOk result (λ o. IsSettled asked.now.setup.now asked.now.date asked.now.number asked.now.facts.now (K.content keeper.old).testing o.hints.items o.update) }
+    ensures keeps { K.is_trusted keeper.new → K.is_legible keeper.old → IfOk result (λ o. KeepsRun asked.now.setup.now asked.now.date asked.now.facts.now (K.content keeper.old).testing o.update) }
     ensures freed { IfOk result (λ o. o.freed.items ≡ freed_by o.update asked.now.sources.now) }
     ensures stuck { K.is_trusted keeper.new → K.is_legible keeper.old → IfOk result (λ o. AreStuckOver asked.now.setup.now.archs asked.now.date asked.now.facts.now (K.content keeper.old).testing o.update asked.now.sources.now o.stuck.items) }
     ensures looks { ReadsStore K.Keeper keeper.old keeper.new result }

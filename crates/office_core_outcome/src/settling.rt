@@ -1,17 +1,20 @@
-//! Hints that are tried until the run does the group of each.
+//! Hints that are tried until the run does the group of each, and costs no other source its move.
 
-ghost use Rattle.std.specs.Prelude.{◌≡◌, ◌==◌, [], IfOk, IfErr, IfSome};
-ghost use Rattle.std.specs.List.{list_all, list_any};
+ghost use Rattle.std.specs.Prelude.{◌≡◌, IfOk, IfErr, IfSome};
+ghost use Rattle.std.specs.List.{list_any};
 ghost use Rattle.std.specs.Str.{bytes_eq};
 ghost use Rattle.testing_rules_laws.specs.Covered.{Covered};
 ghost use Rattle.testing_rules_laws.specs.StandsFor.{StandsFor};
 ghost use Rattle.office_core_facts.specs.Seen.{release};
 ghost use Rattle.office_core_outcome.specs.Hints.{with_letters};
-ghost use Rattle.office_core_outcome.specs.Proposal.{decisions_by, freed_by, is_done, is_moved};
-ghost use Rattle.office_core_outcome.specs.Settled.{IsSettled};
+ghost use Rattle.office_core_outcome.specs.Proposal.{KeepsMoves, decisions_by, freed_by, is_moved};
+ghost use Rattle.office_core_outcome.specs.Settled.{IsSettled, KeepsRun};
 
+use crate::asked::Asked;
 use crate::deciding::take_all;
+use crate::grouped::{are_done, is_any_done};
 use crate::hints::take_hints;
+use crate::keeping::keeps_moves;
 use crate::rules::decisions_over;
 use deb_control::{NoMemory, Text};
 use jiff_core::civil::Date;
@@ -24,43 +27,14 @@ use testing_rules_laws::{Decision, Facts, Moved, Testing, Update};
 /// The most times that hints are tried: each time those whose groups the run doesn't move are left out.
 const ROUNDS: u32 = 8;
 
-/// The group of the hint with this number moved.
-fn is_done(number: u32, decision: &Decision) -> bool
-    ensures { result ≡ is_done number decision.now }
-{
-    match decision {
-        Decision::EasyDone { hint, items: _ } => *hint == number,
-        Decision::EasyRefused { .. } => false,
-        Decision::RemoveDone { .. }
-        | Decision::RemoveRefused { .. }
-        | Decision::EasyNotCandidate { .. }
-        | Decision::Accept { .. }
-        | Decision::Wait { .. } => false,
-    }
-}
+/// The most parts of hints that are tried, to leave out those that cost other sources their moves.
+const PARTS: u32 = 24;
 
-/// The group of the hint with this number is one of those that moved.
-fn is_any_done(number: u32, decisions: &[Decision]) -> bool
-    ensures { result ≡ list_any (is_done number) decisions.now }
-{
-    for decision in decisions {
-        if is_done(number, decision) {
-            return true;
-        }
-    }
-    false
-}
-
-/// The group of the hint in each of these messages moved.
-fn are_done(letters: &[Letter], decisions: &[Decision]) -> bool
-    ensures { result ≡ list_all (λ letter. list_any (is_done letter.number) decisions.now) letters.now }
-{
-    for letter in letters {
-        if !is_any_done(letter.number, decisions) {
-            return false;
-        }
-    }
-    true
+/// Some of the hints, in a row: from this place on, up to that one.
+#[derive(Clone, Copy)]
+struct Part {
+    start: usize,
+    end: usize,
 }
 
 /// The source is one of those that moved together.
@@ -128,7 +102,7 @@ fn done_hints(
 ) -> Result<Vec<Text>, NoMemory> {
     let mut done = Vec::new(alloc);
     for (hint, letter) in hints.iter().zip(letters.iter()) {
-        if is_any_done(letter.number, decisions) {
+        if is_any_done(alloc, letter.number, hint.as_str(), decisions)? {
             done.push(hint.copy(alloc)?)?;
         }
     }
@@ -144,6 +118,42 @@ fn hints_without(alloc: Global, hints: &[Text], place: usize) -> Result<Vec<Text
         }
     }
     Ok(left)
+}
+
+/// The hints of a part, behind others.
+fn with_part(
+    alloc: Global,
+    others: &[Text],
+    hints: &[Text],
+    part: Part,
+) -> Result<Vec<Text>, NoMemory> {
+    let mut more = Vec::new(alloc);
+    for hint in others {
+        more.push(hint.copy(alloc)?)?;
+    }
+    for (place, hint) in hints.iter().enumerate() {
+        if place >= part.start && place < part.end {
+            more.push(hint.copy(alloc)?)?;
+        }
+    }
+    Ok(more)
+}
+
+/// Adds the halves of a part, the first one last; a single hint has none.
+fn push_halves(parts: &mut Vec<Part>, part: Part) -> Result<(), NoMemory> {
+    let half = part.end.saturating_sub(part.start) / 2;
+    if half == 0 {
+        return Ok(());
+    }
+    let middle = part.start.saturating_add(half);
+    parts.push(Part {
+        start: middle,
+        end: part.end,
+    })?;
+    Ok(parts.push(Part {
+        start: part.start,
+        end: middle,
+    })?)
 }
 
 /// The testing before a run keeps the suites that the run left.
@@ -201,24 +211,23 @@ fn decisions_with(
 /// to try instead, with no decisions. Testing and the facts stay. It fails only if memory runs out.
 fn try_once(
     alloc: Global,
-    setup: &Setup,
-    date: Date,
-    facts: &Facts,
+    asked: &Asked<'_>,
     testing: &mut Testing,
-    number: u32,
     hints: Vec<Text>,
 ) -> Result<(Vec<Text>, Option<Update>), StoreFault>
     ensures same { testing.new ≡ testing.old }
-    ensures settled { IfOk result (λ o. IfSome o.1 (IsSettled setup.now date number facts.now testing.old o.0.items)) }
+    ensures settled { IfOk result (λ o. IfSome o.1 (IsSettled asked.now.setup.now asked.now.date asked.now.number asked.now.facts.now testing.old o.0.items)) }
     ensures no_store { IfErr result (λ fault. fault ≡ StoreFault.NoMemory) }
 {
+    let (setup, number, facts) = (asked.setup, asked.number, asked.facts);
     let mut letters = Vec::new(alloc);
     if let Some(refused) = take_hints(alloc, setup, &mut letters, number, &hints)? {
         let left = hints_without(alloc, &hints, refused.place)?;
         return Ok((left, None));
     }
-    let update = decisions_with(alloc, setup, date, facts, &letters, testing)?;
-    if are_done(&letters, update.as_slice()) {
+    let update = decisions_with(alloc, setup, asked.date, facts, &letters, testing)?;
+    let done = are_done(alloc, number, &hints, update.as_slice())?;
+    if done {
         return Ok((hints, Some(update)));
     }
     let left = done_hints(alloc, &hints, &letters, update.as_slice())?;
@@ -226,45 +235,149 @@ fn try_once(
     Ok((left, None))
 }
 
-/// What the run decides with no hint. It fails only if memory runs out.
-fn settle_none(
+/// Those of the hints that are taken one after another and whose groups the run moves with no others, and what it decides
+/// then, if that is found in so many times. Testing and the facts stay. It fails for want of memory alone.
+fn settle_groups(
     alloc: Global,
-    setup: &Setup,
-    date: Date,
-    facts: &Facts,
+    asked: &Asked<'_>,
     testing: &mut Testing,
-    number: u32,
-) -> Result<(Vec<Text>, Update), StoreFault>
-    ensures same { testing.new ≡ testing.old }
-    ensures settled { IfOk result (λ o. IsSettled setup.now date number facts.now testing.old o.0.items o.1) }
-    ensures no_store { IfErr result (λ fault. fault ≡ StoreFault.NoMemory) }
-{
-    let update = decisions_beside(alloc, setup, date, facts, testing)?;
-    Ok((Vec::new(alloc), update))
-}
-
-/// Of the hints those that are accepted one after another, if the run moves the groups of them all, and its decisions
-/// then; none if `ROUNDS` tries find none. Testing and the facts stay. It fails only if memory runs out.
-pub(crate) fn settle(
-    alloc: Global,
-    setup: &Setup,
-    date: Date,
-    facts: &Facts,
-    testing: &mut Testing,
-    number: u32,
     hints: Vec<Text>,
-) -> Result<(Vec<Text>, Update), StoreFault>
+) -> Result<(Vec<Text>, Option<Update>), StoreFault>
     ensures same { testing.new ≡ testing.old }
-    ensures settled { IfOk result (λ o. IsSettled setup.now date number facts.now testing.old o.0.items o.1) }
+    ensures settled { IfOk result (λ o. IfSome o.1 (IsSettled asked.now.setup.now asked.now.date asked.now.number asked.now.facts.now testing.old o.0.items)) }
     ensures no_store { IfErr result (λ fault. fault ≡ StoreFault.NoMemory) }
 {
     let mut left = hints;
     'rounds: for _round in 0..ROUNDS {
-        let (next, update) = try_once(alloc, setup, date, facts, testing, number, left)?;
+        let (next, update) = try_once(alloc, asked, testing, left)?;
         if let Some(update) = update {
-            return Ok((next, update));
+            return Ok((next, Some(update)));
         }
         left = next;
     }
-    settle_none(alloc, setup, date, facts, testing, number)
+    Ok((left, None))
+}
+
+/// The same, with no decisions where the run doesn't move all that these decisions move.
+fn settle_kept(
+    alloc: Global,
+    asked: &Asked<'_>,
+    testing: &mut Testing,
+    base: &[Decision],
+    hints: Vec<Text>,
+) -> Result<(Vec<Text>, Option<Update>), StoreFault>
+    ensures same { testing.new ≡ testing.old }
+    ensures settled { IfOk result (λ o. IfSome o.1 (IsSettled asked.now.setup.now asked.now.date asked.now.number asked.now.facts.now testing.old o.0.items)) }
+    ensures keeps { IfOk result (λ o. IfSome o.1 (KeepsMoves base.now)) }
+    ensures no_store { IfErr result (λ fault. fault ≡ StoreFault.NoMemory) }
+{
+    let (left, update) = settle_groups(alloc, asked, testing, hints)?;
+    let Some(update) = update else {
+        return Ok((left, None));
+    };
+    let kept = keeps_moves(alloc, base, update.as_slice())?;
+    if kept {
+        return Ok((left, Some(update)));
+    }
+    drop(update);
+    Ok((left, None))
+}
+
+/// The hints that are left of these, if they cost no source its move. It fails for want of memory alone.
+fn kept_hints(
+    alloc: Global,
+    asked: &Asked<'_>,
+    testing: &mut Testing,
+    base: &[Decision],
+    hints: Vec<Text>,
+) -> Result<Option<Vec<Text>>, StoreFault>
+    ensures same { testing.new ≡ testing.old }
+    ensures no_store { IfErr result (λ fault. fault ≡ StoreFault.NoMemory) }
+{
+    let (left, update) = settle_kept(alloc, asked, testing, base, hints)?;
+    match update {
+        Some(update) => {
+            drop(update);
+            Ok(Some(left))
+        }
+        None => Ok(None),
+    }
+}
+
+/// Of hints that cost a source its move, together, those that don't: each part of them that does is cut in halves, and a
+/// single one is left out. It fails for want of memory alone.
+fn hints_apart(
+    alloc: Global,
+    asked: &Asked<'_>,
+    testing: &mut Testing,
+    base: &[Decision],
+    hints: &[Text],
+) -> Result<Vec<Text>, StoreFault>
+    ensures same { testing.new ≡ testing.old }
+    ensures no_store { IfErr result (λ fault. fault ≡ StoreFault.NoMemory) }
+{
+    let mut kept = Vec::new(alloc);
+    let mut parts = Vec::new(alloc);
+    let end = hints.len();
+    push_halves(&mut parts, Part { start: 0, end })?;
+    'turns: for _turn in 0..PARTS {
+        if let Some(part) = parts.pop() {
+            let more = with_part(alloc, &kept, hints, part)?;
+            match kept_hints(alloc, asked, testing, base, more)? {
+                Some(more) => kept = more,
+                None => push_halves(&mut parts, part)?,
+            }
+        }
+    }
+    Ok(kept)
+}
+
+/// The same of hints that cost a source its move, together: of those that don't. Testing and the facts stay. It fails for
+/// want of memory alone.
+fn settle_apart(
+    alloc: Global,
+    asked: &Asked<'_>,
+    testing: &mut Testing,
+    base: &[Decision],
+    hints: &[Text],
+) -> Result<(Vec<Text>, Option<Update>), StoreFault>
+    ensures same { testing.new ≡ testing.old }
+    ensures settled { IfOk result (λ o. IfSome o.1 (IsSettled asked.now.setup.now asked.now.date asked.now.number asked.now.facts.now testing.old o.0.items)) }
+    ensures keeps { IfOk result (λ o. IfSome o.1 (KeepsMoves base.now)) }
+    ensures no_store { IfErr result (λ fault. fault ≡ StoreFault.NoMemory) }
+{
+    let apart = hints_apart(alloc, asked, testing, base, hints)?;
+    settle_kept(alloc, asked, testing, base, apart)
+}
+
+/// Those of the hints that are taken one after another, whose groups the run moves with no others, and with which it moves
+/// all that it moves without them; and what it decides then. Without them it decides this. Where no such hints are found
+/// after so many times there are none. Testing and the facts stay. It fails for want of memory alone.
+pub(crate) fn settle(
+    alloc: Global,
+    asked: &Asked<'_>,
+    testing: &mut Testing,
+    base: Update,
+    hints: Vec<Text>,
+) -> Result<(Vec<Text>, Update), StoreFault>
+    requires base { (s : Covered) → StandsFor asked.now.facts.now s testing.old → base ≡ decisions_by asked.now.setup.now asked.now.date s testing.old }
+    ensures same { testing.new ≡ testing.old }
+    ensures settled { IfOk result (λ o. IsSettled asked.now.setup.now asked.now.date asked.now.number asked.now.facts.now testing.old o.0.items o.1) }
+    ensures keeps { IfOk result (λ o. KeepsRun asked.now.setup.now asked.now.date asked.now.facts.now testing.old o.1) }
+    ensures no_store { IfErr result (λ fault. fault ≡ StoreFault.NoMemory) }
+{
+    if hints.is_empty() {
+        return Ok((Vec::new(alloc), base));
+    }
+    let (left, first) = settle_kept(alloc, asked, testing, base.as_slice(), hints)?;
+    if let Some(update) = first {
+        drop(base);
+        return Ok((left, update));
+    }
+    let (apart, second) = settle_apart(alloc, asked, testing, base.as_slice(), &left)?;
+    if let Some(update) = second {
+        drop(base);
+        return Ok((apart, update));
+    }
+    Ok((Vec::new(alloc), base))
 }

@@ -11,29 +11,30 @@ use Rattle.office_mail.specs.Read.{read}
 use Rattle.office_mail.proofs.KeptFacts.{kept_from-fault, kept_from-free, kept_from-taken, places_total, tied}
 use Rattle.office_core_orders.specs.declared.faults.StoreFault.{StoreFault}
 use Rattle.office_core_facts.specs.OfficeState.{OfficeState}
+use Rattle.office_core.specs.OneSender.{ButOf}
 use Rattle.office_http_requests.specs.declared.request.Action.TheVariants.{DeliverOf}
 use Rattle.office_http.specs.Serve.{is_of_other, kept_by}
 
 own_sender : (sender : ℕ) (message : Message) → is_of_other sender (Ok message) ≡ false → message.sender ≡ sender
 own_sender sender message own = grind (arith, nat_tests)
 
-own_place : (setup : Lists) (kept : Kept) (sender : ℕ) (body : List ℕ) (p : Place) (r : Result Message MailFault) → read setup body ≡ r → is_of_other sender r ≡ false → get (kept_from setup kept (body ∷ [])) p ≢ get kept p → p.0 ≡ sender
-own_place setup kept sender body p (Err fault) is own changed = absurd (changed (ap (λ (k : Kept). get k p) (kept_from-fault setup kept body fault is)))
-own_place setup kept sender body p (Ok message) is own changed = by_place (get kept (place_of message)) refl
+own_place : (setup : Lists) (kept : Kept) (sender : ℕ) (body : List ℕ) (p : Place) (r : Result Message MailFault) → read setup body ≡ r → is_of_other sender r ≡ false → p.0 ≢ sender → get kept p ≡ get (kept_from setup kept (body ∷ [])) p
+own_place setup kept sender body p (Err fault) is own other = sym (ap (λ (k : Kept). get k p) (kept_from-fault setup kept body fault is))
+own_place setup kept sender body p (Ok message) is own other = by_place (get kept (place_of message)) refl
   where
-    here : (b : Bool) → eq_by_cmp place_cmp p (place_of message) ≡ b → get (kept_from setup kept (body ∷ [])) p ≡ cond b (Some body) (get kept p) → p.0 ≡ sender
-    here true same put = ap (λ (q : Place). q.0) (tied (place_of message) p same) ∙ own_sender sender message own
-    here false other put = absurd (changed put)
+    here : (b : Bool) → eq_by_cmp place_cmp p (place_of message) ≡ b → get (kept_from setup kept (body ∷ [])) p ≡ cond b (Some body) (get kept p) → get kept p ≡ get (kept_from setup kept (body ∷ [])) p
+    here true same put = absurd (other (ap (λ (q : Place). q.0) (tied (place_of message) p same) ∙ own_sender sender message own))
+    here false apart put = sym put
 
-    by_place : (o : Option (List ℕ)) → get kept (place_of message) ≡ o → p.0 ≡ sender
-    by_place (Some text) taken = absurd (changed (ap (λ (k : Kept). get k p) (kept_from-taken setup kept body message is (subst IsSome (sym taken) refl))))
+    by_place : (o : Option (List ℕ)) → get kept (place_of message) ≡ o → get kept p ≡ get (kept_from setup kept (body ∷ [])) p
+    by_place (Some text) taken = sym (ap (λ (k : Kept). get k p) (kept_from-taken setup kept body message is (subst IsSome (sym taken) refl)))
     by_place None free =
         here (eq_by_cmp place_cmp p (place_of message)) refl (ap (λ (k : Kept). get k p) (kept_from-free setup kept body message is free) ∙ get-insert places_total kept (place_of message) body p)
 
-pub bound : (s : OfficeState) (sender : ℕ) (body : List ℕ) (fault : Option StoreFault) (p : Place) → get (kept_by s (DeliverOf sender) body fault) p ≢ get s.kept p → p.0 ≡ sender
-bound s sender body (Some f) p changed = absurd (changed refl)
-bound s sender body None p changed = go (is_of_other sender (read s.setup body)) refl changed
+pub bound : (s : OfficeState) (sender : ℕ) (body : List ℕ) (fault : Option StoreFault) → ButOf sender s.kept (kept_by s (DeliverOf sender) body fault)
+bound s sender body (Some f) = λ p other. refl
+bound s sender body None = λ p other. go p other (is_of_other sender (read s.setup body)) refl
   where
-    go : (b : Bool) → is_of_other sender (read s.setup body) ≡ b → get (cond b s.kept (kept_from s.setup s.kept (body ∷ []))) p ≢ get s.kept p → p.0 ≡ sender
-    go true is same = absurd (same refl)
-    go false is same = own_place s.setup s.kept sender body p (read s.setup body) refl is same
+    go : (p : Place) → p.0 ≢ sender → (b : Bool) → is_of_other sender (read s.setup body) ≡ b → get s.kept p ≡ get (cond b s.kept (kept_from s.setup s.kept (body ∷ []))) p
+    go p other true is = refl
+    go p other false is = own_place s.setup s.kept sender body p (read s.setup body) refl is other

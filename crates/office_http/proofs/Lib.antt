@@ -7,3 +7,4 @@ pub mod LifeFacts
 pub mod ProposalFacts
 pub mod ServeFacts
 pub mod StepFacts
+pub mod TriedFacts

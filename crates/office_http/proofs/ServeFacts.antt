@@ -1,8 +1,7 @@
 -- What a connection comes to. P, Q and R say that the store refused: in a first part, in what follows, and in both.
-use Rattle.std.proofs.Common.{◌≡◌, inl, inr, ⊎_elim, ℕ, ◌+◌, ◌-◌, ◌≤◌, ◌<◌, Bool, true, false, not, ◌&&◌, cond, nat_le, if◌then◌else◌, List, [], ◌∷◌, ◌++◌, length, take, drop, Option, Some, None, Result, Ok, Err, IfOk, IfErr, IfSome, OnOk, is_ok, unwrap_or, refl, sym, ap, subst, ◌∙◌, arith, append_assoc, append-nil, ◌⊎◌}
+use Rattle.std.proofs.Common.{◌≡◌, inl, inr, ⊎_elim, ℕ, ◌+◌, ◌-◌, ◌≤◌, ◌<◌, Bool, true, false, not, ◌&&◌, cond, nat_le, if◌then◌else◌, List, [], ◌∷◌, ◌++◌, length, take, drop, Option, Some, None, Result, Ok, Err, IfOk, IfErr, IfSome, OnOk, is_ok, refl, sym, ap, subst, ◌∙◌, arith, append_assoc, append-nil, ◌⊎◌}
 use Rattle.std.specs.Option.{option_map}
 use Rattle.std.specs.FinMap.{get}
-use Rattle.std.specs.Str.{is_utf8}
 use Rattle.jiff_core.specs.declared.civil.date.Date.{Date}
 use Rattle.std.specs.Io.KnownBytes.{Appends, Consumes, IsAtEnd}
 use Rattle.std.proofs.KnownBytes.{Appends-nil, Appends-trans, Consumes-nil, Consumes-trans}
@@ -55,24 +54,21 @@ use Rattle.office_http_requests.specs.RequestSteps.{Came, IsHeadAt}
 use Rattle.office_core_facts.specs.OfficeState.{OfficeState}
 use Rattle.office_core_facts.specs.State.{AnswersDelivery, answer_to, reports_at}
 use Rattle.office_core_orders.specs.Written.{AppendsFront}
-use Rattle.office_core_outcome.specs.Trial.{IsTrial}
 use Rattle.office_core_outcome.specs.declared.proposal.Proposal.{Proposal}
 use Rattle.office_core_outcome.specs.declared.Trial.TheVariants.{NoDate}
-use Rattle.office_core_outcome.specs.declared.TrialOptions.{TrialOptions}
-use Rattle.office_http.specs.Serve.{mail_counts, unbroken_of, page_answer, action_answer, is_of_other, unless_other, if_known, proposal_answer, refusal_for, report_answer, why_answer, letter_answer, delivery_answer, by_fault, posted_body, post_answer, answer_of, waits_of, continued, kept_by, settles, Does, Exchange, Found, IsFoundBy, IsFoundByPost, IsFoundFor, IsProposedFor, IsUnread, IsServed, Moves, Replied, RepliedFront, Serves, IsAwaited, StopsBefore, StopsServe}
+use Rattle.office_http.specs.Serve.{mail_counts, unbroken_of, page_answer, is_of_other, unless_other, if_known, proposal_answer, refusal_for, report_answer, why_answer, letter_answer, delivery_answer, by_fault, posted_body, post_answer, answer_of, waits_of, continued, kept_by, settles, Does, Exchange, Found, IsFoundByPost, IsFoundFor, IsProposedFor, IsUnread, IsServed, Moves, Replied, RepliedFront, Serves, IsAwaited, StopsBefore, StopsServe}
 use Rattle.office_core_why.specs.Hints.{IsHintsText}
 use Rattle.office_core_why.specs.UnstableText.{IsUnstableText}
 use Rattle.office_core_why.specs.Why.{IsWhy}
 use Rattle.office_core_why.specs.declared.WhyText.{WhyText}
 use Rattle.office_http.specs.ShortTexts.{is_told_whole, short_answer, short_page}
-use Rattle.office_http.specs.Trials.{hints_in, trial_answer, tried_answer, terms_of}
-use Rattle.office_http.specs.ServeSteps.{answer_or, whole_page, part_answer, status_answer, text_answer, Tells, TellsAwaited, TellsProposal, TellsShort, TellsTrial, Runs, Answers, ServesHead, ServesFront, StopsRequest}
+use Rattle.office_http.specs.ServeSteps.{answer_or, whole_page, part_answer, status_answer, text_answer, Tells, TellsAwaited, TellsProposal, TellsShort, Runs, Answers, ServesHead, ServesFront, StopsRequest}
 use Rattle.office_core_replay.proofs.ReplayFacts.{Leaves, reply_by-mark, delivery_counted, kept_after}
 use Rattle.office_core_replay.proofs.RiseFacts.{delivery_weaker, text_weaker}
 use Rattle.office_core_replay.specs.DeliverySteps.{Settles}
 
 -- where nothing is found that the answer tells
-abbrev nothing : Found
+abbrev pub nothing : Found
 nothing = record { ready = 0; awaited = Order; why = None; trial = NoDate; seen = []; proposal = None }
 
 abbrev ready_runs : ℕ → Found
@@ -334,7 +330,7 @@ delivered P Q R before mid after text r l l_rises f f_rises =
     }
 
 -- what neither keeps nor settles does nothing
-still_moves : (rose : Type 0) (before after : OfficeState) (action : Action) (body : List ℕ) (f : Option StoreFault) (ready : ℕ) → kept_by before action body f ≡ before.kept → settles before action body f ≡ false → (action ≡ Settle → ⊥) → after ≡ before → Moves before after action body f ready rose
+pub still_moves : (rose : Type 0) (before after : OfficeState) (action : Action) (body : List ℕ) (f : Option StoreFault) (ready : ℕ) → kept_by before action body f ≡ before.kept → settles before action body f ≡ false → (action ≡ Settle → ⊥) → after ≡ before → Moves before after action body f ready rose
 still_moves rose before after action body f ready kept still other same = record {
   setup = ap (λ (s : OfficeState). s.setup) same;
   kept = ap (λ (s : OfficeState). s.kept) same ∙ sym kept;
@@ -444,62 +440,6 @@ settled rose before after text (Ok p) counted fin s k g o err = record {
 }
 settled rose before after text (Err fault.NoMemory) counted fin s k g o err = settle_missed rose before after text fault.NoMemory tt s k g o
 settled rose before after text (Err fault.Store) counted fin s k g o err = settle_missed rose before after text fault.Store (err refl) s k g o
-
--- a trial does nothing, and is answered by what it is told
-some_same : (x y : TrialOptions) → Some x ≡ Some y → x ≡ y
-some_same x y e = ap (λ (o : Option TrialOptions). unwrap_or o x) e
-
-trial_moves : (rose : Type 0) (before after : OfficeState) (action : Action) (terms : TrialOptions) (body : List ℕ) (f : Option StoreFault) (ready : ℕ) → terms_of action ≡ Some terms → after ≡ before → Moves before after action body f ready rose
-trial_moves rose before after Try terms body f ready by same = still_moves rose before after Try body f ready refl refl (λ e. absurd (cc (e))) same
-trial_moves rose before after (TryOn day) terms body f ready by same = still_moves rose before after (TryOn day) body f ready refl refl (λ e. absurd (cc (e))) same
-trial_moves rose before after Deliver terms body f ready by same = absurd (cc (by))
-trial_moves rose before after (DeliverOf sender) terms body f ready by same = absurd (cc (by))
-trial_moves rose before after Look terms body f ready by same = absurd (cc (by))
-trial_moves rose before after Settle terms body f ready by same = absurd (cc (by))
-
-trial_said : (s : OfficeState) (found : Found) (action : Action) (terms : TrialOptions) (body : List ℕ) → terms_of action ≡ Some terms → tried_answer s.setup body found.trial ≡ action_answer s found action body
-trial_said s found Try terms body by = refl
-trial_said s found (TryOn day) terms body by = refl
-trial_said s found Deliver terms body by = absurd (cc (by))
-trial_said s found (DeliverOf sender) terms body by = absurd (cc (by))
-trial_said s found Look terms body by = absurd (cc (by))
-trial_said s found Settle terms body by = absurd (cc (by))
-
-trial_found : (s : OfficeState) (found : Found) (action : Action) (terms : TrialOptions) (body : List ℕ) → terms_of action ≡ Some terms → (is_utf8 body ≡ true → IsTrial s.setup s.kept s.finished terms (hints_in body) found.trial) → IsFoundBy s found action body
-trial_found s found Try terms body by is = λ g. subst (λ (t : TrialOptions). IsTrial s.setup s.kept s.finished t (hints_in body) found.trial) (sym (some_same _ terms by)) (is g)
-trial_found s found (TryOn day) terms body by is = λ g. subst (λ (t : TrialOptions). IsTrial s.setup s.kept s.finished t (hints_in body) found.trial) (sym (some_same _ terms by)) (is g)
-trial_found s found Deliver terms body by is = absurd (cc (by))
-trial_found s found (DeliverOf sender) terms body by is = absurd (cc (by))
-trial_found s found Look terms body by is = absurd (cc (by))
-trial_found s found Settle terms body by is = absurd (cc (by))
-
-tried_missed : (rose : Type 0) (before after : OfficeState) (action : Action) (terms : TrialOptions) (body : List ℕ) (f : StoreFault) → terms_of action ≡ Some terms → TextCounted rose (Some f) → after ≡ before → Runs before after action body (Refused (refusal_for f)) rose
-tried_missed rose before after action terms body f by counted same = record { fault = Some f; by_store = counted; found = nothing; is = λ e. absurd (cc (e)); answer_is = refl; moves = trial_moves rose before after action terms body (Some f) 0 by same }
-
--- the hints of a body
-pub tried : (rose : Type 0) (before after : OfficeState) (action : Action) (terms : TrialOptions) (body : List ℕ) (r : Result Answer StoreFault) → terms_of action ≡ Some terms → is_utf8 body ≡ true → IfOk r (λ answer. TellsTrial before terms (hints_in body) answer) → after ≡ before → (r ≡ Err fault.Store → rose) → Runs before after action body (answer_or r) rose
-tried rose before after action terms body (Ok answer) by legible h same err = record {
-  fault = None;
-  by_store = tt;
-  found = record nothing { trial = h.trial };
-  is = λ e. trial_found before (record nothing { trial = h.trial }) action terms body by (λ g. h.tried);
-  answer_is = h.answer_is ∙ sym (ap (λ b. cond b (trial_answer before.setup (hints_in body) h.trial) (Delivered (Err (Mail mail.BadParagraph)))) legible)
-      ∙ trial_said before (record nothing { trial = h.trial }) action terms body by;
-  moves = trial_moves rose before after action terms body None 0 by same;
-}
-tried rose before after action terms body (Err fault.NoMemory) by legible h same err = tried_missed rose before after action terms body fault.NoMemory by tt same
-tried rose before after action terms body (Err fault.Store) by legible h same err = tried_missed rose before after action terms body fault.Store by (err refl) same
-
--- a body that isn't UTF-8
-pub tried_bad : (rose : Type 0) (s : OfficeState) (action : Action) (terms : TrialOptions) (body : List ℕ) → terms_of action ≡ Some terms → is_utf8 body ≡ false → Runs s s action body (Delivered (Err (Mail mail.BadParagraph))) rose
-tried_bad rose s action terms body by bad = record {
-  fault = None;
-  by_store = tt;
-  found = nothing;
-  is = λ e. trial_found s nothing action terms body by (λ g. absurd (let no : true ≡ false = sym g ∙ bad in cc));
-  answer_is = sym (ap (λ b. cond b (trial_answer s.setup (hints_in body) NoDate) (Delivered (Err (Mail mail.BadParagraph)))) bad) ∙ trial_said s nothing action terms body by;
-  moves = trial_moves rose s s action terms body None 0 by refl;
-}
 
 -- where a fault was met before anything was done
 does_nothing : (rose : Type 0) (s : OfficeState) (o : Option (Action × List ℕ)) (f : StoreFault) (ready : ℕ) → TextCounted rose (Some f) → Does s s o (Some f) ready rose

@@ -54,7 +54,7 @@ use Rattle.office_core_facts.specs.State.{answer_to, reports_at}
 use Rattle.office_core_orders.specs.Waiting.{Awaits}
 use Rattle.office_core_orders.specs.Written.{AppendsFront}
 use Rattle.office_http.specs.ShortTexts.{short_page}
-use Rattle.office_http.specs.Trials.{hints_in, request_terms, terms_on, tried_answer}
+use Rattle.office_http.specs.Trials.{has_many_hints, hints_in, request_terms, terms_on, tried_answer}
 use Rattle.office_core_why.specs.Hints.{hints_text}
 use Rattle.office_core_why.specs.UnstableText.{unstable_text}
 use Rattle.office_core_why.specs.Why.{IsWhy}
@@ -223,8 +223,8 @@ IsFoundFor s found added = IsFoundForAdded s found added
 
 -- and as far as the answer to a POST does that was added to the first two
 abbrev pub IsFoundByAdded : OfficeState → Found → Action → List ℕ → Type 0
-IsFoundByAdded s found Try body = is_utf8 body ≡ true → IsTrial s.setup s.kept s.finished request_terms (hints_in body) found.trial
-IsFoundByAdded s found (TryOn day) body = is_utf8 body ≡ true → IsTrial s.setup s.kept s.finished (terms_on day) (hints_in body) found.trial
+IsFoundByAdded s found Try body = has_many_hints body ≡ false → is_utf8 body ≡ true → IsTrial s.setup s.kept s.finished request_terms (hints_in body) found.trial
+IsFoundByAdded s found (TryOn day) body = has_many_hints body ≡ false → is_utf8 body ≡ true → IsTrial s.setup s.kept s.finished (terms_on day) (hints_in body) found.trial
 IsFoundByAdded s found _ body = ⊤
 
 -- as far as the answer to any POST does

@@ -1,5 +1,6 @@
--- The answer to a request that tries hints. That a service accepts such requests is this office's own.
-use Rattle.std.specs.Prelude.{ℕ, true, false, List, [], ◌∷◌, ◌++◌, ◌==◌, length, codes, if◌then◌else◌, slice_index_or, Option, Some, None, Err}
+-- What is answered to a request that tries hints. That a service takes such requests is this office's own.
+use Rattle.std.specs.Prelude.{ℕ, Bool, true, false, not, ◌&&◌, ◌||◌, List, [], ◌∷◌, ◌++◌, ◌==◌, length, codes, if◌then◌else◌, nat_lt, slice_index_or, Option, Some, None, Err}
+use Rattle.std.specs.List.{count_by}
 use Rattle.std.specs.Str.{is_utf8}
 use Rattle.std.specs.Str.Lines.{lines}
 use Rattle.jiff_core.specs.declared.civil.date.Date.{Date}
@@ -18,7 +19,7 @@ use Rattle.office_core_outcome.specs.declared.Trial.{Trial}
 use Rattle.office_core_outcome.specs.declared.Trial.TheVariants as trial
 use Rattle.office_core_outcome.specs.Trial.{trial_text}
 use Rattle.office_core_facts.specs.Seen.{release}
-use Rattle.office_http.specs.ShortTexts.{short_text}
+use Rattle.office_http.specs.ShortTexts.{ends_line, short_text}
 
 -- a requested trial covers only the mail of the release team, and has no day of its own
 abbrev pub request_terms : TrialOptions
@@ -51,6 +52,28 @@ trial_answer setup hints (trial.Told report reasons) = Told (short_text (trial_t
 trial_answer setup hints trial.NoDate = Refused refusal.NoRun
 trial_answer setup hints (trial.Refused refused) = BadHint (refused_line hints refused)
 
--- the answer to a body of hints; one that isn't UTF-8 is answered like such mail
+-- a byte that ends a line, or that stands in an item
+abbrev pub is_mark : ℕ → Bool
+is_mark b = ends_line b || b == 47
+
+-- no hint but `easy` begins with an e
+abbrev pub begins_easy : List ℕ → Bool
+begins_easy [] = false
+begins_easy (c ∷ cs) = c == 101
+
+-- one `easy` hint, without a line end
+abbrev pub is_one_group : List ℕ → Bool
+is_one_group body = begins_easy body && count_by ends_line body == 0
+
+-- More hints and items than one request may try, unless it tries one group: a run's refusal of a group, or of each item
+-- that is to be removed, is explained, which takes about as long as a run.
+abbrev pub has_many_hints : List ℕ → Bool
+has_many_hints body = not (is_one_group body) && nat_lt 12 (count_by is_mark body)
+
+-- the answer to a body of few hints; one that isn't UTF-8 is answered as mail that isn't
+abbrev pub few_answer : Lists → List ℕ → Trial → Answer
+few_answer setup body told = if is_utf8 body then trial_answer setup (hints_in body) told else Delivered (Err (Mail mail.BadParagraph))
+
+-- the answer to a body of hints
 abbrev pub tried_answer : Lists → List ℕ → Trial → Answer
-tried_answer setup body told = if is_utf8 body then trial_answer setup (hints_in body) told else Delivered (Err (Mail mail.BadParagraph))
+tried_answer setup body told = if has_many_hints body then Refused refusal.TooManyHints else few_answer setup body told

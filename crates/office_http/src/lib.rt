@@ -1,6 +1,7 @@
 //! The office, its replay and its service over HTTP.
 #![tactic(auto)]
 
+mod hosts;
 pub mod laws;
 mod proposals;
 mod serve;
@@ -8,6 +9,7 @@ pub mod service_laws;
 mod short_texts;
 mod trials;
 
+pub use hosts::serve_as_hosts;
 pub use office_core::Office;
 pub use office_core_orders::{
     Awaited, DeliverFault, Delivery, Held, Lack, Mark, Progress, StoreFault, Waiting, WriteFault,

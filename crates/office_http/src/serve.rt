@@ -18,14 +18,14 @@ ghost use Rattle.office_http_requests.specs.Routes.{office_routes};
 ghost use Rattle.office_http.specs.Serve.{if_known, mail_counts, unbroken_of, refusal_for, report_answer, why_answer, letter_answer, delivery_answer, is_of_other, waits_of, Does, StopsBefore, Serves, StopsServe};
 ghost use Rattle.office_core_why.specs.Why.{IsWhy};
 ghost use Rattle.office_http.specs.ServeSteps.{answer_or, part_answer, status_answer, text_answer, Tells, TellsAwaited, TellsShort, Runs, Answers, StopsRequest, ServesHead};
-ghost use Rattle.office_http.specs.Trials.{terms_of};
+ghost use Rattle.office_http.specs.Trials.{has_many_hints, terms_of};
 ghost use Rattle.office_core_facts.specs.State.{state_of};
 ghost use Rattle.office_core_orders.specs.Counted.{Counted};
 ghost use Rattle.office_core_orders.specs.Written.{AppendsFront};
 
 use crate::proposals::{propose_for, propose_groups};
 use crate::short_texts::{is_told_whole, short_answer};
-use crate::trials::{request_terms, terms_on, try_body};
+use crate::trials::{has_many_hints, request_terms, terms_on, try_body};
 use deb_control::{NoMemory, Text};
 use httparse::spans::{EMPTY_HEADER_SPAN, HeaderSpan, RequestSpans};
 use jiff_core::civil::Date;
@@ -343,8 +343,9 @@ fn settle<K: Keeper>(office: &mut Office<K>, text: &[u8]) -> Answer
     status_answer(office.settle())
 }
 
-/// Tries the hints of a body on these terms. A body that isn't UTF-8 is answered like such mail.
-fn try_bytes<K: Keeper>(office: &mut Office<K>, terms: TrialOptions, body: &[u8]) -> Answer
+/// Tries the few hints of a body on these terms. A body that isn't UTF-8 is answered as mail that isn't.
+fn try_few<K: Keeper>(office: &mut Office<K>, terms: TrialOptions, body: &[u8]) -> Answer
+    requires { has_many_hints body.now ≡ false }
     ensures carries { Preserves K.Keeper office.old office.new }
     ensures place { HasPlace (K.setup office.old) result }
     ensures runs { Holds K.Keeper office.old office.new → (action : Action) → terms_of action ≡ Some terms → Runs (state_of K.Keeper office.old) (state_of K.Keeper office.new) action body.now result (StoreRefused K.Keeper office.old office.new) }
@@ -353,6 +354,18 @@ fn try_bytes<K: Keeper>(office: &mut Office<K>, terms: TrialOptions, body: &[u8]
         Ok(text) => answer_or(try_body(office, terms, text)),
         Err(_) => Answer::Delivered(Err(DeliverFault::Mail(MailFault::BadParagraph))),
     }
+}
+
+/// Tries the hints of a body on these terms, unless they are too many.
+fn try_bytes<K: Keeper>(office: &mut Office<K>, terms: TrialOptions, body: &[u8]) -> Answer
+    ensures carries { Preserves K.Keeper office.old office.new }
+    ensures place { HasPlace (K.setup office.old) result }
+    ensures runs { Holds K.Keeper office.old office.new → (action : Action) → terms_of action ≡ Some terms → Runs (state_of K.Keeper office.old) (state_of K.Keeper office.new) action body.now result (StoreRefused K.Keeper office.old office.new) }
+{
+    if has_many_hints(body) {
+        return Answer::Refused(Refusal::TooManyHints);
+    }
+    try_few(office, terms, body)
 }
 
 /// Does what a POST with this body asks for.

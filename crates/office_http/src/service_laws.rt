@@ -1,7 +1,5 @@
 //! What is true of what the service answers.
-ghost use Rattle.std.specs.FinMap.{get};
 ghost use Rattle.std.specs.Prelude.{◌≡◌, ◌≢◌, ◌⊎◌, ◌≤◌, ◌<◌, ◌-◌, ◌^◌, ◌↔◌, ℕ, List, [], Option, Some, None, false, true, flat_map, length};
-ghost use Rattle.office_mail.specs.Kept.{Place};
 ghost use Rattle.office_core_orders.specs.Ready.{HasPlaces};
 ghost use Rattle.office_http_requests.specs.Asked.{asked_of};
 ghost use Rattle.office_http_requests.specs.declared.request.Action.{Action};
@@ -15,6 +13,7 @@ ghost use Rattle.office_core_orders.specs.declared.faults.StoreFault.{StoreFault
 ghost use Rattle.office_core.specs.History.{IsByRules, Leads, Looked, Settled, coming};
 ghost use Rattle.office_core.specs.Preserves.{Preserves, StoreRefused};
 ghost use Rattle.office_core.specs.Came.{AllCame};
+ghost use Rattle.office_core.specs.OneSender.{ButOf};
 ghost use Rattle.office_core_replay.specs.Replay.{Replays, StopsReplay};
 ghost use Rattle.office_core_replay.specs.declared.replays.Replayed.{Replayed};
 ghost use Rattle.office_mail.specs.Reading.{Reading};
@@ -36,9 +35,9 @@ pub fn requests_have_one_answer()
         → answer_of s x asked rest ≡ answer_of s y asked rest }
 {}
 
-/// What comes by the path of a sender changes what is kept of no other sender, whatever the text says.
+/// What comes by the path of a sender changes what is kept of that sender alone, whatever the text says.
 pub fn bound_mail()
-    ensures { (s : OfficeState) (sender : ℕ) (body : List ℕ) (fault : Option StoreFault) (p : Place) → get (kept_by s (Action.DeliverOf sender) body fault) p ≢ get s.kept p → p.0 ≡ sender }
+    ensures { (s : OfficeState) (sender : ℕ) (body : List ℕ) (fault : Option StoreFault) → ButOf sender s.kept (kept_by s (Action.DeliverOf sender) body fault) }
 {}
 
 /// A text that is only looked at is answered like a delivery of it. What is kept stays, and nothing is settled.

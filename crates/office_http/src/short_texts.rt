@@ -22,7 +22,7 @@ fn whole_len(bytes: &[u8]) -> usize
 }
 
 /// How many lines end in a text.
-fn line_count(bytes: &[u8]) -> usize
+pub(crate) fn line_count(bytes: &[u8]) -> usize
     ensures { result ≡ count_by ends_line bytes.now }
 {
     let mut count = 0;

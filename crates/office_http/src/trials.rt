@@ -1,8 +1,9 @@
 //! Hints that a request tries before they are mailed.
 ghost use Rattle.std.specs.Prelude.{◌≡◌, ◌∷◌, [], IfErr, IfOk, slice_index_or};
+ghost use Rattle.std.specs.List.{count_by};
 ghost use Rattle.office_core_facts.specs.State.{state_of};
 ghost use Rattle.office_http.specs.ServeSteps.{TellsTrial};
-ghost use Rattle.office_http.specs.Trials.{hints_in, refused_line, request_terms, terms_on, trial_answer};
+ghost use Rattle.office_http.specs.Trials.{begins_easy, has_many_hints, hints_in, is_mark, is_one_group, refused_line, request_terms, terms_on, trial_answer};
 ghost use Rattle.office_core_orders.specs.Counted.{Counted};
 ghost use Rattle.office_core_orders.specs.Replies.{name_at};
 ghost use Rattle.office_http_requests.specs.Reply.{HasPlace};
@@ -11,7 +12,7 @@ ghost use Rattle.office_core_facts.specs.Seen.{release};
 ghost use Rattle.testing_rules_reports.specs.LentLines.{lent_lines};
 ghost use Rattle.office_core_outcome.specs.Trial.{trial_text};
 
-use crate::short_texts::short_text;
+use crate::short_texts::{line_count, short_text};
 use deb_control::{NoMemory, Text};
 use jiff_core::civil::Date;
 use office_core::Office;
@@ -25,7 +26,10 @@ use office_store_keeper::Keeper;
 use std::alloc::{AllocError, Global};
 use testing_rules_reports::lines_of;
 
-/// The terms of a trial that covers only the mail of the release team, and has no day of its own.
+/// How many line ends and items a body of hints may have.
+const MOST_MARKS: usize = 12;
+
+/// What a trial takes that covers the mail of the release team alone, and has no day of its own.
 pub(crate) fn request_terms() -> TrialOptions
     ensures { result ≡ request_terms }
 {
@@ -151,6 +155,47 @@ fn answer_told(
     let answer = trial_answer(alloc, setup, hints, &trial);
     drop(trial);
     Ok(answer?)
+}
+
+/// Whether a byte ends a line, or stands in an item.
+fn is_mark(byte: u8) -> bool
+    ensures { result ≡ is_mark byte }
+{
+    byte == b'\n' || byte == b'/'
+}
+
+/// How many bytes end a line or stand in an item.
+fn mark_count(bytes: &[u8]) -> usize
+    ensures { result ≡ count_by is_mark bytes.now }
+{
+    let mut count = 0;
+    for byte in bytes {
+        if is_mark(*byte) {
+            count += 1;
+        }
+    }
+    count
+}
+
+/// Whether a body begins as an `easy` hint does.
+fn begins_easy(body: &[u8]) -> bool
+    ensures { result ≡ begins_easy body.now }
+{
+    matches!(body, [b'e', ..])
+}
+
+/// Whether a body is one `easy` hint, without a line end.
+fn is_one_group(body: &[u8]) -> bool
+    ensures { result ≡ is_one_group body.now }
+{
+    begins_easy(body) && line_count(body) == 0
+}
+
+/// Whether a body has more hints and items than one request may try.
+pub(crate) fn has_many_hints(body: &[u8]) -> bool
+    ensures { result ≡ has_many_hints body.now }
+{
+    !is_one_group(body) && mark_count(body) > MOST_MARKS
 }
 
 /// The answer to hints that are tried over the office on these terms.

@@ -12,7 +12,7 @@ use Rattle.office_http_requests.specs.Routes.{route_of}
 use Rattle.office_http_requests.specs.declared.routes.Route.{Route}
 use Rattle.office_http_requests.specs.declared.routes.Route.TheVariants as route
 use Rattle.office_http_requests.specs.declared.reply.Refusal.{Refusal}
-use Rattle.office_http_requests.specs.declared.reply.Refusal.TheVariants.{NoMessage, NoRoute, OnlyGet, OnlyPost, OtherOrigin}
+use Rattle.office_http_requests.specs.declared.reply.Refusal.TheVariants.{BadRequest, NoMessage, NoRoute, OnlyGet, OnlyPost, OtherOrigin}
 use Rattle.office_http_requests.specs.declared.request.Framing.{Framing}
 use Rattle.office_http_requests.specs.declared.request.Action.{Action}
 use Rattle.office_http_requests.specs.declared.request.Action.TheVariants.{Deliver, DeliverOf, Look, Settle, Try, TryOn}
@@ -21,7 +21,7 @@ use Rattle.office_http_requests.specs.declared.request.Page.TheVariants.{Bag, Le
 use Rattle.office_http_requests.specs.declared.request.Posted.{Posted}
 use Rattle.office_http_requests.specs.declared.request.Asked.{Asked}
 use Rattle.office_http_requests.specs.declared.request.Asked.TheVariants.{Refused, Tell, Post}
-use Rattle.office_http_requests.specs.Asked.{framing_of, post_framed, post_asked, tell_asked, asked_at, asked_by, asked_of, bag_by, letter_by, numbered_asked, path_of, plain_number, sender_place, slash_at}
+use Rattle.office_http_requests.specs.Asked.{framing_of, post_framed, post_asked, tell_asked, asked_at, asked_by, asked_of, bag_by, letter_by, names_host, numbered_asked, path_of, plain_number, sender_place, slash_at}
 
 -- whether a POST is asked for
 abbrev is_post : Asked → Bool
@@ -93,7 +93,10 @@ no_asked setup (Some route.ProposeFor) method path minor framing h = no_or (λ (
 pub foreign_asks : (setup : Lists) (head : RequestHead) (p : Posted) → (framing_of (map name_and_value head.fields)).foreign ≡ true → asked_of setup head ≢ Post p
 unfolding asked_of asked_by
 foreign_asks setup head p h e =
-    let none : is_post (asked_of setup head) ≡ false = no_asked setup (route_of (path_of head.target)) head.method (path_of head.target) head.minor (framing_of (map name_and_value head.fields)) h in
+    let framing = framing_of (map name_and_value head.fields) in
+    let none : is_post (asked_of setup head) ≡ false =
+    if_none (names_host head.minor framing.hosts) (asked_at setup (route_of (path_of head.target)) head.method (path_of head.target) head.minor framing) BadRequest
+    (no_asked setup (route_of (path_of head.target)) head.method (path_of head.target) head.minor framing h) in
     let some : is_post (asked_of setup head) ≡ true = ap is_post e in
     absurd (cc (none, some))
 

@@ -7,7 +7,9 @@ use Rattle.std.specs.Str.Parse.{digits_value}
 use Rattle.office_http_requests.specs.declared.request.Stated.{Stated}
 use Rattle.office_http_requests.specs.declared.request.Stated.TheVariants.{Absent, Bad, TooLong, Exactly}
 use Rattle.office_http_requests.specs.declared.request.Framing.{Framing}
-use Rattle.office_http_requests.specs.Asked.{Line, values_named, are_digits, number_stated, stated, is_there, is_continue, is_foreign_site, with_value, with_field, framing_of}
+use Rattle.office_http_requests.specs.declared.request.HostFields.{HostFields}
+use Rattle.office_http_requests.specs.declared.request.HostFields.TheVariants.{NoHost}
+use Rattle.office_http_requests.specs.Asked.{Line, values_named, are_digits, number_stated, stated, is_there, is_continue, is_foreign_site, hosts_stated, with_host, with_value, with_field, framing_of}
 
 -- the value of a field that has the name, or none
 value_if : List ℕ → Line → List (List ℕ)
@@ -61,7 +63,7 @@ append_none : (vs : List (List ℕ)) → vs ++ [] ≡ vs
 append_none [] = refl
 append_none (v ∷ vs) = ap (λ (l : List (List ℕ)). v ∷ l) (append_none vs)
 
--- the four parts, by whether the field has the name
+-- the five parts, by whether the field has the name
 length_is : (b : Bool) (vs : List (List ℕ)) (v : List ℕ) → stated (vs ++ cond b (v ∷ []) []) ≡ cond b (with_value (stated vs) v) (stated vs)
 length_is true vs v = stated_more vs v
 length_is false vs v = ap stated (append_none vs)
@@ -87,8 +89,17 @@ either_is true d x y = refl
 either_is false true x y = or_true x
 either_is false false x y = refl
 
-said : Stated → Bool → Bool → Bool → Framing
-said length coded waits foreign = record { length = length; coded = coded; waits = waits; foreign = foreign }
+hosts_more : (vs : List (List ℕ)) (v : List ℕ) → hosts_stated (vs ++ v ∷ []) ≡ with_host (hosts_stated vs)
+hosts_more [] v = refl
+hosts_more (x ∷ []) v = refl
+hosts_more (x ∷ y ∷ vs) v = refl
+
+hosts_is : (b : Bool) (vs : List (List ℕ)) (v : List ℕ) → hosts_stated (vs ++ cond b (v ∷ []) []) ≡ cond b (with_host (hosts_stated vs)) (hosts_stated vs)
+hosts_is true vs v = hosts_more vs v
+hosts_is false vs v = ap hosts_stated (append_none vs)
+
+said : Stated → Bool → Bool → Bool → HostFields → Framing
+said length coded waits foreign hosts = record { length = length; coded = coded; waits = waits; foreign = foreign; hosts = hosts }
 
 -- one more field
 pub framing-more : (lines : List Line) (line : Line) → framing_of (lines ++ line ∷ []) ≡ with_field (framing_of lines) line
@@ -99,6 +110,7 @@ framing-more lines line =
     let ex : List ℕ = codes "expect" in
     let og : List ℕ = codes "origin" in
     let sf : List ℕ = codes "sec-fetch-site" in
+    let ho : List ℕ = codes "host" in
     let more : List Line = lines ++ line ∷ [] in
     let length : stated (values_named cl more) ≡ cond (str_eq_ignore_ascii_case line.0 cl) (with_value (stated (values_named cl lines)) line.1) (stated (values_named cl lines))
     = ap stated (values-more cl lines line) ∙ length_is (str_eq_ignore_ascii_case line.0 cl) (values_named cl lines) line.1 in
@@ -114,13 +126,18 @@ framing-more lines line =
     = ap (λ b. b || list_any is_foreign_site (values_named sf more)) origin
     ∙ ap (λ b. cond (str_eq_ignore_ascii_case line.0 og) true (is_there (values_named og lines)) || b) site
     ∙ either_is (str_eq_ignore_ascii_case line.0 og) (str_eq_ignore_ascii_case line.0 sf && is_foreign_site line.1) (is_there (values_named og lines)) (list_any is_foreign_site (values_named sf lines)) in
+    let hosts : hosts_stated (values_named ho more) ≡ cond (str_eq_ignore_ascii_case line.0 ho) (with_host (hosts_stated (values_named ho lines))) (hosts_stated (values_named ho lines))
+    = ap hosts_stated (values-more ho lines line) ∙ hosts_is (str_eq_ignore_ascii_case line.0 ho) (values_named ho lines) line.1 in
     let length_now : Stated = cond (str_eq_ignore_ascii_case line.0 cl) (with_value (stated (values_named cl lines)) line.1) (stated (values_named cl lines)) in
     let coded_now : Bool = cond (str_eq_ignore_ascii_case line.0 te) true (is_there (values_named te lines)) in
     let waits_now : Bool = cond (str_eq_ignore_ascii_case line.0 ex && is_continue line.1) true (list_any is_continue (values_named ex lines)) in
-    ap (λ s. said s (is_there (values_named te more)) (list_any is_continue (values_named ex more)) (is_there (values_named og more) || list_any is_foreign_site (values_named sf more))) length
-    ∙ ap (λ b. said length_now b (list_any is_continue (values_named ex more)) (is_there (values_named og more) || list_any is_foreign_site (values_named sf more))) coded
-    ∙ ap (λ b. said length_now coded_now b (is_there (values_named og more) || list_any is_foreign_site (values_named sf more))) waits
-    ∙ ap (λ b. said length_now coded_now waits_now b) foreign
+    let foreign_now : Bool = cond (str_eq_ignore_ascii_case line.0 og) true (cond (str_eq_ignore_ascii_case line.0 sf && is_foreign_site line.1) true (is_there (values_named og lines) || list_any is_foreign_site (values_named sf lines))) in
+    let named_now : HostFields = hosts_stated (values_named ho more) in
+    ap (λ s. said s (is_there (values_named te more)) (list_any is_continue (values_named ex more)) (is_there (values_named og more) || list_any is_foreign_site (values_named sf more)) named_now) length
+    ∙ ap (λ b. said length_now b (list_any is_continue (values_named ex more)) (is_there (values_named og more) || list_any is_foreign_site (values_named sf more)) named_now) coded
+    ∙ ap (λ b. said length_now coded_now b (is_there (values_named og more) || list_any is_foreign_site (values_named sf more)) named_now) waits
+    ∙ ap (λ b. said length_now coded_now waits_now b named_now) foreign
+    ∙ ap (λ h. said length_now coded_now waits_now foreign_now h) hosts
 
 -- the fields up to a place, and one more
 pub framing_next : {A : Type 0} (f : A → Line) (xs : List A) (i : ℕ) (d : A) → i < length xs → framing_of (map f (take (i + 1) xs)) ≡ with_field (framing_of (map f (take i xs))) (f (get_or xs i d))
@@ -129,6 +146,6 @@ framing_next f xs i d h =
     ∙ ap framing_of (map-append f (take i xs) (get_or xs i d ∷ []))
     ∙ framing-more (map f (take i xs)) (f (get_or xs i d))
 
-pub framing_none : ◌≡◌ {A = Framing} (record { length = Absent; coded = false; waits = false; foreign = false }) (framing_of [])
+pub framing_none : ◌≡◌ {A = Framing} (record { length = Absent; coded = false; waits = false; foreign = false; hosts = NoHost }) (framing_of [])
 unfolding framing_of
 framing_none = refl

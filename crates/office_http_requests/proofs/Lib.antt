@@ -2,6 +2,7 @@ pub mod DayFacts
 pub mod ForeignFacts
 pub mod FramingFacts
 pub mod HeadFacts
+pub mod HostFacts
 pub mod LengthFacts
 pub mod RequestFacts
 pub mod RouteFacts

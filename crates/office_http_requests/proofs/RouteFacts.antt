@@ -11,9 +11,11 @@ use Rattle.matchit.specs.Rows.{RowsOf, param_token, catch_all_token}
 use Rattle.matchit.specs.Router.{RouteOf}
 use Rattle.matchit.specs.Seek.{own, step, or_else, param_step, seek}
 use Rattle.office_mail.specs.Lists.{Lists}
-use Rattle.office_http_requests.specs.Asked.{asked_at, asked_by, asked_by_table, asked_of, framing_of, path_of, post_asked, tell_asked}
+use Rattle.office_http_requests.specs.Asked.{asked_at, asked_by, asked_by_table, asked_of, framing_of, is_hosted, path_of, post_asked, tell_asked}
 use Rattle.office_http_requests.specs.Routes.{IsBeside, new_fronts, new_paths, office_routes, six_routes, ten_routes, twelve_routes, route_in, route_of, plain, with_letter, with_name}
+use Rattle.office_http_requests.specs.declared.reply.Refusal.TheVariants.{BadRequest}
 use Rattle.office_http_requests.specs.declared.request.Action.TheVariants.{Look, Try}
+use Rattle.office_http_requests.specs.declared.request.Asked.TheVariants.{Refused}
 use Rattle.office_http_requests.specs.declared.request.Page.TheVariants.{Waiting, Runs, Kept, Hints, Unstable, Propose}
 use Rattle.office_http_requests.specs.declared.routes.Route.{Route}
 use Rattle.office_http_requests.specs.declared.routes.Route.TheVariants as route
@@ -233,53 +235,66 @@ six_answer path waiting runs kept below =
 by_route : (setup : Lists) (head : RequestHead) (o p : Option Route) → o ≡ p → asked_at setup o head.method (path_of head.target) head.minor (framing_of (map name_and_value head.fields)) ≡ asked_at setup p head.method (path_of head.target) head.minor (framing_of (map name_and_value head.fields))
 by_route setup head o p same = ap (λ (o : Option Route). asked_at setup o head.method (path_of head.target) head.minor (framing_of (map name_and_value head.fields))) same
 
-pub newer_stay : (setup : Lists) (head : RequestHead) → IsBeside new_paths new_fronts (path_of head.target) → asked_of setup head ≡ asked_by_table twelve_routes setup head
+-- a head that names its host is routed
+hosted_asks : (setup : Lists) (head : RequestHead) → is_hosted head ≡ true → asked_of setup head ≡ asked_at setup (route_of (path_of head.target)) head.method (path_of head.target) head.minor (framing_of (map name_and_value head.fields))
 unfolding asked_of asked_by
-newer_stay setup head beside = by_route setup head (route_of (path_of head.target)) (route_in twelve_routes (path_of head.target)) (twelve_answer (path_of head.target) beside)
+hosted_asks setup head hosted =
+    ap (λ (b : Bool). cond b (asked_at setup (route_of (path_of head.target)) head.method (path_of head.target) head.minor (framing_of (map name_and_value head.fields))) (Refused BadRequest)) hosted
 
-pub later_stay : (setup : Lists) (head : RequestHead) → IsBeside new_paths new_fronts (path_of head.target) → path_of head.target ≢ codes "/try" → ((rest : List ℕ) → path_of head.target ≢ codes "/why/" ++ rest) → asked_of setup head ≡ asked_by_table ten_routes setup head
-later_stay setup head beside other below =
-    newer_stay setup head beside
+pub misaddressed : (setup : Lists) (head : RequestHead) → is_hosted head ≡ false → asked_of setup head ≡ Refused BadRequest
+unfolding asked_of asked_by
+misaddressed setup head lost =
+    ap (λ (b : Bool). cond b (asked_at setup (route_of (path_of head.target)) head.method (path_of head.target) head.minor (framing_of (map name_and_value head.fields))) (Refused BadRequest)) lost
+
+pub newer_stay : (setup : Lists) (head : RequestHead) → is_hosted head ≡ true → IsBeside new_paths new_fronts (path_of head.target) → asked_of setup head ≡ asked_by_table twelve_routes setup head
+newer_stay setup head hosted beside =
+    hosted_asks setup head hosted
+    ∙ by_route setup head (route_of (path_of head.target)) (route_in twelve_routes (path_of head.target)) (twelve_answer (path_of head.target) beside)
+
+pub later_stay : (setup : Lists) (head : RequestHead) → is_hosted head ≡ true → IsBeside new_paths new_fronts (path_of head.target) → path_of head.target ≢ codes "/try" → ((rest : List ℕ) → path_of head.target ≢ codes "/why/" ++ rest) → asked_of setup head ≡ asked_by_table ten_routes setup head
+later_stay setup head hosted beside other below =
+    newer_stay setup head hosted beside
     ∙ by_route setup head (route_in twelve_routes (path_of head.target)) (route_in ten_routes (path_of head.target)) (ten_answer (path_of head.target) other below)
 
-pub others_stay : (setup : Lists) (head : RequestHead) → IsBeside new_paths new_fronts (path_of head.target) → path_of head.target ≢ codes "/waiting" → path_of head.target ≢ codes "/runs" → path_of head.target ≢ codes "/kept" → ((rest : List ℕ) → path_of head.target ≢ codes "/kept/" ++ rest)
+pub others_stay : (setup : Lists) (head : RequestHead) → is_hosted head ≡ true → IsBeside new_paths new_fronts (path_of head.target) → path_of head.target ≢ codes "/waiting" → path_of head.target ≢ codes "/runs" → path_of head.target ≢ codes "/kept" → ((rest : List ℕ) → path_of head.target ≢ codes "/kept/" ++ rest)
     → path_of head.target ≢ codes "/try" → ((rest : List ℕ) → path_of head.target ≢ codes "/why/" ++ rest) → asked_of setup head ≡ asked_by_table six_routes setup head
-others_stay setup head beside waiting runs kept below other sources =
-    later_stay setup head beside other sources
+others_stay setup head hosted beside waiting runs kept below other sources =
+    later_stay setup head hosted beside other sources
     ∙ by_route setup head (route_in ten_routes (path_of head.target)) (route_in six_routes (path_of head.target)) (six_answer (path_of head.target) waiting runs kept below)
 
-told_at : (setup : Lists) (head : RequestHead) (path : List ℕ) → path_of head.target ≡ path → asked_of setup head ≡ asked_at setup (route_of path) head.method path head.minor (framing_of (map name_and_value head.fields))
-unfolding asked_of asked_by
-told_at setup head path e = ap (λ (path : List ℕ). asked_at setup (route_of path) head.method path head.minor (framing_of (map name_and_value head.fields))) e
+told_at : (setup : Lists) (head : RequestHead) (path : List ℕ) → is_hosted head ≡ true → path_of head.target ≡ path → asked_of setup head ≡ asked_at setup (route_of path) head.method path head.minor (framing_of (map name_and_value head.fields))
+told_at setup head path hosted e =
+    hosted_asks setup head hosted
+    ∙ ap (λ (path : List ℕ). asked_at setup (route_of path) head.method path head.minor (framing_of (map name_and_value head.fields))) e
 
-pub waiting_told : (setup : Lists) (head : RequestHead) → path_of head.target ≡ codes "/waiting" → asked_of setup head ≡ tell_asked Waiting head.method
+pub waiting_told : (setup : Lists) (head : RequestHead) → is_hosted head ≡ true → path_of head.target ≡ codes "/waiting" → asked_of setup head ≡ tell_asked Waiting head.method
 unfolding office_routes matchit_on_literals
-waiting_told setup head e = told_at setup head (codes "/waiting") e
+waiting_told setup head hosted e = told_at setup head (codes "/waiting") hosted e
 
-pub runs_told : (setup : Lists) (head : RequestHead) → path_of head.target ≡ codes "/runs" → asked_of setup head ≡ tell_asked Runs head.method
+pub runs_told : (setup : Lists) (head : RequestHead) → is_hosted head ≡ true → path_of head.target ≡ codes "/runs" → asked_of setup head ≡ tell_asked Runs head.method
 unfolding office_routes matchit_on_literals
-runs_told setup head e = told_at setup head (codes "/runs") e
+runs_told setup head hosted e = told_at setup head (codes "/runs") hosted e
 
-pub kept_told : (setup : Lists) (head : RequestHead) → path_of head.target ≡ codes "/kept" → asked_of setup head ≡ tell_asked Kept head.method
+pub kept_told : (setup : Lists) (head : RequestHead) → is_hosted head ≡ true → path_of head.target ≡ codes "/kept" → asked_of setup head ≡ tell_asked Kept head.method
 unfolding office_routes matchit_on_literals
-kept_told setup head e = told_at setup head (codes "/kept") e
+kept_told setup head hosted e = told_at setup head (codes "/kept") hosted e
 
-pub try_told : (setup : Lists) (head : RequestHead) → path_of head.target ≡ codes "/try" → asked_of setup head ≡ post_asked Try head.method head.minor (framing_of (map name_and_value head.fields))
+pub try_told : (setup : Lists) (head : RequestHead) → is_hosted head ≡ true → path_of head.target ≡ codes "/try" → asked_of setup head ≡ post_asked Try head.method head.minor (framing_of (map name_and_value head.fields))
 unfolding office_routes matchit_on_literals
-try_told setup head e = told_at setup head (codes "/try") e
+try_told setup head hosted e = told_at setup head (codes "/try") hosted e
 
-pub hints_told : (setup : Lists) (head : RequestHead) → path_of head.target ≡ codes "/hints" → asked_of setup head ≡ tell_asked Hints head.method
+pub hints_told : (setup : Lists) (head : RequestHead) → is_hosted head ≡ true → path_of head.target ≡ codes "/hints" → asked_of setup head ≡ tell_asked Hints head.method
 unfolding office_routes matchit_on_literals
-hints_told setup head e = told_at setup head (codes "/hints") e
+hints_told setup head hosted e = told_at setup head (codes "/hints") hosted e
 
-pub unstable_told : (setup : Lists) (head : RequestHead) → path_of head.target ≡ codes "/unstable" → asked_of setup head ≡ tell_asked Unstable head.method
+pub unstable_told : (setup : Lists) (head : RequestHead) → is_hosted head ≡ true → path_of head.target ≡ codes "/unstable" → asked_of setup head ≡ tell_asked Unstable head.method
 unfolding office_routes matchit_on_literals
-unstable_told setup head e = told_at setup head (codes "/unstable") e
+unstable_told setup head hosted e = told_at setup head (codes "/unstable") hosted e
 
-pub propose_told : (setup : Lists) (head : RequestHead) → path_of head.target ≡ codes "/propose" → asked_of setup head ≡ tell_asked Propose head.method
+pub propose_told : (setup : Lists) (head : RequestHead) → is_hosted head ≡ true → path_of head.target ≡ codes "/propose" → asked_of setup head ≡ tell_asked Propose head.method
 unfolding office_routes matchit_on_literals
-propose_told setup head e = told_at setup head (codes "/propose") e
+propose_told setup head hosted e = told_at setup head (codes "/propose") hosted e
 
-pub lint_told : (setup : Lists) (head : RequestHead) → path_of head.target ≡ codes "/lint" → asked_of setup head ≡ post_asked Look head.method head.minor (framing_of (map name_and_value head.fields))
+pub lint_told : (setup : Lists) (head : RequestHead) → is_hosted head ≡ true → path_of head.target ≡ codes "/lint" → asked_of setup head ≡ post_asked Look head.method head.minor (framing_of (map name_and_value head.fields))
 unfolding office_routes matchit_on_literals
-lint_told setup head e = told_at setup head (codes "/lint") e
+lint_told setup head hosted e = told_at setup head (codes "/lint") hosted e

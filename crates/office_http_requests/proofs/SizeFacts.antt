@@ -13,7 +13,7 @@ use Rattle.office_http_requests.specs.Routes.{route_of}
 use Rattle.office_http_requests.specs.declared.routes.Route.{Route}
 use Rattle.office_http_requests.specs.declared.routes.Route.TheVariants as route
 use Rattle.office_http_requests.specs.declared.reply.Refusal.{Refusal}
-use Rattle.office_http_requests.specs.declared.reply.Refusal.TheVariants.{NoMessage, NoRoute, OnlyGet, OnlyPost, OtherOrigin}
+use Rattle.office_http_requests.specs.declared.reply.Refusal.TheVariants.{BadRequest, NoMessage, NoRoute, OnlyGet, OnlyPost, OtherOrigin}
 use Rattle.office_http_requests.specs.declared.request.Stated.{Stated}
 use Rattle.office_http_requests.specs.declared.request.Stated.TheVariants.{Absent, Bad, TooLong, Exactly}
 use Rattle.office_http_requests.specs.declared.request.Framing.{Framing}
@@ -23,7 +23,7 @@ use Rattle.office_http_requests.specs.declared.request.Page.{Page}
 use Rattle.office_http_requests.specs.declared.request.Page.TheVariants.{Status, Testing, Excuses, Update, Waiting, Runs, Kept, Bag, Why, Order, Hints, Unstable, Propose, ProposeFor}
 use Rattle.office_http_requests.specs.declared.request.Asked.{Asked}
 use Rattle.office_http_requests.specs.declared.request.Asked.TheVariants.{Refused, Tell}
-use Rattle.office_http_requests.specs.Asked.{Line, are_digits, number_stated, stated, values_named, framing_of, posted_length, posted_by, post_framed, post_asked, tell_asked, asked_at, asked_by, asked_of, bag_by, letter_by, numbered_asked, path_of, plain_number, sender_place, slash_at, body_size}
+use Rattle.office_http_requests.specs.Asked.{Line, are_digits, number_stated, stated, values_named, framing_of, posted_length, posted_by, post_framed, post_asked, tell_asked, asked_at, asked_by, asked_of, bag_by, letter_by, names_host, numbered_asked, path_of, plain_number, sender_place, slash_at, body_size}
 use Rattle.office_http_requests.specs.Request.{body_room}
 
 abbrev stated_size : Stated → ℕ
@@ -129,4 +129,7 @@ asked_fits setup (Some route.ProposeFor) method path minor framing h = or_fits (
 -- no body that is read is longer than 65,536 bytes
 pub body_fits : (setup : Lists) (head : RequestHead) → body_size (asked_of setup head) ≤ body_room
 unfolding asked_of asked_by
-body_fits setup head = asked_fits setup (route_of (path_of head.target)) head.method (path_of head.target) head.minor (framing_of (map name_and_value head.fields)) (framing_fits (map name_and_value head.fields))
+body_fits setup head =
+    let framing = framing_of (map name_and_value head.fields) in
+    if_fits (names_host head.minor framing.hosts) (asked_at setup (route_of (path_of head.target)) head.method (path_of head.target) head.minor framing) BadRequest
+    (asked_fits setup (route_of (path_of head.target)) head.method (path_of head.target) head.minor framing (framing_fits (map name_and_value head.fields)))

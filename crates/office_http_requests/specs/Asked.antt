@@ -23,6 +23,8 @@ use Rattle.office_http_requests.specs.declared.reply.Refusal.TheVariants as refu
 use Rattle.office_http_requests.specs.declared.request.Stated.{Stated}
 use Rattle.office_http_requests.specs.declared.request.Stated.TheVariants.{Absent, Bad, TooLong, Exactly}
 use Rattle.office_http_requests.specs.declared.request.Framing.{Framing}
+use Rattle.office_http_requests.specs.declared.request.HostFields.{HostFields}
+use Rattle.office_http_requests.specs.declared.request.HostFields.TheVariants.{NoHost, OneHost, SeveralHosts}
 use Rattle.office_http_requests.specs.declared.request.Action.{Action}
 use Rattle.office_http_requests.specs.declared.request.Action.TheVariants.{Deliver, DeliverOf, Look, Settle, Try, TryOn}
 use Rattle.office_http_requests.specs.declared.request.Page.{Page}
@@ -77,13 +79,20 @@ is_foreign_site value = not (bytes_eq value (codes "none")) && not (bytes_eq val
 abbrev pub is_foreign : List Line → Bool
 is_foreign lines = is_there (values_named (codes "origin") lines) || list_any is_foreign_site (values_named (codes "sec-fetch-site") lines)
 
--- what the fields say of the body, and of the page that sends it
+-- how many values of Host there are
+abbrev pub hosts_stated : List (List ℕ) → HostFields
+hosts_stated [] = NoHost
+hosts_stated (value ∷ []) = OneHost
+hosts_stated (value ∷ another ∷ values) = SeveralHosts
+
+-- what the fields say of the body, of the page that sends it, and of the host
 unfoldable pub framing_of : List Line → Framing
 framing_of lines = record {
   length = stated (values_named (codes "content-length") lines);
   coded = is_there (values_named (codes "transfer-encoding") lines);
   waits = list_any is_continue (values_named (codes "expect") lines);
   foreign = is_foreign lines;
+  hosts = hosts_stated (values_named (codes "host") lines);
 }
 
 -- the same with one more value, and with one more field: no public contract cites these
@@ -103,12 +112,21 @@ abbrev pub foreign_with : Bool → Line → Bool
 foreign_with foreign line =
     if str_eq_ignore_ascii_case line.0 (codes "origin") then true else (if str_eq_ignore_ascii_case line.0 (codes "sec-fetch-site") && is_foreign_site line.1 then true else foreign)
 
+abbrev pub with_host : HostFields → HostFields
+with_host NoHost = OneHost
+with_host OneHost = SeveralHosts
+with_host SeveralHosts = SeveralHosts
+
+abbrev pub hosts_with : HostFields → Line → HostFields
+hosts_with hosts line = if str_eq_ignore_ascii_case line.0 (codes "host") then with_host hosts else hosts
+
 abbrev pub with_field : Framing → Line → Framing
 with_field framing line = record {
   length = length_with framing.length line;
   coded = if str_eq_ignore_ascii_case line.0 (codes "transfer-encoding") then true else framing.coded;
   waits = waits_with framing.waits line;
   foreign = foreign_with framing.foreign line;
+  hosts = hosts_with framing.hosts line;
 }
 
 -- the target up to its query
@@ -228,15 +246,26 @@ asked_at setup (Some route.Excuses) method path minor framing = tell_asked (Excu
 asked_at setup (Some route.Update) method path minor framing = tell_asked (Update (plain_number (drop 8 path))) method
 asked_at setup (Some added) method path minor framing = added_asked setup added method path minor framing
 
-unfoldable pub asked_by : Lists → List ℕ → List ℕ → ℕ → Framing → Asked
-asked_by setup method target minor framing = asked_at setup (route_of (path_of target)) method (path_of target) minor framing
+-- a head names its host once; by HTTP/1.0 it may leave it out (RFC 9112, section 3.2)
+abbrev pub names_host : ℕ → HostFields → Bool
+names_host minor NoHost = minor == 0
+names_host minor OneHost = true
+names_host minor SeveralHosts = false
 
--- What a head asks for of an office with this setup: its path is routed; then its method counts, and what its fields
--- say of the body.
+unfoldable pub asked_by : Lists → List ℕ → List ℕ → ℕ → Framing → Asked
+asked_by setup method target minor framing =
+    if names_host minor framing.hosts then asked_at setup (route_of (path_of target)) method (path_of target) minor framing else Refused BadRequest
+
+-- What a head asks for of an office with this setup: its host is named, its path is routed, then come its method and what
+-- its fields say of the body.
 unfoldable pub asked_of : Lists → RequestHead → Asked
 asked_of setup head = asked_by setup head.method head.target head.minor (framing_of (map name_and_value head.fields))
 
--- the same with another table of routes
+-- the head names its host as it should
+abbrev pub is_hosted : RequestHead → Bool
+is_hosted head = names_host head.minor (framing_of (map name_and_value head.fields)).hosts
+
+-- the same of such a head, by another table of routes
 abbrev pub asked_by_table : RowsOf (RouteOf Route) → Lists → RequestHead → Asked
 asked_by_table routes setup head = asked_at setup (route_in routes (path_of head.target)) head.method (path_of head.target) head.minor (framing_of (map name_and_value head.fields))
 

@@ -1,4 +1,5 @@
 pub mod Asked
+pub mod Hosts
 pub mod Reply
 pub mod Request
 pub mod RequestSteps

@@ -4,9 +4,9 @@ ghost use Rattle.std.specs.Str.{bytes_eq};
 ghost use Rattle.httparse.specs.Grammar.{RequestHead};
 ghost use Rattle.httparse.specs.Spans.{name_and_value};
 ghost use Rattle.office_mail.specs.Lists.{Lists};
-ghost use Rattle.office_http_requests.specs.Asked.{asked_by_table, asked_of, framing_of, path_of, post_asked, post_framed, tell_asked};
+ghost use Rattle.office_http_requests.specs.Asked.{asked_by_table, asked_of, framing_of, is_hosted, path_of, post_asked, post_framed, tell_asked};
 ghost use Rattle.office_http_requests.specs.Routes.{IsBeside, new_fronts, new_paths, six_routes, ten_routes, twelve_routes};
-ghost use Rattle.office_http_requests.specs.declared.reply.Refusal.TheVariants.{OnlyPost};
+ghost use Rattle.office_http_requests.specs.declared.reply.Refusal.TheVariants.{BadRequest, OnlyPost};
 ghost use Rattle.office_http_requests.specs.declared.request.Action.{Action};
 ghost use Rattle.office_http_requests.specs.declared.request.Action.TheVariants.{Look, Try};
 ghost use Rattle.office_http_requests.specs.declared.request.Asked.TheVariants.{Post, Refused};
@@ -14,28 +14,31 @@ ghost use Rattle.office_http_requests.specs.declared.request.Framing.{Framing};
 ghost use Rattle.office_http_requests.specs.declared.request.Page.TheVariants.{Waiting, Runs, Kept, Hints, Unstable, Propose};
 ghost use Rattle.office_http_requests.specs.declared.request.Posted.{Posted};
 
-/// The routes that came after the first six leave what the other paths ask for.
+/// The routes that came behind the first six leave what the other paths ask for, of heads that name their host as they
+/// should.
 pub fn old_requests_stay()
-    // Those after the first twelve, which are `/lint`, `/hints`, `/unstable` and `/propose`, and those below `/mail/`,
-    // `/bag/`, `/order/`, `/try/` and `/propose/`, leave what all other paths ask for.
-    ensures newer { (setup : Lists) (head : RequestHead) → IsBeside new_paths new_fronts (path_of head.target) → asked_of setup head ≡ asked_by_table twelve_routes setup head }
+    // Those behind the first twelve, which are `/lint`, `/hints`, `/unstable` and `/propose`, and those below `/mail/`, `/bag/`,
+    // `/order/`, `/try/` and `/propose/`, leave what all other paths ask for.
+    ensures newer { (setup : Lists) (head : RequestHead) → is_hosted head ≡ true → IsBeside new_paths new_fronts (path_of head.target) → asked_of setup head ≡ asked_by_table twelve_routes setup head }
     // So do `/try` and those below `/why/`.
-    ensures later { (setup : Lists) (head : RequestHead) → IsBeside new_paths new_fronts (path_of head.target) → path_of head.target ≢ codes "/try" → ((rest : List ℕ) → path_of head.target ≢ codes "/why/" ++ rest) → asked_of setup head ≡ asked_by_table ten_routes setup head }
+    ensures later { (setup : Lists) (head : RequestHead) → is_hosted head ≡ true → IsBeside new_paths new_fronts (path_of head.target) → path_of head.target ≢ codes "/try" → ((rest : List ℕ) → path_of head.target ≢ codes "/why/" ++ rest) → asked_of setup head ≡ asked_by_table ten_routes setup head }
     // So do `/waiting`, `/runs`, `/kept` and those below `/kept/`.
-    ensures others { (setup : Lists) (head : RequestHead) → IsBeside new_paths new_fronts (path_of head.target) → path_of head.target ≢ codes "/waiting" → path_of head.target ≢ codes "/runs" → path_of head.target ≢ codes "/kept" → ((rest : List ℕ) → path_of head.target ≢ codes "/kept/" ++ rest)
+    ensures others { (setup : Lists) (head : RequestHead) → is_hosted head ≡ true → IsBeside new_paths new_fronts (path_of head.target) → path_of head.target ≢ codes "/waiting" → path_of head.target ≢ codes "/runs" → path_of head.target ≢ codes "/kept" → ((rest : List ℕ) → path_of head.target ≢ codes "/kept/" ++ rest)
         → path_of head.target ≢ codes "/try" → ((rest : List ℕ) → path_of head.target ≢ codes "/why/" ++ rest) → asked_of setup head ≡ asked_by_table six_routes setup head }
     // There a GET asks what a run waits for, for the finished runs, how much mail is kept, for the hints in force, for
-    // unstable, or for hints that move groups. Other methods are refused.
-    ensures waiting { (setup : Lists) (head : RequestHead) → path_of head.target ≡ codes "/waiting" → asked_of setup head ≡ tell_asked Waiting head.method }
-    ensures runs { (setup : Lists) (head : RequestHead) → path_of head.target ≡ codes "/runs" → asked_of setup head ≡ tell_asked Runs head.method }
-    ensures kept { (setup : Lists) (head : RequestHead) → path_of head.target ≡ codes "/kept" → asked_of setup head ≡ tell_asked Kept head.method }
-    ensures in_force { (setup : Lists) (head : RequestHead) → path_of head.target ≡ codes "/hints" → asked_of setup head ≡ tell_asked Hints head.method }
-    ensures unstable { (setup : Lists) (head : RequestHead) → path_of head.target ≡ codes "/unstable" → asked_of setup head ≡ tell_asked Unstable head.method }
-    ensures proposals { (setup : Lists) (head : RequestHead) → path_of head.target ≡ codes "/propose" → asked_of setup head ≡ tell_asked Propose head.method }
+    // unstable, or for hints that move groups, and other methods are refused.
+    ensures waiting { (setup : Lists) (head : RequestHead) → is_hosted head ≡ true → path_of head.target ≡ codes "/waiting" → asked_of setup head ≡ tell_asked Waiting head.method }
+    ensures runs { (setup : Lists) (head : RequestHead) → is_hosted head ≡ true → path_of head.target ≡ codes "/runs" → asked_of setup head ≡ tell_asked Runs head.method }
+    ensures kept { (setup : Lists) (head : RequestHead) → is_hosted head ≡ true → path_of head.target ≡ codes "/kept" → asked_of setup head ≡ tell_asked Kept head.method }
+    ensures in_force { (setup : Lists) (head : RequestHead) → is_hosted head ≡ true → path_of head.target ≡ codes "/hints" → asked_of setup head ≡ tell_asked Hints head.method }
+    ensures unstable { (setup : Lists) (head : RequestHead) → is_hosted head ≡ true → path_of head.target ≡ codes "/unstable" → asked_of setup head ≡ tell_asked Unstable head.method }
+    ensures proposals { (setup : Lists) (head : RequestHead) → is_hosted head ≡ true → path_of head.target ≡ codes "/propose" → asked_of setup head ≡ tell_asked Propose head.method }
     // There a POST asks for a trial of hints, or how a delivery would be answered.
-    ensures hints { (setup : Lists) (head : RequestHead) → path_of head.target ≡ codes "/try" → asked_of setup head ≡ post_asked Try head.method head.minor (framing_of (map name_and_value head.fields)) }
-    ensures looks { (setup : Lists) (head : RequestHead) → path_of head.target ≡ codes "/lint" → asked_of setup head ≡ post_asked Look head.method head.minor (framing_of (map name_and_value head.fields)) }
-    // So does the refusal of what a page in a browser posts: without its fields a POST asks for what its body's do.
+    ensures hints { (setup : Lists) (head : RequestHead) → is_hosted head ≡ true → path_of head.target ≡ codes "/try" → asked_of setup head ≡ post_asked Try head.method head.minor (framing_of (map name_and_value head.fields)) }
+    ensures looks { (setup : Lists) (head : RequestHead) → is_hosted head ≡ true → path_of head.target ≡ codes "/lint" → asked_of setup head ≡ post_asked Look head.method head.minor (framing_of (map name_and_value head.fields)) }
+    // A head that names no host by HTTP/1.1, or several, is refused.
+    ensures hostless { (setup : Lists) (head : RequestHead) → is_hosted head ≡ false → asked_of setup head ≡ Refused BadRequest }
+    // And so does the refusal of what a page in a browser posts: without its fields a POST asks for what its body's do.
     ensures unforeign { (action : Action) (method : List ℕ) (minor : ℕ) (framing : Framing) → framing.foreign ≡ false → post_asked action method minor framing ≡ (if bytes_eq method (codes "POST") then post_framed action minor framing else Refused OnlyPost) }
 {}
 

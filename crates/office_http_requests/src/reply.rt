@@ -29,12 +29,16 @@ pub enum Refusal {
     OtherSender,
     /// A page in a browser sends the POST.
     OtherOrigin,
-    /// The path accepts only GET.
+    /// The request is for another host than the service's.
+    OtherHost,
+    /// The path takes GET alone.
     OnlyGet,
     /// The path accepts only POST.
     OnlyPost,
     LengthRequired,
     TooLong,
+    /// The body has more hints than one request may try.
+    TooManyHints,
     HeadTooLarge,
     NoMemory,
     Store,
@@ -54,10 +58,12 @@ impl Refusal {
             Refusal::NoSource => "NoSource",
             Refusal::OtherSender => "OtherSender",
             Refusal::OtherOrigin => "OtherOrigin",
+            Refusal::OtherHost => "OtherHost",
             Refusal::OnlyGet => "MethodNotAllowed",
             Refusal::OnlyPost => "MethodNotAllowed",
             Refusal::LengthRequired => "LengthRequired",
             Refusal::TooLong => "TooLong",
+            Refusal::TooManyHints => "TooManyHints",
             Refusal::HeadTooLarge => "HeadTooLarge",
             Refusal::NoMemory => "NoMemory",
             Refusal::Store => "Store",
@@ -76,10 +82,12 @@ impl Refusal {
             Refusal::NoSource => StatusCode::NOT_FOUND,
             Refusal::OtherSender => StatusCode::FORBIDDEN,
             Refusal::OtherOrigin => StatusCode::FORBIDDEN,
+            Refusal::OtherHost => StatusCode::FORBIDDEN,
             Refusal::OnlyGet => StatusCode::METHOD_NOT_ALLOWED,
             Refusal::OnlyPost => StatusCode::METHOD_NOT_ALLOWED,
             Refusal::LengthRequired => StatusCode::LENGTH_REQUIRED,
             Refusal::TooLong => StatusCode::PAYLOAD_TOO_LARGE,
+            Refusal::TooManyHints => StatusCode::PAYLOAD_TOO_LARGE,
             Refusal::HeadTooLarge => StatusCode::REQUEST_HEADER_FIELDS_TOO_LARGE,
             Refusal::NoMemory => StatusCode::SERVICE_UNAVAILABLE,
             Refusal::Store => StatusCode::INTERNAL_SERVER_ERROR,

@@ -5,7 +5,7 @@ ghost use Rattle.std.specs.List.{list_all, position, before_first};
 ghost use Rattle.std.specs.Str.{str_eq_ignore_ascii_case, bytes_eq};
 ghost use Rattle.httparse.specs.Grammar.{RequestHead};
 ghost use Rattle.httparse.specs.Spans.{IsHeaderWithin, IsRequestWithin, IsRequestAt, header_bytes};
-ghost use Rattle.office_http_requests.specs.Asked.{are_digits, number_under, number_stated, with_value, length_with, waits_with, is_foreign_site, foreign_with, with_field, framing_of, is_query, path_of, has_leading_zero, number_or_zero, plain_number, absent_length, posted_length, post_asked, tell_asked, asked_at, asked_by, asked_of, is_head_method};
+ghost use Rattle.office_http_requests.specs.Asked.{are_digits, number_under, number_stated, with_value, length_with, waits_with, is_foreign_site, foreign_with, with_host, with_field, framing_of, is_query, path_of, has_leading_zero, number_or_zero, plain_number, absent_length, posted_length, post_asked, tell_asked, asked_at, names_host, asked_by, asked_of, is_head_method};
 ghost use Rattle.office_http_requests.specs.Routes.{office_routes, route_of};
 ghost use Rattle.office_http_requests.specs.Request.{field_room};
 
@@ -35,8 +35,16 @@ pub enum Stated {
     Exactly(u32),
 }
 
-/// What the fields of a head say of the body (RFC 9110, sections 8.6 and 10.1.1; RFC 9112, section 6.1), and of the page
-/// that sends it (Fetch, section 3.2; Fetch Metadata Request Headers, section 2.3).
+/// How many fields name the host.
+#[derive(Clone, Copy, Debug, PartialEq, Eq)]
+pub enum HostFields {
+    NoHost,
+    OneHost,
+    SeveralHosts,
+}
+
+/// What the fields of a head say of the body (RFC 9110, sections 8.6 and 10.1.1; RFC 9112, section 6.1), of the page that
+/// sends it (Fetch, section 3.2; Fetch Metadata Request Headers, section 2.3), and of the host (RFC 9112, section 3.2).
 #[derive(Clone, Copy, Debug, PartialEq, Eq)]
 pub struct Framing {
     pub length: Stated,
@@ -46,6 +54,7 @@ pub struct Framing {
     pub waits: bool,
     /// A page in a browser sends it.
     pub foreign: bool,
+    pub hosts: HostFields,
 }
 
 /// What a POST is for.
@@ -166,8 +175,8 @@ fn with_value(stated: Stated, value: &[u8]) -> Stated
     }
 }
 
-/// Whether two words are the same except for the case of letters.
-fn is_word(word: &[u8], other: &[u8]) -> bool
+/// Whether two words are the same but for the case of letters.
+pub(crate) fn is_word(word: &[u8], other: &[u8]) -> bool
     ensures { result ≡ str_eq_ignore_ascii_case word.now other.now }
 {
     word.eq_ignore_ascii_case(other)
@@ -226,7 +235,22 @@ fn foreign_with(foreign: bool, name: &[u8], value: &[u8]) -> bool
     }
 }
 
-/// What is said with one more field.
+/// How many fields name the host, where one more field stands there.
+fn hosts_with(hosts: HostFields, name: &[u8]) -> HostFields
+    ensures { result ≡ (if str_eq_ignore_ascii_case name.now (codes "host") then with_host hosts else hosts) }
+{
+    if is_word(name, b"host") {
+        match hosts {
+            HostFields::NoHost => HostFields::OneHost,
+            HostFields::OneHost => HostFields::SeveralHosts,
+            HostFields::SeveralHosts => HostFields::SeveralHosts,
+        }
+    } else {
+        hosts
+    }
+}
+
+/// What is said where one more field stands there.
 fn with_field(framing: Framing, name: &[u8], value: &[u8]) -> Framing
     ensures { result ≡ with_field framing (name.now, value.now) }
 {
@@ -235,6 +259,7 @@ fn with_field(framing: Framing, name: &[u8], value: &[u8]) -> Framing
         coded: coded_with(framing.coded, name),
         waits: waits_with(framing.waits, name, value),
         foreign: foreign_with(framing.foreign, name, value),
+        hosts: hosts_with(framing.hosts, name),
     }
 }
 
@@ -248,6 +273,7 @@ fn framing_of(seen: &[u8], headers: &[HeaderSpan]) -> Framing
         coded: false,
         waits: false,
         foreign: false,
+        hosts: HostFields::NoHost,
     };
     for header in headers {
         framing = with_field(framing, header.name.of(seen), header.value.of(seen));
@@ -429,7 +455,18 @@ fn asked_at(
     }
 }
 
-/// What is asked for, given the parts of the head. It fails only if memory runs out.
+/// Whether a head names its host once, as by HTTP/1.1 it has to.
+fn names_host(minor: u8, hosts: HostFields) -> bool
+    ensures { result ≡ names_host minor hosts }
+{
+    match hosts {
+        HostFields::NoHost => minor == 0,
+        HostFields::OneHost => true,
+        HostFields::SeveralHosts => false,
+    }
+}
+
+/// What is asked for, by the parts of the head. It fails for want of memory alone.
 #[tactic(auto, unfolding(crate::specs::Asked::asked_by))]
 fn asked_by(
     alloc: Global,
@@ -443,6 +480,9 @@ fn asked_by(
     requires { router.now ≡ office_routes }
     ensures { IfOk result (λ asked. asked ≡ asked_by setup.now method.now target.now minor framing) }
 {
+    if !names_host(minor, framing.hosts) {
+        return Ok(Asked::Refused(Refusal::BadRequest));
+    }
     let path = path_of(target);
     match find_route(router, path) {
         Some(route) => asked_at(alloc, setup, route, method, path, minor, framing),

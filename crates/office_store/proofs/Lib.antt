@@ -1,4 +1,5 @@
 pub mod OpenLemmas
+pub mod TakenLemmas
 pub mod RangeFacts
 pub mod MigrateLemmas
 pub mod MigratedContent

@@ -1,9 +1,11 @@
--- The content of an opened database.
-use Rattle.std.specs.Prelude.{◌≡◌, ◌≢◌, ◌⊎◌, IsTrue, ◌&&◌, ◌==◌, nat_le, if◌then◌else◌, ℕ, List, [], ◌∷◌, Option, Some, None}
+-- What an opened database holds.
+use Rattle.std.specs.Prelude.{◌≡◌, ◌≢◌, ◌⊎◌, IsTrue, ◌&&◌, ◌==◌, nat_le, if◌then◌else◌, Bool, ℕ, List, [], ◌∷◌, length, codes, Option, Some, None, option_map}
+use Rattle.std.specs.List.{filter}
 use Rattle.std.specs.Result.{result_ok}
 use Rattle.sqlite.specs.Effect.{Database}
 use Rattle.sqlite.specs.Order.{Row, column}
 use Rattle.sqlite.specs.Schema.{Schema}
+use Rattle.sqlite_schema.specs.declared.schema.Index.{Index}
 use Rattle.office_mail.specs.Lists.{Lists}
 use Rattle.office_mail.specs.Setup.{setup_in}
 use Rattle.office_store_keeper.specs.declared.faults.KeepFault.{KeepFault}
@@ -11,7 +13,7 @@ use Rattle.office_store_keeper.specs.declared.faults.KeepFault.TheVariants.{NoMe
 use Rattle.office_store.specs.declared.opening.OpenFault.{OpenFault}
 use Rattle.office_store.specs.declared.opening.OpenFault.TheVariants as opening
 use Rattle.office_store_tables.specs.declared.said.Said.{Said}
-use Rattle.office_store_tables.specs.Layout.{no_schema, schema_before, office_schema, has_none, HasEach, HasEachBefore}
+use Rattle.office_store_tables.specs.Layout.{no_schema, schema_before, office_schema, has_none, table_by, HasEach, HasEachBefore}
 use Rattle.office_store_tables.specs.Tables.{IsWhole, number_in, text_in, kept_rows, office_by, office_in, said_in}
 use Rattle.office_store_tables.specs.Creating.{IsBlank}
 use Rattle.office_store_tables.specs.SetupText.{setup_text}
@@ -101,9 +103,24 @@ pub record IsUnknown (db : Database) : Type 0 where
 abbrev pub IsAlone : Database → Type 0
 IsAlone db = (db.schema ≡ no_schema) ⊎ (db.schema ≡ office_schema) ⊎ (db.schema ≡ schema_before)
 
--- it has none of the office's tables, all of them, or all of schema 1
+-- how many indexes stand on the table in this tree; none do where there is no table
+abbrev pub indexes_on : Option ℕ → List Index → ℕ
+indexes_on None indexes = 0
+indexes_on (Some tree) indexes = length (filter (λ index. index.table == tree) indexes)
+
+-- so many stand on the table of this name
+abbrev pub has_indexes : List ℕ → ℕ → Schema → Bool
+has_indexes name count schema = indexes_on (option_map (λ table. table.tree) (table_by name schema)) schema.indexes == count
+
+-- the office's tables have the indexes of their keys, and none that somebody added (this office refuses these)
+abbrev pub has_own_indexes : Schema → Bool
+has_own_indexes schema =
+    has_indexes (codes "office") 0 schema && has_indexes (codes "mail") 1 schema && has_indexes (codes "run") 0 schema && has_indexes (codes "testing_source") 1 schema
+    && has_indexes (codes "testing_row") 1 schema && has_indexes (codes "fact") 1 schema && has_indexes (codes "fact_delays") 0 schema
+
+-- it has none of the office's tables; or each of them or each of schema 1, and on these no index more
 abbrev pub IsTakeable : Schema → Type 0
-IsTakeable schema = IsTrue (has_none schema) ⊎ HasEach schema ⊎ HasEachBefore schema
+IsTakeable schema = IsTrue (has_none schema) ⊎ ((HasEach schema ⊎ HasEachBefore schema) × IsTrue (has_own_indexes schema))
 
 -- It opens as it was: an opened one has the same content, and only memory running out or a refusal of the database
 -- itself keeps it closed.

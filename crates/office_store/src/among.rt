@@ -1,12 +1,14 @@
-//! Whether a database has each of the office's tables, with or without others.
-ghost use Rattle.std.specs.Prelude.{◌↔◌, codes, IsTrue, IfOk};
+//! Whether a database has each of the office's tables, whatever else it has.
+ghost use Rattle.std.specs.Prelude.{◌≡◌, ◌↔◌, ◌==◌, codes, length, option_map, IsTrue, IfOk};
+ghost use Rattle.std.specs.List.{filter};
+ghost use Rattle.office_store.specs.Opening.{has_indexes, has_own_indexes};
 ghost use Rattle.office_store_tables.specs.Layout.{fact, fact_delays, is_free, table_by, IsFound, HasEach, HasEachBefore};
 
 use office_store_tables::layout::{
     has_fact, has_fact_delays, has_mail, has_office, has_run, has_testing_row, has_testing_source,
     is_free,
 };
-use sqlite_schema::schema::Schema;
+use sqlite_schema::schema::{Index, Schema};
 use std::alloc::{AllocError, Global};
 
 /// Whether both tables of facts exist.
@@ -49,4 +51,43 @@ pub fn has_each_before(alloc: Global, schema: &Schema) -> Result<bool, AllocErro
             && has_testing_row(alloc, schema)?
             && has_facts_before(alloc, schema)?,
     )
+}
+
+/// How many indexes stand on the table in this tree.
+fn count_on(indexes: &[Index], tree: u32) -> usize
+    ensures { result ≡ length (filter (λ index. index.table == tree) indexes.now) }
+{
+    indexes.iter().filter(|index| index.table == tree).count()
+}
+
+/// The tree of the table of a name.
+fn tree_of(schema: &Schema, name: &[u8]) -> Option<u32>
+    ensures { result ≡ option_map (λ table. table.tree) (table_by name.now schema.now) }
+{
+    let at = schema.table_named(name)?;
+    let table = schema.tables.as_slice().get(at)?;
+    Some(table.tree)
+}
+
+/// Whether so many indexes stand on the table of a name.
+fn has_indexes(schema: &Schema, name: &[u8], count: usize) -> bool
+    ensures { result ≡ has_indexes name.now count schema.now }
+{
+    match tree_of(schema, name) {
+        Some(tree) => count_on(schema.indexes.as_slice(), tree) == count,
+        None => count == 0,
+    }
+}
+
+/// Whether the office's tables have the indexes of their keys, and none that somebody added.
+pub fn has_own_indexes(schema: &Schema) -> bool
+    ensures { result ≡ has_own_indexes schema.now }
+{
+    has_indexes(schema, b"office", 0)
+        && has_indexes(schema, b"mail", 1)
+        && has_indexes(schema, b"run", 0)
+        && has_indexes(schema, b"testing_source", 1)
+        && has_indexes(schema, b"testing_row", 1)
+        && has_indexes(schema, b"fact", 1)
+        && has_indexes(schema, b"fact_delays", 0)
 }

@@ -16,7 +16,7 @@ ghost use Rattle.office_store_tables.specs.Unchanged.{IsAsItWas};
 ghost use Rattle.office_store.specs.declared.opening.OpenFault.TheVariants as fault;
 ghost use Rattle.office_store_keeper.specs.declared.faults.Cause.TheVariants.{BadRow};
 
-use crate::among::{has_each, has_each_before};
+use crate::among::{has_each, has_each_before, has_own_indexes};
 use crate::migrating::migrate;
 use office_mail::{Setup, SetupFault};
 use office_store_keeper::{Cause, KeepFault};
@@ -221,6 +221,9 @@ fn prepare_among<S: Alter>(
         conn.set_step_limit(Some(u64::MAX));
         return begin(alloc, conn, setup);
     }
+    if !has_own_indexes(conn.schema()) {
+        return Err(OpenFault::UnknownSchema);
+    }
     if has_each_before(alloc, conn.schema())? {
         conn.set_step_limit(Some(u64::MAX));
         return migrate(alloc, conn, setup);
@@ -233,7 +236,7 @@ fn prepare_among<S: Alter>(
 }
 
 /// Makes, finds or migrates the office's tables.
-#[tactic(auto, using(office_store_tables::proofs::SchemaLemmas::each, office_store_tables::proofs::SchemaLemmas::each_before))]
+#[tactic(auto, using(crate::proofs::TakenLemmas::takeable, crate::proofs::TakenLemmas::takeable_before))]
 pub fn prepare<S: Alter>(
     alloc: Global,
     conn: &mut Connection<S>,

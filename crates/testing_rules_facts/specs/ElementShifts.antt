@@ -1,4 +1,5 @@
--- The rows that leave and come when the lists of facts get one more element. This office decides to keep facts as rows.
+-- Steps: no contract of a call that users make rests on this file.
+-- Which rows leave the lists of facts, and which come, with one element more. That facts are kept as rows is this office's own.
 use Rattle.std.specs.Prelude.{◌≡◌, Bool, if◌then◌else◌, List, [], ◌∷◌, ◌++◌, map, option_to_list}
 use Rattle.std.specs.declared.cmp.Ordering.{Ordering}
 use Rattle.std.specs.declared.cmp.Ordering.TheVariants.{Less, Equal, Greater}

@@ -1,3 +1,4 @@
+-- Steps: no contract of a call that users make rests on this file.
 -- What one message gives to the facts.
 use Rattle.std.specs.Prelude.{◌++◌}
 use Rattle.testing_rules_facts.specs.Shifts.{Shift, shift_of}

@@ -1,4 +1,5 @@
--- The rows that leave and come when the facts get one more message. This office decides to keep facts as rows.
+-- Steps: no contract of a call that users make rests on this file.
+-- Which rows leave the facts, and which come, with one more message. That facts are kept as rows is this office's own.
 use Rattle.std.specs.Prelude.{◌≡◌, ◌+◌, not, List, [], ◌∷◌, ◌++◌, map, filter, option_to_list}
 use Rattle.std.specs.Ordering.{nat_cmp}
 use Rattle.testing_rules_fact_order.specs.declared.entry.FactUpdate.{FactUpdate}

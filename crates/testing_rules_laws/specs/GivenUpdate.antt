@@ -1,4 +1,5 @@
--- What a run brings into testing, if covered messages say its facts. This office decides to keep facts.
+-- Steps: no contract of a call that users make rests on this file.
+-- What a run brings into testing, where its facts are said by covered messages. That facts are kept is this office's own.
 use Rattle.std.specs.Prelude.{◌≤◌, List, length}
 use Rattle.testing_rules_items.specs.Words.{Text, most_archs}
 use Rattle.testing_rules_laws.specs.SameRows.{AreSaidBy}

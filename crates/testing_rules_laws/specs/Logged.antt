@@ -1,4 +1,5 @@
--- The rows that came and left since the facts were kept, and their effect. This office decides to keep facts as rows.
+-- Steps: no contract of a call that users make rests on this file.
+-- Which rows came and which left since the facts were kept, and what is made of them. That facts are kept as rows is this office's own.
 use Rattle.std.specs.Prelude.{◌≡◌, ℕ, ◌+◌, ◌<◌, ◌≤◌, List}
 use Rattle.testing_rules_fact_order.specs.declared.entry.FactUpdate.{FactUpdate}
 use Rattle.testing_rules_facts.specs.Entries.{with_entry}

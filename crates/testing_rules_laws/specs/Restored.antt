@@ -1,4 +1,5 @@
--- Facts restored from their rows. This office decides to keep facts as rows.
+-- Steps: no contract of a call that users make rests on this file.
+-- Facts put back from their rows. That facts are kept as rows is this office's own.
 use Rattle.std.specs.Prelude.{◌≡◌, List, [], ◌∷◌, length, map, Contains}
 use Rattle.testing_rules_model.specs.FactLists.{FactLists}
 pub use Rattle.testing_rules_model.specs.FactLists.{no_facts}

@@ -1,4 +1,5 @@
--- Facts with another testing: which uploads are taken again. This office decides to keep facts.
+-- Steps: no contract of a call that users make rests on this file.
+-- Facts beside another testing: which uploads are taken again. That facts are kept is this office's own.
 use Rattle.std.specs.Prelude.{◌++◌, List, Contains}
 use Rattle.testing_rules_items.specs.Words.{Text}
 use Rattle.testing_rules_model.specs.declared.facts.UploadIn.{UploadIn}

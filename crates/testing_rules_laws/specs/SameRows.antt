@@ -1,4 +1,5 @@
--- Facts that have the same rows. This office decides to keep facts as rows.
+-- Steps: no contract of a call that users make rests on this file.
+-- Facts that have the same rows. That facts are kept as rows is this office's own.
 use Rattle.testing_rules_model.specs.FactLists.{FactLists}
 use Rattle.testing_rules_model.specs.Suite.{Suite}
 use Rattle.testing_rules_model.specs.Covered.{Covered}

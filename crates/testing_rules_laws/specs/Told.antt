@@ -1,4 +1,5 @@
--- Facts that messages say, row by row. This office decides to keep facts as rows.
+-- Steps: no contract of a call that users make rests on this file.
+-- Facts that messages say, row by row. That facts are kept as rows is this office's own.
 use Rattle.std.specs.Prelude.{◌≡◌, ◌≤◌, List, Contains, IsSome}
 use Rattle.testing_rules_facts.specs.Restored.{Given, message_of, restored}
 use Rattle.testing_rules_facts.specs.Uploads.{AreByMessage}

@@ -14,12 +14,12 @@ URL = "http://127.0.0.1:8080"
 CONF = "/etc/office/setup.conf"
 SECONDS = 600.0  # a proposal over a large archive takes long, and the service answers one request at a time
 
-FEWEST: Mapping[str, int] = {"why": 1, "try": 1, "propose": 0, "hints": 0, "runs": 0, "waiting": 0, "report": 1,
-                             "unstable": 0, "mail": 0, "order": 0}
+FEWEST: Mapping[str, int] = {"why": 1, "breaks": 1, "try": 1, "propose": 0, "hints": 0, "runs": 0, "waiting": 0,
+                             "report": 1, "unstable": 0, "mail": 0, "order": 0}
 """The questions, and how many words each needs behind it."""
 
-HAS_WORDS = ("why", "try", "propose", "report")
-OPTIONS: Mapping[str, Sequence[str]] = {"run": ("why",), "hint": ("why",), "day": ("try", "propose", "order"),
+HAS_WORDS = ("why", "breaks", "try", "propose", "report")
+OPTIONS: Mapping[str, Sequence[str]] = {"run": ("why", "breaks"), "hint": ("why",), "day": ("try", "propose", "order"),
                                         "all": ("try", "propose"), "list": ("mail",)}
 """Which questions take an option that not all take."""
 
@@ -42,14 +42,14 @@ def parser() -> argparse.ArgumentParser:
     words.add_argument("--url", metavar="URL", default=URL, help=f"the service ({URL})")
     words.add_argument("--conf", metavar="SETUP", default=CONF,
                        help=f"the office's setup, for questions that no route answers ({CONF})")
-    words.add_argument("--run", type=number, metavar="RUN", help="why: a finished run; without it the last one")
+    words.add_argument("--run", type=number, metavar="RUN", help="why, breaks: a finished run; without it the last one")
     words.add_argument("--hint", action="store_true", help="why: the words are numbers of hints")
     words.add_argument("--day", type=day, metavar="DAY", help="try, propose, order: the day of the next run")
     words.add_argument("--all", action="store_true", help="try, propose: the run covers all mail without a gap")
     words.add_argument("--list", action="store_true", help="mail: each message in a line")
     words.add_argument("question", metavar="QUESTION", choices=FEWEST,
-                       help="why SOURCE.., try HINT.., propose [SOURCE..], hints, runs, waiting, report RUN excuses, "
-                            "report RUN update, report testing, unstable, mail, or order")
+                       help="why SOURCE.., breaks SOURCE|HINT.., try HINT.., propose [SOURCE..], hints, runs, waiting, "
+                            "report RUN excuses, report RUN update, report testing, unstable, mail, or order")
     words.add_argument("words", metavar="WORD", nargs="*", help="what it asks about")
     return words
 
@@ -80,6 +80,7 @@ def answer(asked: argparse.Namespace) -> Answer:
     questions = Questions(service, Copy(service, asked.conf))
     answers: Mapping[str, Callable[[], Answer]] = {
         "why": lambda: (questions.why_hints if asked.hint else questions.why)(asked.words, asked.run),
+        "breaks": lambda: questions.breaks(asked.words, asked.run),
         "try": lambda: questions.trial(asked.words, next_of(asked)),
         "propose": lambda: questions.propose(asked.words, next_of(asked)),
         "report": lambda: questions.report(path_of(asked.words)),

@@ -12,6 +12,7 @@ from office_tools.ask.answer import Answer
 from office_tools.ask.copy import Copy
 from office_tools.faults import Fault
 from office_tools.service import Reply, Service
+from office_tools.trials import lines_of
 
 NO, WORDS_ARE_WRONG, REFUSED = 1, 2, 3
 LONGEST_BODY = 65536  # bytes of a request's body
@@ -112,9 +113,14 @@ class Questions:
         asked = [] if run is None else ["--run", str(run)]
         return self.copy.ask(["why", "--hint", *asked, *numbers])
 
+    def breaks(self, changes: Sequence[str], run: Optional[int]) -> Answer:
+        """What changes would break where a run left testing, by the copy: no route answers it."""
+        asked = [] if run is None else ["--run", str(run)]
+        return self.copy.ask(["breaks", *asked, *changes])
+
     def trial(self, hints: Sequence[str], on: Next) -> Answer:
         """What hints would change in the next run: status 1 if nothing, 3 if one of them is refused."""
-        body = "".join(hint + "\n" for hint in hints).encode()
+        body = lines_of(hints)
         has_line_ends = any("\n" in hint or hint.endswith("\r") for hint in hints)
         if has_line_ends or len(body) > LONGEST_BODY or (on.day and not on.is_all):
             return self.copy.ask(["try", *on.words, *hints])
@@ -124,6 +130,8 @@ class Questions:
         reply = self.service.post(path, body)
         if reply.status == http.client.BAD_REQUEST and HINT_REFUSED.match(reply.text):
             return Answer(b"", REFUSED, f"office-ask: {reply.text}\n")
+        if is_refused(reply, "TooManyHints"):
+            return self.copy.ask(["try", *on.words, *hints])
         told = self.good(path, reply)
         if is_cut(told):
             return self.copy.ask(["try", *on.words, *hints])
@@ -154,7 +162,7 @@ class Questions:
 
 def is_refused(reply: Reply, name: str) -> bool:
     """Whether an answer is the refusal of this name."""
-    return reply.status == http.client.NOT_FOUND and reply.text == f"refused {name}"
+    return not reply.is_good and reply.text == f"refused {name}"
 
 
 def proposal_status(body: bytes, sources: Sequence[str]) -> Optional[int]:

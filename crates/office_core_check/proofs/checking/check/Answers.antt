@@ -1,39 +1,33 @@
-use Rattle.std.proofs.Common.{◌≡◌, IfOk, length, sym, ap, subst, ◌∙◌}
-use Rattle.std.proofs.lemmas.Result.{IfOk-weaker}
-use Rattle.office_mail.specs.Lists.{Lists}
-use Rattle.office_store_keeper.specs.Content.{Content, no_content}
-use Rattle.office_store_keeper.specs.MemoryState.{content_of}
-use Rattle.office_core_facts.specs.State.{IsOffice}
-use Rattle.office_core.proofs.OfficeFacts.{IsOffice-new}
-use Rattle.office_core_check.specs.Comparing.{IsAnew}
-use Rattle.office_core_check.specs.Reading.{IsFront}
-use Rattle.office_core_check.specs.Whole.{IsFound}
-use Rattle.office_core_check.proofs.FoundFacts.{office_whole}
-use Rattle.office_core_check.proofs.FrontFacts.{front_none}
+use Rattle.office_core_check.proofs.CheckFacts.{counted_read, counted_unread, found_unread, found_was, lasts_read, lasts_unread, never_bad, whole_unread}
 use Rattle.office_core_check.proofs.checking.check.Goals as goal
 
-pub returns-clause-found : goal.returns-clause-found
-returns-clause-found g c = λ trusted.
+pub returns-in-Ok-clause-found : goal.returns-in-Ok-clause-found
+returns-in-Ok-clause-found g c = λ trusted.
     let keeper = g.K.Keeper in
-    let here = keeper.content c.args.keeper.now in
-    let now = keeper.content c.finished.new.self in
-    let legible = keeper.is_legible c.check_anew.new.keeper in
-    let earlier = c.check_anew.ensures.looks.before trusted in
-    let same : now ≡ here = c.in_ok-runs.ensures.same earlier in
-    let office = c.in_ok-office.office in
-    let setup = office.plain.setup in
-    let is : setup ≡ c.args.setup.now = c.in_ok-office.ensures.setup in
-    let none : content_of office.plain ≡ no_content = c.in_ok-office.ensures.content in
-    let anew : IsAnew office = subst (IsOffice setup) (sym none) (IsOffice-new setup) in
-    let front : IsFront now.kept 0 0 (content_of office.plain).kept = subst (λ (m : Content). IsFront now.kept 0 0 m.kept) (sym none) (front_none now.kept) in
-    let size : c.in_ok-runs.runs ≡ length now.reports = c.in_ok-runs.ensures.value earlier ∙ ap (λ (m : Content). length m.reports) (sym same) in
-    subst (λ (s : Lists). IfOk c.check_anew.result (IsFound s here legible)) is
-    (subst (λ (m : Content). IfOk c.check_anew.result (IsFound setup m legible)) same (c.check_anew.ensures.found trusted anew front size))
+    let read = c.in-Ok.ensures in
+    found_was c.args.setup.now (keeper.content c.args.keeper.now) (keeper.is_legible c.args.keeper.now) (keeper.is_legible c.check_read.new.keeper) c.in-Ok.checked (read.looks.legible trusted) (read.found trusted)
 
-pub returns-clause-whole : goal.returns-clause-whole
-returns-clause-whole g c = λ trusted legible office.
-    let keeper = g.K.Keeper in
-    let here = keeper.content c.args.keeper.now in
-    let still = c.check_anew.ensures.looks.legible trusted (c.in_ok-runs.ensures.legible (c.check_anew.ensures.looks.before trusted) legible) in
-    IfOk-weaker c.check_anew.result (IsFound c.args.setup.now here (keeper.is_legible c.check_anew.new.keeper)) _ (λ checked found. office_whole (keeper.is_legible c.check_anew.new.keeper) c.args.setup.now here checked still office found)
-    (returns-clause-found g c trusted)
+pub returns-in-Ok-clause-lasts : goal.returns-in-Ok-clause-lasts
+returns-in-Ok-clause-lasts g c = lasts_read g.K.Keeper c.args.keeper.now c.check_read.new.keeper c.in-Ok.checked c.in-Ok.ensures.end c.in-Ok.ensures.looks.lasts
+
+pub returns-in-Ok-clause-counted : goal.returns-in-Ok-clause-counted
+returns-in-Ok-clause-counted g c = counted_read (g.K.Keeper.refusals c.args.keeper.now) (g.K.Keeper.refusals c.check_read.new.keeper) c.in-Ok.checked c.in-Ok.ensures.end c.in-Ok.ensures.looks.counted
+
+pub returns-in-Err-clause-found : goal.returns-in-Err-clause-found
+returns-in-Err-clause-found g c = λ trusted.
+    let told = c.tell_fault.ensures in
+    found_unread g.K.Keeper c.args.setup.now c.args.keeper.now c.check_read.new.keeper c.in-Err.fault (told.asks.before trusted) c.in-Err.ensures.looks c.requires.lists (g.K.Keeper.is_legible c.tell_fault.new.keeper) c.tell_fault.result told.told (told.none trusted)
+
+pub returns-in-Err-clause-whole : goal.returns-in-Err-clause-whole
+returns-in-Err-clause-whole g c = λ trusted was office.
+    let told = c.tell_fault.ensures in
+    whole_unread g.K.Keeper c.args.setup.now c.args.keeper.now c.check_read.new.keeper c.in-Err.fault (told.asks.before trusted) c.in-Err.ensures.looks c.requires.lists c.tell_fault.result _ (told.none trusted) was office
+
+pub returns-in-Err-clause-unread : goal.returns-in-Err-clause-unread
+returns-in-Err-clause-unread g c = never_bad c.in-Err.fault c.tell_fault.result c.tell_fault.ensures.told
+
+pub returns-in-Err-clause-lasts : goal.returns-in-Err-clause-lasts
+returns-in-Err-clause-lasts g c = lasts_unread g.K.Keeper c.args.keeper.now c.check_read.new.keeper c.tell_fault.new.keeper c.in-Err.fault c.tell_fault.result c.tell_fault.ensures.told c.in-Err.ensures.looks.lasts c.tell_fault.ensures.asks
+
+pub returns-in-Err-clause-counted : goal.returns-in-Err-clause-counted
+returns-in-Err-clause-counted g c = counted_unread g.K.Keeper c.args.keeper.now c.check_read.new.keeper c.tell_fault.new.keeper c.in-Err.fault c.tell_fault.result c.tell_fault.ensures.told c.in-Err.ensures.looks.counted c.tell_fault.ensures.still c.tell_fault.ensures.asks

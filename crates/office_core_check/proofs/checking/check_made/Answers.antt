@@ -42,5 +42,5 @@ returns-in-None-clause-found g c = λ trusted office front size.
     let read : IfOk result (IsReadAs (legible × (len here.kept ≡ len anew.kept)) runs) =
     subst (λ (a : Content). IfOk result (IsReadAs (legible × (len here.kept ≡ len a.kept)) runs)) made_is
     (subst (λ (m : Content). IfOk result (IsReadAs (legible × (len m.kept ≡ len made.kept)) runs)) same (c.check_tables.ensures.read trusted low)) in
-    IfOk-weaker result (IsReadAs (legible × (len here.kept ≡ len anew.kept)) runs) (IsFound setup here legible)
+    IfOk-weaker result (IsReadAs (legible × (len here.kept ≡ len anew.kept)) runs) (IsFound setup here legible legible)
     (λ found it. tables_found legible setup here anew runs found office all (sym size) front (subst (IsCompared here anew runs) c.in-None.is compared) it) read

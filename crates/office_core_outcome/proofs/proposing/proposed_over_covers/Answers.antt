@@ -4,9 +4,9 @@ use Rattle.office_store_keeper.specs.Content.{Content}
 use Rattle.office_core_orders.proofs.ReadyCount.{ready_bound}
 use Rattle.office_core_facts.specs.Seen.{release}
 use Rattle.office_core_outcome.specs.Proposal.{freed_by}
-use Rattle.office_core_outcome.specs.Settled.{AreStuckOver, IsSettled}
+use Rattle.office_core_outcome.specs.Settled.{AreStuckOver, IsSettled, KeepsRun}
 use Rattle.office_core_facts.proofs.CoveredFacts.{stands_within}
-use Rattle.office_core_outcome.proofs.ProposalFacts.{decided_is, done_over, shown_is, taken_over}
+use Rattle.office_core_outcome.proofs.ProposalFacts.{decided_is, done_over, keeps_over, shown_is, taken_over}
 use Rattle.office_core_outcome.proofs.proposing.proposed_over_covers.Goals as goal
 
 pub returns-clause-proposed : goal.returns-clause-proposed
@@ -24,6 +24,8 @@ returns-clause-proposed g c = λ trusted legible office are finished few is.
     let at : number ≡ covers (release setup) = c.cover_at-number.ensures ∙ ap covers c.release_place.ensures in
     let settled : IsSettled setup date number facts content.testing hints ds =
     subst (λ (m : Content). IsSettled setup date number facts m.testing hints ds) (c.in_ok-taken.ensures.looks.same earlier) (c.in_ok-settled.ensures.settled trusted (c.in_ok-taken.ensures.looks.legible earlier legible)) in
+    let keeps : KeepsRun setup date facts content.testing ds =
+    subst (λ (m : Content). KeepsRun setup date facts m.testing ds) (c.in_ok-taken.ensures.looks.same earlier) (c.in_ok-settled.ensures.keeps trusted (c.in_ok-taken.ensures.looks.legible earlier legible)) in
     let sources : List (List ℕ) = c.args.sources.now in
     let stuck = c.in_ok-settled.settled.stuck.items in
     let shown : AreStuckOver setup.archs date facts content.testing ds sources stuck =
@@ -34,6 +36,7 @@ returns-clause-proposed g c = λ trusted legible office are finished few is.
       first = omega (arith, c.saturating_add-first.ensures, at, few);
       taken = taken_over setup content date covers number facts hints ds office at stand settled;
       done = done_over setup content date covers number facts hints ds office at stand settled;
+      keeps = keeps_over setup content date covers number facts hints ds office at stand settled keeps;
       freed = c.in_ok-settled.ensures.freed ∙ ap (λ (d : List Decision). freed_by d c.args.sources.now) (decided_is setup content date covers number facts hints ds office at stand settled);
       stuck = shown_is setup content date covers number facts hints ds office at stand settled sources stuck shown;
     }

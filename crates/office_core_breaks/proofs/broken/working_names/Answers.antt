@@ -1,0 +1,8 @@
+use Rattle.std.proofs.Common.{arith, ◌≤◌, length}
+use Rattle.std.proofs.lemmas.List.{take_all}
+use Rattle.office_core_breaks.proofs.broken.working_names.Goals as goal
+
+pub returns : goal.returns
+returns c =
+    let over : length c.args.before.now ≤ c.loop-judged.judged-index = omega arith in
+    rw (take_all c.loop-judged.judged-index c.args.before.now over) at c.loop-judged.invariant
