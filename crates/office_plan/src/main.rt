@@ -5,8 +5,8 @@ mod words;
 
 use archive_lists::{ListFault, ListedFault, PlanLists, fault_lines, plan_lines, plan_of_lists};
 use office_cli_words::{args_status, as_texts, read_args};
-use std::process::ExitCode;
 use std::fs;
+use std::process::ExitCode;
 use words::{Asked, WordsFault, read_words};
 
 /// The exit status of a plan that was printed.
