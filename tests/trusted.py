@@ -479,7 +479,7 @@ def main():
     tops = [a for a in sys.argv[1:] if not a.startswith('--')] + [Path(__file__).resolve().parents[1]]
     tree = Tree(tops[0])
     users, every = tree.believed(USERS, INNER), tree.believed(tree.crates)
-    heads = [(f.label, head_fault(f, users)) for f in tree.files.values()]
+    heads = [(f.label, head_fault(f, of_all(tree, users))) for f in tree.files.values()]
     faults = [f'{label}: {fault}' for label, fault in heads if fault]
     faults += [*row_faults(tree), *figure_faults(tree, users, tops[0])]
     kinds = {d: 'believed' if d in users else 'cited step' if d in every else 'step' for d in tree.named.values()}

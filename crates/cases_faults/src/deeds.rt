@@ -34,7 +34,7 @@ pub enum Deed<'a> {
     Write(&'a [u8], Kind, u32),
 }
 
-/// Tries this in an office that is new, and gives whether a failure was met.
+/// Tries this in a new office, and returns whether a failure was met.
 fn try_in<K: Keeper>(alloc: Global, office: &mut Office<K>, deed: Deed<'_>) -> Result<bool, Met> {
     match deed {
         Deed::Letters(letters) => {
@@ -46,7 +46,7 @@ fn try_in<K: Keeper>(alloc: Global, office: &mut Office<K>, deed: Deed<'_>) -> R
     }
 }
 
-/// Tries this in an office over a store, which is given back.
+/// Tries this in an office over a store, which is returned.
 fn try_over<K: Keeper>(
     alloc: Global,
     setup: Setup,
@@ -101,7 +101,7 @@ fn try_in_memory(alloc: Global, deed: Deed<'_>) -> Result<bool, Met> {
     tried
 }
 
-/// Tries this in an office that is new, and gives whether a failure was met.
+/// Tries this in a new office, and returns whether a failure was met.
 pub fn try_deed(alloc: Global, over: Over, deed: Deed<'_>) -> Result<bool, Met> {
     match over {
         Over::Memory => try_in_memory(alloc, deed),

@@ -4,7 +4,7 @@ use std::alloc::Global;
 use std::io;
 use std::io::{Read, Write};
 
-/// Gives so many bytes a read at most, and fails at one of the reads, if it comes to that.
+/// Gives at most that many bytes a read, and fails at one of the reads, if that read is made.
 #[derive(Drop)]
 pub struct Reader<'a> {
     pub bytes: &'a [u8],
@@ -46,7 +46,7 @@ pub enum Failure {
     TakesNone,
 }
 
-/// Takes so many bytes a write at most, and fails at one of the writes, if it comes to that.
+/// Takes at most that many bytes a write, and fails at one of the writes, if that write is made.
 #[derive(Drop)]
 pub struct Writer {
     pub taken: Vec<u8>,

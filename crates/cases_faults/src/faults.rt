@@ -3,7 +3,7 @@
 use deb_version::NoMemory;
 use std::alloc::AllocError;
 
-/// Why a part isn't right: memory was refused in what it needs itself, or what came isn't due.
+/// Why a part isn't right: memory was refused in what it needs itself, or the result isn't due.
 #[derive(Clone, Copy)]
 pub enum Met {
     NoMemory,
@@ -22,7 +22,7 @@ impl From<NoMemory> for Met {
     }
 }
 
-/// What is wrong where this doesn't hold.
+/// What is wrong if this doesn't hold.
 pub fn due(holds: bool, what: &'static str) -> Result<(), Met> {
     if holds { Ok(()) } else { Err(Met::Wrong(what)) }
 }

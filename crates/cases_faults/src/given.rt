@@ -1,4 +1,4 @@
-//! The mail of the parts, and what it leads to.
+//! The mail of the parts, and its results.
 
 /// The setup of each office.
 pub const SETUP: &str = "Architectures: amd64 arm64
@@ -97,7 +97,7 @@ pub const UPDATES: [&str; 2] = [
 pub const OUTPUT: &str =
     "held ftp 1\nheld bd 1\nheld clock 1\nready 1 finished 1\nexcuses 1 2025-03-06\nfoo - 1.0-1\n age 5 of 5\n candidate\nupdate 1 2025-03-06\naccept foo 1.0-1\ntesting 1\nsource foo 1.0-1\nbinary amd64 foo 1.0-1 foo\n";
 
-/// What it prints where a read fails once so many of its messages came whole.
+/// What it prints if a read fails after that many of its messages came whole.
 pub const BROKEN: [&str; 4] = [
     "bag refused ReadFault\nready 0 finished 0\ntesting 0\n",
     "held ftp 1\nbag refused ReadFault\nready 0 finished 0\ntesting 0\n",
@@ -105,7 +105,7 @@ pub const BROKEN: [&str; 4] = [
     "held ftp 1\nheld bd 1\nheld clock 1\nbag refused ReadFault\nready 1 finished 1\nexcuses 1 2025-03-06\nfoo - 1.0-1\n age 5 of 5\n candidate\nupdate 1 2025-03-06\naccept foo 1.0-1\ntesting 1\nsource foo 1.0-1\nbinary amd64 foo 1.0-1 foo\n",
 ];
 
-/// How many bytes of its bag the messages end behind.
+/// How many bytes of its bag end after each message.
 pub static ENDS: [usize; 3] = [100, 188, 264];
 
 /// The mail of a group that a hint asks for and that can't move: one of its sources moves alone, the other waits.
@@ -152,14 +152,14 @@ pub static GROUP: [Letter; 6] = [
 pub const GROUP_UPDATE: &str =
     "update 1 2025-03-06\neasy 1 refuse uninstallable amd64 aa\naccept bb 1\nwait aa 1 uninstallable amd64 aa\n";
 
-/// Testing behind it.
+/// Testing after it.
 pub const GROUP_TESTING: &str = "testing 1\nsource bb 1\nbinary amd64 bb 1 bb\n";
 
 /// The reply to the longest message that may be posted.
 pub const REPLY: &str =
     "HTTP/1.1 200 OK\r\nContent-Type: text/plain; charset=utf-8\r\nContent-Length: 11\r\nConnection: close\r\n\r\nheld ftp 1\n";
 
-/// What stands before it where the client waits for it.
+/// What precedes it if the client waits for it.
 pub const CONTINUE: &str = "HTTP/1.1 100 Continue\r\n\r\n";
 
 /// The header by which a client says that it waits.
@@ -170,7 +170,7 @@ pub fn first_letters(count: usize) -> &'static [Letter] {
     LETTERS.get(..count).unwrap_or(&LETTERS)
 }
 
-/// The mail of so many letters: that of the first run has three, that of the group six, that of the two runs seven.
+/// The mail of that many letters: the first run's has three, the group's six, that of both runs seven.
 pub fn letters_of(count: usize) -> &'static [Letter] {
     match count {
         6 => &GROUP,

@@ -6,23 +6,23 @@ use crate::offices::{bag_of, new_office, replayed};
 use deb_version::NoMemory;
 use std::alloc::Global;
 
-/// A line that stands for a delivery, for the status or for a text.
+/// A line in the place of a delivery, of the status or of a text.
 const REFUSED: &[u8] = b"refused NoMemory\n";
 
-/// The same where the store failed.
+/// The same if the store failed.
 const STORE_REFUSED: &[u8] = b"refused Store\n";
 
-/// What stands behind the line of a refusal, if one stands first.
+/// What follows the line of a refusal, if that comes first.
 pub fn without_refusal(output: &[u8]) -> Option<&[u8]> {
     output
         .strip_prefix(REFUSED)
         .or(output.strip_prefix(STORE_REFUSED))
 }
 
-/// The line of a bag that ended for want of memory.
+/// The line of a bag that ended because memory ran out.
 const BAG_REFUSED: &[u8] = b"bag refused NoMemory\n";
 
-/// What is printed where these letters alone are replayed, in a new office and with no refusal, and the status.
+/// What is printed if only these letters are replayed, in a new office and with no refusal, and the status.
 fn clean_output(alloc: Global, letters: &[Letter]) -> Result<(Vec<u8>, u8), Met> {
     let bag = bag_of(alloc, letters)?;
     let mut office = new_office(alloc)?;
@@ -31,7 +31,7 @@ fn clean_output(alloc: Global, letters: &[Letter]) -> Result<(Vec<u8>, u8), Met>
     Ok(output?)
 }
 
-/// What stands behind the answers of these letters.
+/// What follows the answers of these letters.
 fn end_behind<'a>(letters: &[Letter], output: &'a [u8]) -> Option<&'a [u8]> {
     let mut end = output;
     for letter in letters {
@@ -49,7 +49,7 @@ fn begins_text(bytes: &[u8]) -> bool {
         || bytes.starts_with(b"testing ")
 }
 
-/// Whether an end is the due one, but for a line that stands for one text or more, from this place on.
+/// Whether an end is the due one, except for a line in the place of one text or more, from this place on.
 fn shows_refused_at(due: &[u8], end: &[u8], place: usize) -> bool {
     let (Some(front), Some(behind)) = (due.get(..place), due.get(place..)) else {
         return false;
@@ -68,7 +68,7 @@ fn shows_refused_at(due: &[u8], end: &[u8], place: usize) -> bool {
     }
 }
 
-/// Whether an end is the due one, but for a line that stands for one text or more, from some place on.
+/// Whether an end is the due one, except for a line in the place of one text or more, from some place on.
 fn shows_one_refused(due: &[u8], end: &[u8]) -> bool {
     let mut shows = false;
     for place in 0..due.len() {
@@ -79,14 +79,14 @@ fn shows_one_refused(due: &[u8], end: &[u8]) -> bool {
     shows
 }
 
-/// Whether an output says that a letter was lost, and what stands behind the answers.
+/// Whether an output says that a letter was lost, and what follows the answers.
 #[derive(Clone, Copy)]
 struct Answered<'a> {
     lost: bool,
     rest: &'a [u8],
 }
 
-/// What an output says of these letters. Those that are held come into a list.
+/// What an output says of these letters. Held letters go into a list.
 fn answers_in<'a>(
     letters: &[Letter],
     output: &'a [u8],
@@ -113,8 +113,8 @@ fn answers_in<'a>(
 }
 
 /// Whether what a replay of these letters printed is right for what it shows: each letter is answered by its line or by
-/// a refusal, a bag may end for want of memory, and the end is that of the letters that were held, or one of its texts
-/// is refused. The status tells of each loss. It is said for a replay that met one refusal at most.
+/// a refusal, a bag may end because memory ran out, and the end is that of the held letters, or one of its texts is
+/// refused. The status shows each loss. This is about a replay that met at most one refusal.
 pub fn is_right(alloc: Global, letters: &[Letter], output: &[u8], status: u8) -> Result<bool, Met> {
     if output == REFUSED {
         return Ok(status == 4);
@@ -124,7 +124,7 @@ pub fn is_right(alloc: Global, letters: &[Letter], output: &[u8], status: u8) ->
     is_end_of(alloc, &held, told, status)
 }
 
-/// Whether an end is that of the letters that were held, or one of its texts is refused.
+/// Whether an end is that of the held letters, or one of its texts is refused.
 fn is_end_of(alloc: Global, held: &[Letter], told: Answered<'_>, status: u8) -> Result<bool, Met> {
     let (output, clean) = clean_output(alloc, held)?;
     if clean != 0 {

@@ -1,6 +1,6 @@
-//! Calls of the office where one thing fails: memory, a read, a write, or a file for good. Each part makes its calls
-//! with each failure in turn and judges what came: it is right, or something is wrong. Whoever runs the program refuses
-//! memory: with ample memory a part is right, and whichever one growth is refused it is so too.
+//! Calls of the office with one failure: of memory, a read, a write, or a file for good. Each part makes its calls with
+//! each failure in turn and judges the result: it is right, or something is wrong. Whoever runs the program refuses
+//! memory: a part is right with ample memory, and so it is if any one growth is refused.
 #![tactic(auto)]
 
 mod deeds;
@@ -26,23 +26,23 @@ use stopping::Way;
 /// A part, by what fails in it.
 #[derive(Clone, Copy)]
 pub enum Part {
-    /// Memory, where a setup is read.
+    /// Memory, while a setup is read.
     Setup,
-    /// Memory, where a binary paragraph is read.
+    /// Memory, while a binary paragraph is read.
     Binary,
-    /// Memory, where the longest message is posted.
+    /// Memory, while the longest message is posted.
     Post,
-    /// Memory, where so many letters are replayed in an office.
+    /// Memory, while that many letters are replayed in an office.
     Letters(Over, usize),
     /// A read of a bag.
     ReplayReads(Over),
-    /// A read of a post with this header, whose client is told this before the reply.
+    /// A read of a post with this header, whose client gets this before the reply.
     PostReads(&'static str, &'static str),
     /// No read of a bag that doesn't end.
     Endless,
     /// A write of what a replay prints.
     ReplayWrites(Over),
-    /// A write of the reply to a post with this header, whose client is told this before it.
+    /// A write of the reply to a post with this header, whose client gets this before it.
     PostWrites(&'static str, &'static str),
     /// The log of an office's store, for good.
     Log(Way),
@@ -121,7 +121,7 @@ fn try_part(alloc: Global, part: Part) -> Result<(), Met> {
     }
 }
 
-/// What is said of a part. One that was refused memory in what it needs itself is tried once more: only one growth is
+/// The result of a part. If it was refused memory in what it needs itself, it is tried once more: only one growth is
 /// refused.
 pub fn said_of(alloc: Global, part: Part) -> &'static str {
     let tried = match try_part(alloc, part) {

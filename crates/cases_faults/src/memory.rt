@@ -1,4 +1,4 @@
-//! Calls that may be refused memory: a refusal shows in its due place, and the same call with memory gives what is due.
+//! Calls that may be refused memory: a refusal shows where it is due, and the same call with memory gives what is due.
 
 use crate::failing::{Writer, reader_of, whole_writer};
 use crate::faults::{Met, due};
@@ -85,7 +85,7 @@ fn judge_post<K: Keeper>(
     judge_refusal(office, writer)
 }
 
-/// Behind a 503 another text under the number of the longest post is held.
+/// After a 503 another text under the number of the longest post is held.
 fn judge_refusal<K: Keeper>(office: &mut Office<K>, writer: &mut Writer) -> Result<(), Met> {
     let is_refused = is_reply(
         &writer.taken,
@@ -110,7 +110,7 @@ fn due_reports(letters: usize) -> (&'static [&'static str], &'static [&'static s
     }
 }
 
-/// Testing behind so many letters.
+/// Testing after that many letters.
 fn due_testing(letters: usize) -> &'static str {
     match letters {
         6 => GROUP_TESTING,
@@ -147,8 +147,8 @@ fn tells_updates<K: Keeper>(office: &mut Office<K>, texts: &[&str]) -> Result<()
     Ok(())
 }
 
-/// A replay of these letters in an office that is new is right for the refusal that it shows, and the same replay once
-/// more leaves the testing and the reports that are due.
+/// A replay of these letters in a new office is right for the refusal that it shows, and the same replay again leaves
+/// the testing and the reports that are due.
 pub fn try_replay<K: Keeper>(
     alloc: Global,
     office: &mut Office<K>,

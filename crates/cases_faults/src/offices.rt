@@ -1,4 +1,4 @@
-//! Offices, bags and requests of the parts, and the calls that take them.
+//! Offices, bags and requests of the parts, and the calls that use them.
 
 ghost use Rattle.std.specs.Prelude.{◌≡◌, IfOk};
 
@@ -38,7 +38,7 @@ pub fn new_office(alloc: Global) -> Result<Office<Plain>, Met> {
     }
 }
 
-/// The office's tables in a database that is new, or that was left by an office of this setup.
+/// The office's tables in a new database, or in one that an office of this setup left.
 pub fn opened<S: Alter>(
     alloc: Global,
     conn: Connection<S>,
@@ -52,7 +52,7 @@ pub fn opened<S: Alter>(
     }
 }
 
-/// What tables that aren't opened are told as.
+/// The result if tables can't be opened.
 fn refused_opening(fault: OpenFault) -> Met {
     match fault {
         OpenFault::NoMemory => Met::NoMemory,
@@ -60,7 +60,7 @@ fn refused_opening(fault: OpenFault) -> Met {
     }
 }
 
-/// Lets an office over a store in memory go.
+/// Drops an office over a store in memory.
 pub fn close(office: Office<Plain>) {
     drop(office);
 }
@@ -124,7 +124,7 @@ pub fn serve_by<K: Keeper>(
     )
 }
 
-/// Replays a bag of which no read and no write fails: what it prints, and its status.
+/// Replays a bag without a failing read or write: what it prints, and its status.
 pub fn replayed<K: Keeper>(
     alloc: Global,
     office: &mut Office<K>,

@@ -20,7 +20,7 @@ const BYTES_A_READ: usize = 1_000;
 /// How many bytes the longest message has, which is the body of a post.
 const BODY: usize = 65_536;
 
-/// What a replay prints whose reader fails behind so many bytes of the bag.
+/// What a replay prints if its reader fails after that many bytes of the bag.
 fn broken_output(bytes: usize) -> &'static str {
     let mut whole = 0usize;
     for end in &ENDS {
@@ -31,8 +31,8 @@ fn broken_output(bytes: usize) -> &'static str {
     BROKEN.get(whole).copied().unwrap_or("")
 }
 
-/// A replay whose reader gives a byte a read and fails at one of the reads, in an office that is new, to a writer that
-/// doesn't fail; and whether it did.
+/// A replay in a new office, to a writer that doesn't fail, from a reader that gives a byte a read and fails at one of
+/// the reads; and whether it did.
 pub fn judge_replay<K: Keeper>(
     alloc: Global,
     office: &mut Office<K>,
@@ -76,15 +76,15 @@ pub fn try_replay_reads(alloc: Global, over: Over) -> Result<(), Met> {
         }
         failed = failed.saturating_add(1);
     }
-    // Each byte is read by itself, and the end by one read more.
+    // Each byte is read on its own, and the end by one more read.
     due(
         failed == bag.len().saturating_add(1),
         "another count of reads",
     )
 }
 
-/// A post whose reader fails at one of its reads, and whether it did: nothing is delivered. Behind the head the lines are
-/// written that ask the client to go on, and nothing else.
+/// A post whose reader fails at one of its reads, and whether it did: nothing is delivered. After the head only the
+/// lines are written that ask the client to continue.
 fn post_read(alloc: Global, request: &[u8], front: &str, fails_at: u32) -> Result<bool, Met> {
     let mut office = new_office(alloc)?;
     let mut writer = whole_writer(alloc);
@@ -93,7 +93,7 @@ fn post_read(alloc: Global, request: &[u8], front: &str, fails_at: u32) -> Resul
     judged
 }
 
-/// A post whose reader fails, in an office that is new, to a writer that doesn't fail.
+/// A post whose reader fails, in a new office, to a writer that doesn't fail.
 fn judge_post<K: Keeper>(
     office: &mut Office<K>,
     request: &[u8],
@@ -133,8 +133,8 @@ fn judge_post<K: Keeper>(
     Ok(true)
 }
 
-/// A post of the longest message with this header, whose nth read fails, for each n. The client may be told a front of
-/// the reply before.
+/// A post of the longest message with this header, whose nth read fails, for each n. The client may get the beginning
+/// of the reply before.
 pub fn try_post_reads(alloc: Global, more: &str, front: &str) -> Result<(), Met> {
     let request = longest_post(alloc, more)?;
     let mut failed = 0u32;
@@ -158,7 +158,7 @@ pub fn try_endless(alloc: Global) -> Result<(), Met> {
     judged
 }
 
-/// The front of a bag whose only message is longer than 1,000,000 reads of a byte.
+/// The beginning of a bag whose only message is longer than 1,000,000 reads of a byte.
 fn endless_bag(alloc: Global) -> Result<Vec<u8>, NoMemory> {
     let mut bytes = Vec::new(alloc);
     bytes.extend_from_slice(b"mail 999999999\n")?;
@@ -166,7 +166,7 @@ fn endless_bag(alloc: Global) -> Result<Vec<u8>, NoMemory> {
     Ok(bytes)
 }
 
-/// A replay of a bag without an end, in an office that is new, to a writer that doesn't fail.
+/// A replay of a bag without an end, in a new office, to a writer that doesn't fail.
 fn judge_endless<K: Keeper>(
     alloc: Global,
     office: &mut Office<K>,

@@ -1,4 +1,4 @@
-//! An office over two files, of which one stops, and what is there when they are opened again.
+//! What an office over two files has when they are opened again after one of them stopped.
 
 ghost use Rattle.std.specs.Prelude.{◌≡◌};
 
@@ -14,7 +14,7 @@ use sqlite::{Alter, Connection, FileStore, Files, Options};
 use sqlite_disk::{Crash, Disk, Fuse, Memory};
 use std::alloc::Global;
 
-/// What a file has, when its machine comes back, of that which wasn't synced.
+/// What a file has, when its machine comes back, of the writes that weren't synced.
 #[derive(Clone, Copy)]
 pub enum Left {
     Nothing,
@@ -24,11 +24,11 @@ pub enum Left {
 /// What is done over the files, until one stops.
 #[derive(Clone, Copy)]
 pub enum Way {
-    /// Each letter is delivered, and a settle comes behind it.
+    /// Each letter is delivered, and a settle follows.
     Letters,
     /// The bag of all letters is replayed, which keeps them together.
     Bag,
-    /// A store of schema 1 is opened that keeps all letters.
+    /// A store of schema 1 with all letters is opened.
     OldStore,
 }
 
@@ -39,7 +39,7 @@ pub struct Start {
     pub db: Vec<u8>,
 }
 
-/// Two files, of which the log stops after so many calls, and the database after so many.
+/// Two files: the log stops after that many calls, and the database after that many.
 #[derive(Clone, Copy)]
 pub struct Stop {
     pub way: Way,
@@ -95,7 +95,7 @@ fn mark(letters: &mut [bool; 7], place: usize) {
     }
 }
 
-/// How many runs are ready once so many of the letters are kept in their order.
+/// How many runs are ready once that many of the letters are kept in their order.
 fn runs_after(letters: usize) -> u32 {
     match letters {
         0..=2 => 0,
@@ -104,7 +104,7 @@ fn runs_after(letters: usize) -> u32 {
     }
 }
 
-/// Settles behind a letter, when so many were held, and notes the answer.
+/// Settles after a letter, when that many were held, and notes the answer.
 fn settle_and_note<K: Keeper>(office: &mut Office<K>, held: usize, answers: &mut Answers) {
     let runs = runs_after(held);
     let settled = Progress {
@@ -122,7 +122,7 @@ fn settle_and_note<K: Keeper>(office: &mut Office<K>, held: usize, answers: &mut
     }
 }
 
-/// Notes what the delivery of the letter at a place was answered, and whether it is held.
+/// Notes the answer to the delivery of the letter at a place, and whether it is held.
 fn note(place: usize, told: Result<Held, DeliverFault>, answers: &mut Answers) -> bool {
     match told {
         Ok(held) => {
@@ -148,7 +148,7 @@ fn note(place: usize, told: Result<Held, DeliverFault>, answers: &mut Answers) -
     }
 }
 
-/// Delivers each letter, settles behind it, and notes what it was answered.
+/// Delivers each letter, settles after it, and notes the answer.
 fn deliver_all<K: Keeper>(office: &mut Office<K>) -> Answers {
     let mut answers = NOTHING;
     let mut count = 0usize;
@@ -176,7 +176,7 @@ fn replay_all<K: Keeper>(alloc: Global, office: &mut Office<K>) -> Answers {
     }
 }
 
-/// What the lines of a replay of all letters say, which ended with this status.
+/// What the lines of a replay of all letters say that ended with this status.
 fn told_by(output: &[u8], status: u8) -> Answers {
     let mut answers = NOTHING;
     let mut rest = output;
@@ -205,7 +205,7 @@ fn has(letters: &[bool; 7], place: usize) -> bool {
     letters.get(place).copied().unwrap_or(false)
 }
 
-/// Whether a store keeps the letters that were answered held, and none but these and those in hand, all or none of them.
+/// Whether a store keeps the letters answered as held, and no others but those in hand, all or none of them.
 fn keeps_what_was_held<K: Keeper>(keeper: &mut K, answers: &Answers) -> bool {
     let mut all = true;
     let mut kept = 0usize;
@@ -229,7 +229,7 @@ fn keeps_what_was_held<K: Keeper>(keeper: &mut K, answers: &Answers) -> bool {
     all && (kept == 0 || lost == 0)
 }
 
-/// Whether an office tells these reports of a run, or none.
+/// Whether an office returns these reports of a run, or none.
 fn tells_run<K: Keeper>(
     office: &mut Office<K>,
     run: u32,
@@ -249,7 +249,7 @@ fn tells_run<K: Keeper>(
     tells_excuses && tells_update
 }
 
-/// Whether an office tells testing and the reports of exactly so many runs.
+/// Whether an office returns testing and the reports of exactly that many runs.
 fn tells_runs<K: Keeper>(office: &mut Office<K>, finished: u32) -> bool {
     let due_testing = TESTING.get(finished as usize).copied();
     let mut all = match office.testing_text() {
@@ -288,7 +288,7 @@ fn judge_office<K: Keeper>(
     due(tells_runs(office, 2), "reports behind the bag again")
 }
 
-/// A connection to files, or the files where they aren't opened.
+/// A connection to files, or the files if they can't be opened.
 fn connected<D: Disk + Drop>(
     alloc: Global,
     files: Files<D>,
@@ -321,7 +321,7 @@ fn run_until_stop<D: Disk + Drop>(
     }
 }
 
-/// A connection behind what is done in an office over it, and what was answered.
+/// A connection after what is done in an office over it, and what was answered.
 fn answered_over<S: Alter>(
     alloc: Global,
     setup: Setup,
@@ -340,7 +340,7 @@ fn answered_over<S: Alter>(
     }
 }
 
-/// A store behind what is done in an office over it, and what was answered.
+/// A store after what is done in an office over it, and what was answered.
 fn answered_in<K: Keeper>(alloc: Global, setup: Setup, keeper: K, way: Way) -> (K, Answers)
     requires { K.setup keeper ≡ setup }
 {
@@ -353,7 +353,7 @@ fn answered_in<K: Keeper>(alloc: Global, setup: Setup, keeper: K, way: Way) -> (
     (office.into_keeper(), answers)
 }
 
-/// The answers where nothing was opened.
+/// The answers if nothing was opened.
 fn unopened(way: Way) -> Answers {
     Answers {
         all_due: false,
@@ -377,7 +377,7 @@ fn come_back(alloc: Global, file: Fuse<Memory>, left: Left) -> Result<Fuse<Memor
     }
 }
 
-/// A file that has synced these bytes, and stops after so many calls.
+/// A file that has synced these bytes, and stops after that many calls.
 fn file_of(alloc: Global, bytes: &[u8], calls: u64) -> Result<Fuse<Memory>, Met> {
     let mut memory = Memory::new(alloc);
     if !bytes.is_empty() && (memory.write_at(0, bytes).is_err() || memory.sync().is_err()) {
@@ -387,7 +387,7 @@ fn file_of(alloc: Global, bytes: &[u8], calls: u64) -> Result<Fuse<Memory>, Met>
     Ok(Fuse::new(memory, calls))
 }
 
-/// Two files that have these bytes, and stop after so many calls each.
+/// Two files that have these bytes, and each stop after that many calls.
 fn files_of(
     alloc: Global,
     start: &Start,
@@ -412,7 +412,7 @@ fn nothing_yet(alloc: Global) -> Start {
     }
 }
 
-/// What files have in which this is to be done.
+/// What the files have in which this is to be done.
 pub fn start_of(alloc: Global, way: Way) -> Result<Start, Met> {
     match way {
         Way::Letters | Way::Bag => Ok(nothing_yet(alloc)),
@@ -420,7 +420,7 @@ pub fn start_of(alloc: Global, way: Way) -> Result<Start, Met> {
     }
 }
 
-/// What the files of a store of schema 1 have that keeps all letters, and has finished both runs.
+/// What the files of a store of schema 1 with all letters and both runs finished have.
 fn old_store(alloc: Global) -> Result<Start, Met> {
     let setup = setup_of(alloc)?;
     let start = nothing_yet(alloc);
@@ -615,7 +615,7 @@ fn judge_runs<S: Alter + Drop>(
     }
 }
 
-/// What is wrong with the office over a store, which is given back, if something is.
+/// What is wrong with the office over a store, which is returned, if something is.
 fn judge_in<K: Keeper>(
     alloc: Global,
     setup: Setup,

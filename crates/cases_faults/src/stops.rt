@@ -7,7 +7,7 @@ use std::alloc::Global;
 /// More calls than a run makes of a file.
 const MOST: u64 = 400;
 
-/// What the log and the database have, when the machine comes back, of that which wasn't synced.
+/// What the log and the database have, when the machine comes back, of the writes that weren't synced.
 static LOSSES: [(Left, Left); 4] = [
     (Left::Nothing, Left::Nothing),
     (Left::Nothing, Left::Everything),
@@ -15,7 +15,7 @@ static LOSSES: [(Left, Left); 4] = [
     (Left::Everything, Left::Everything),
 ];
 
-/// A stop of the log, or of the database, after so many calls.
+/// A stop of the log, or of the database, after that many calls.
 fn stop_after(way: Way, is_log: bool, calls: u64, left: (Left, Left)) -> Stop {
     let (left_of_log, left_of_db) = left;
     let (log_calls, db_calls) = if is_log {

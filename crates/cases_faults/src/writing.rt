@@ -51,12 +51,12 @@ fn writer_of(alloc: Global, kind: Kind, fails_at: u32) -> Writer {
     }
 }
 
-/// Whether what was taken until a write failed is a front of what is due, and not the whole.
+/// Whether what was taken until a write failed is a proper prefix of what is due.
 fn is_front(taken: &[u8], whole: &[u8]) -> bool {
     whole.starts_with(taken) && taken.len() < whole.len()
 }
 
-/// Whether so many writes failed in turn as a writer of the kind is asked for: one for each byte where it takes one.
+/// Whether the number of writes that failed in turn fits the kind of writer: one for each byte if it takes one.
 fn is_count(kind: Kind, failed: u32, bytes: usize) -> bool {
     let places = failed as usize;
     if kind.most == 1 {
@@ -73,8 +73,8 @@ fn judge_again<K: Keeper>(alloc: Global, office: &mut Office<K>, bag: &[u8]) -> 
     due(again.ends_with(TESTING[1].as_bytes()), "another testing")
 }
 
-/// A replay in an office that is new, to a writer that fails at one of its writes, and whether it did: what was written is a
-/// front of the output, and the same bag again in that office ends in the testing that is due.
+/// A replay in a new office, to a writer that fails at one of its writes, and whether it did: what was written is a
+/// prefix of the output, and the same bag again in that office ends in the testing that is due.
 pub fn judge_replay<K: Keeper>(
     alloc: Global,
     office: &mut Office<K>,
@@ -128,8 +128,8 @@ pub fn try_replay_writes(alloc: Global, over: Over) -> Result<(), Met> {
     Ok(())
 }
 
-/// A post to a writer that fails at one of its writes, and whether it did: what was written is a front of the reply,
-/// and the message is delivered unless the lines that ask the client to go on weren't taken whole.
+/// A post to a writer that fails at one of its writes, and whether it did: what was written is a prefix of the reply,
+/// and the message is delivered unless the lines that ask the client to continue weren't taken whole.
 fn post_written(
     alloc: Global,
     request: &[u8],
@@ -143,7 +143,7 @@ fn post_written(
     judged
 }
 
-/// A post to a writer that fails, in an office that is new.
+/// A post to a writer that fails, in a new office.
 fn judge_post<K: Keeper>(
     office: &mut Office<K>,
     request: &[u8],
@@ -201,7 +201,7 @@ fn try_posts(
 }
 
 /// A post of the longest message, with this header, whose nth write fails, for each n and for each kind of writer. The
-/// client is told a front before.
+/// client gets this beginning before.
 pub fn try_post_writes(alloc: Global, more: &str, front: &str) -> Result<(), Met> {
     let request = longest_post(alloc, more)?;
     let reply = format!(in alloc; "{front}{REPLY}")?;

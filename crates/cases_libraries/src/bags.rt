@@ -8,7 +8,7 @@ use std::str;
 /// How many bytes of a message are shown.
 const SHOWN: usize = 20;
 
-/// Adds what five calls of `next` answer.
+/// Adds the answers of five calls of `next`.
 fn put_five<R: Feed>(bag: &mut Bag<R>, came: &mut String) -> Result<(), AllocError> {
     for _ in 0..5 {
         put_next(bag, came)?;
@@ -16,7 +16,7 @@ fn put_five<R: Feed>(bag: &mut Bag<R>, came: &mut String) -> Result<(), AllocErr
     Ok(())
 }
 
-/// Adds what one call of `next` answers.
+/// Adds the answer of one call of `next`.
 fn put_next<R: Feed>(bag: &mut Bag<R>, came: &mut String) -> Result<(), AllocError> {
     match bag.next() {
         Ok(Some(message)) => put_message(&message, came),
@@ -43,7 +43,7 @@ pub fn put_bag(alloc: Global, bytes: &[u8], came: &mut String) -> Result<(), All
     put_given(alloc, &mut Halting::new(bytes, 4, 0), came)
 }
 
-/// Adds what a bag gives over a reader of one byte a call that may fail at one of them, and how often that was called.
+/// Adds what a bag gives over a reader of one byte a call that may fail at one of them, and how often it was called.
 pub fn put_reads(
     alloc: Global,
     fails_at: u32,
@@ -78,7 +78,7 @@ fn put_writes(writer: &mut Halting<'_>, bytes: &[u8], came: &mut String) -> Resu
     put_write(&mut sink, bytes, came)
 }
 
-/// Adds what two writes to a writer that takes no byte give, one of which may fail, and how often that was called.
+/// Adds what two writes give to a writer that takes no byte and may fail at one of them, and how often it was called.
 pub fn put_sink(fails_at: u32, bytes: &[u8], came: &mut String) -> Result<(), AllocError> {
     let mut writer = Halting::new(b"", 0, fails_at);
     put_writes(&mut writer, bytes, came)?;

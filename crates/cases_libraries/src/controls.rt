@@ -4,7 +4,7 @@ use crate::relations::{put_clauses, put_provisions};
 use deb_control::{Binary, Paragraph, Paragraphs};
 use std::alloc::{AllocError, Global};
 
-/// Adds what four calls of `next` answer for a text.
+/// Adds the answers of four calls of `next` for a text.
 pub fn put_paragraphs(alloc: Global, bytes: &[u8], came: &mut String) -> Result<(), AllocError> {
     let mut reader = Paragraphs::new(alloc, bytes);
     for _ in 0..4 {
@@ -13,7 +13,7 @@ pub fn put_paragraphs(alloc: Global, bytes: &[u8], came: &mut String) -> Result<
     Ok(())
 }
 
-/// Adds what one call of `next` answers.
+/// Adds the answer of one call of `next`.
 fn put_next(reader: &mut Paragraphs<'_>, came: &mut String) -> Result<(), AllocError> {
     match reader.next() {
         Ok(Some(paragraph)) => put_paragraph(&paragraph, came),

@@ -1,4 +1,4 @@
-//! Installable rows, from packages that are told in short.
+//! Installable rows, from packages in a short notation.
 
 use deb_control::{Binary, Paragraphs};
 use std::alloc::{AllocError, Global};
@@ -24,7 +24,7 @@ fn read_binary(alloc: Global, control: &str) -> Option<Binary> {
     }
 }
 
-/// The packages that lines tell in short, to be shared.
+/// The packages that lines give in short, to be shared.
 pub fn told_binaries(alloc: Global, text: &str) -> Result<Vec<Rc<Binary>>, AllocError> {
     let mut binaries = Vec::new(alloc);
     for line in text.lines() {
@@ -79,7 +79,7 @@ fn put_counted(
     put_answers(&counted.answers, came)
 }
 
-/// Adds whether there were at most so many looks, or how many there were where no number is given.
+/// Adds whether there were at most that many looks, or how many there were if no number is given.
 fn put_looks(looks: u64, most: u32, came: &mut String) -> Result<(), AllocError> {
     if most == 0 {
         write!(came, "{looks} looks: ")
@@ -104,7 +104,7 @@ fn put_judged(
     }
 }
 
-/// Adds which of the packages that lines tell in short are installable; with a number, the steps too.
+/// Adds which of the packages that lines give in short are installable; with a number, the steps too.
 pub fn put_told(
     alloc: Global,
     most: Option<u32>,

@@ -22,7 +22,7 @@ pub fn take_lines(
     Ok(())
 }
 
-/// Adds a line as it is written, and the answer to what it stands for.
+/// Adds a line as it is written, and the answer to its meaning.
 fn take_line(
     rt: &HostRuntime,
     what: &str,

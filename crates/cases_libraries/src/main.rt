@@ -1,6 +1,6 @@
-//! Worked rows of the libraries: versions, control data, installable rows, suites, setups, messages, bags, the program's
-//! words, and the rules over mail. Those of the low libraries that were written by hand come from standard input, whose
-//! head tells how they are written, and all others from files. For each row the program prints what public calls of the
+//! Worked rows of the libraries: versions, control data, installable rows, suites, setups, messages, bags, the
+//! program's words, and the rules over mail. Rows of the low libraries written by hand come from standard input, whose
+//! head explains the notation, and all others from files. For each row the program prints what public calls of the
 //! libraries answer.
 #![tactic(auto)]
 
@@ -41,7 +41,7 @@ enum About {
     Rules,
 }
 
-/// Takes the steps of a row, and adds what comes of them. The text before the first step is none.
+/// Takes the steps of a row, and adds the results. The text before the first step is none.
 fn take_all(
     rt: &HostRuntime,
     suite: &mut Suite,
@@ -62,7 +62,7 @@ fn take_steps(rt: &HostRuntime, row: &str, came: &mut String) -> Result<(), Allo
     take_all(rt, &mut suite, row, came)
 }
 
-/// Takes a row, and adds what comes of it.
+/// Takes a row, and adds the results.
 fn take_row(
     rt: &HostRuntime,
     about: About,
@@ -75,7 +75,7 @@ fn take_row(
     }
 }
 
-/// Takes a row, whose first line is its name, and prints what came of it.
+/// Takes a row, whose first line is its name, and prints the results.
 fn show(rt: &HostRuntime, about: About, row: &str) -> io::Result<()> {
     let name = row.lines().next().unwrap_or("");
     let mut came = String::new(rt.alloc());
@@ -85,7 +85,7 @@ fn show(rt: &HostRuntime, about: About, row: &str) -> io::Result<()> {
     }
 }
 
-/// Shows each row of a text. What stands before the first row is none.
+/// Shows each row of a text. Text before the first row is none.
 fn show_all(rt: &HostRuntime, about: About, text: &str) -> io::Result<()> {
     let text = text.strip_suffix('\n').unwrap_or(text);
     let mut rows = text.split("\n=== ");

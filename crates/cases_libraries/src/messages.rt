@@ -70,7 +70,7 @@ fn put_run(order: &RunOrder, came: &mut String) -> Result<(), AllocError> {
     came.push_str("\n")
 }
 
-/// Adds what a message says, apart from orders of runs: of some kinds the values, of others the kind alone.
+/// Adds what a message says, apart from orders of runs: of some kinds the values, of others only the kind.
 fn put_item(item: &Item, came: &mut String) -> Result<(), AllocError> {
     match item {
         Item::Upload {

@@ -2,7 +2,7 @@
 
 use std::alloc::{AllocError, Global};
 
-/// The bytes that a step's text stands for. They end with a line end, but where the text ends with a backslash.
+/// The bytes that a step's text means. They end with a line end, unless the text ends with a backslash.
 pub fn bytes_of(alloc: Global, text: &str) -> Result<Vec<u8>, AllocError> {
     let mut bytes = plain_bytes(alloc, text)?;
     if !text.ends_with('\\') {
@@ -11,7 +11,7 @@ pub fn bytes_of(alloc: Global, text: &str) -> Result<Vec<u8>, AllocError> {
     Ok(bytes)
 }
 
-/// The bytes that a text stands for.
+/// The bytes that a text means.
 pub fn plain_bytes(alloc: Global, text: &str) -> Result<Vec<u8>, AllocError> {
     let mut bytes = Vec::new(alloc);
     let (front, rest) = text.split_once('\\').unwrap_or((text, ""));
@@ -22,7 +22,7 @@ pub fn plain_bytes(alloc: Global, text: &str) -> Result<Vec<u8>, AllocError> {
     Ok(bytes)
 }
 
-/// Adds what stands behind a backslash, up to the next one.
+/// Adds what follows a backslash, up to the next one.
 fn put_part(bytes: &mut Vec<u8>, part: &str) -> Result<(), AllocError> {
     if let Some(repeated) = part.strip_prefix('(') {
         return put_repeated(bytes, repeated);
@@ -36,7 +36,7 @@ fn put_part(bytes: &mut Vec<u8>, part: &str) -> Result<(), AllocError> {
     Ok(())
 }
 
-/// The byte that a letter behind a backslash stands for. Any other letter, as a line end, stands for none.
+/// The byte that a letter after a backslash means. Any other letter, like a line end, means none.
 fn byte_of(letter: u8) -> Option<u8> {
     match letter {
         b'n' => Some(b'\n'),

@@ -35,7 +35,7 @@ fn put_alternative(alternative: &Alternative, came: &mut String) -> Result<(), A
     }
 }
 
-/// Adds provisions: the name of each, and the version behind `=`, if there is one.
+/// Adds provisions: the name of each, and the version after `=`, if there is one.
 pub fn put_provisions(provisions: &Provisions, came: &mut String) -> Result<(), AllocError> {
     for provision in provisions.as_slice() {
         put_provision(provision, came)?;
@@ -72,7 +72,7 @@ pub fn put_provisions_of(alloc: Global, text: &str, came: &mut String) -> Result
     }
 }
 
-/// Adds whether the version that stands first in a text is in the relation of the clause behind it.
+/// Adds whether the version at the beginning of a text is in the relation of the clause after it.
 pub fn put_holds(alloc: Global, text: &str, came: &mut String) -> Result<(), AllocError> {
     let (version, clause) = text.split_once(' ').unwrap_or((text, ""));
     match Clauses::parse(alloc, clause) {

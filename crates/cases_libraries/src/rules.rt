@@ -1,5 +1,5 @@
-//! What the rules say of rows: mail, and runs over it. A row is run over facts that go on from run to run, and once more
-//! over facts that are made anew from their rows behind each run, where both must say the same.
+//! What the rules say of rows: mail, and runs over it. A row is run over facts that continue from run to run, and once
+//! more over facts that are rebuilt from their rows after each run; both must say the same.
 
 mod desk;
 mod fault;
@@ -37,7 +37,7 @@ Sender: clock
 Role: runs
 ";
 
-/// What a row says over facts that go on, and what it says over facts that are made anew, where that is something else.
+/// What a row says over facts that continue, and what it says over facts that are rebuilt, if that differs.
 fn said(alloc: Global, setup: &Setup, row: &str) -> Result<String, Fault> {
     let mut said = told(alloc, setup, row, false)?;
     let anew = told(alloc, setup, row, true)?;

@@ -19,7 +19,7 @@ fn put_named(alloc: Global, names: &[&str], came: &mut String) -> Result<(), All
     }
 }
 
-/// Adds the name of each architecture, and the one that stands for all.
+/// Adds the name of each architecture, and the one that means all.
 fn put_names(archs: &Archs, came: &mut String) -> Result<(), AllocError> {
     for place in 0..archs.len() {
         write!(came, "architecture {}\n", archs.name(place))?;

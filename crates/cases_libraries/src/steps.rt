@@ -11,7 +11,7 @@ use crate::suites::{add_rows, put_changes};
 use std::alloc::AllocError;
 use testing_install::Suite;
 
-/// A step: what is done with its text, a number if one stands behind that, the text, and the bytes that it stands for.
+/// A step: what is done with its text, a number if one follows that, the text, and the bytes that it means.
 #[derive(Clone, Copy)]
 struct Step<'a> {
     what: &'a str,
@@ -20,7 +20,7 @@ struct Step<'a> {
     bytes: &'a [u8],
 }
 
-/// Takes a step, and adds what comes of it. Its first line says what is done with the text below, and may give a number.
+/// Takes a step, and adds the results. Its first line says what is done with the text below, and may give a number.
 pub fn take(
     rt: &HostRuntime,
     suite: &mut Suite,
@@ -39,7 +39,7 @@ pub fn take(
     take_packages(rt, suite, step, came)
 }
 
-/// Takes a step about packages that are told in short, or another one.
+/// Takes a step about packages in the short notation, or another one.
 fn take_packages(
     rt: &HostRuntime,
     suite: &mut Suite,
@@ -66,7 +66,7 @@ fn take_text(rt: &HostRuntime, step: Step<'_>, came: &mut String) -> Result<(), 
     }
 }
 
-/// Takes a step whose text a reader gives in parts, or a writer takes, or one whose lines are answered one by one.
+/// Takes a step whose text a reader gives in parts, or a writer takes, or one with lines that are answered one by one.
 fn take_bytes(rt: &HostRuntime, step: Step<'_>, came: &mut String) -> Result<(), AllocError> {
     match step.what {
         "bag" => put_bag(rt.alloc(), step.bytes, came),

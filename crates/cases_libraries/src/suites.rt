@@ -5,7 +5,7 @@ use std::alloc::{AllocError, Global};
 use std::mem;
 use testing_install::Suite;
 
-/// Puts packages behind the rows of a suite, none of which is there yet.
+/// Appends packages to the rows of a suite, none of them present yet.
 pub fn add_rows(alloc: Global, suite: &mut Suite, text: &str) -> Result<(), AllocError> {
     let rows = told_binaries(alloc, text)?;
     match mem::replace(suite, Suite::new(alloc)).with_rows(alloc, rows) {
@@ -17,8 +17,8 @@ pub fn add_rows(alloc: Global, suite: &mut Suite, text: &str) -> Result<(), Allo
     }
 }
 
-/// The sign of a row: `+` for one that is there and installable, `-` for another one that is there, `.` for one that
-/// isn't there.
+/// The sign of a row: `+` for one that is present and installable, `-` for another present one, `.` for one that isn't
+/// present.
 fn sign_at(suite: &Suite, place: usize) -> &'static str {
     if suite.is_installable(place) {
         "+"
@@ -63,7 +63,7 @@ fn put_sorted(lost: Vec<usize>, came: &mut String) -> Result<(), AllocError> {
 }
 
 /// Tries and makes the change in which one row leaves and then two come. Adds the rows that the trial loses, the signs
-/// behind it, and the signs behind the change.
+/// after it, and the signs after the change.
 fn put_change(
     alloc: Global,
     suite: &mut Suite,
@@ -91,7 +91,7 @@ fn put_change(
     }
 }
 
-/// Adds what comes of changes, one after the other.
+/// Adds the results of changes, one after the other.
 pub fn put_changes(
     alloc: Global,
     suite: &mut Suite,

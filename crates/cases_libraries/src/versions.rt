@@ -42,7 +42,7 @@ pub fn put_status(text: &str, came: &mut String) -> Result<(), AllocError> {
     write!(came, " {}", compare_status(first, by, second))
 }
 
-/// Adds the status of a comparison of which standard error tells why it is refused.
+/// Adds the status of a comparison whose refusal goes to standard error.
 pub fn put_told(rt: &HostRuntime, text: &str, came: &mut String) -> Result<(), AllocError> {
     let (first, by, second) = parts_of(text);
     write!(came, " {}", compare(rt, first, by, second))

@@ -30,7 +30,7 @@ pub fn export_in<K: Keeper>(
     put_asked(&writer.taken, exported, came)
 }
 
-/// Adds what was written, and why no more was, where something failed.
+/// Adds what was written, and if something failed, why no more was.
 fn put_asked(
     taken: &[u8],
     asked: Result<(), AskFault>,

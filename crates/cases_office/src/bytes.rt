@@ -4,7 +4,7 @@ use crate::chains::put_chain;
 use std::alloc::{AllocError, Global};
 use std::str;
 
-/// Adds the text that a step stands for, by its first word and what stands behind that. Some steps stand for none.
+/// Adds the text of a step, from its first word and what follows that. Some steps have none.
 pub fn put_text(
     alloc: Global,
     what: &str,
@@ -21,7 +21,7 @@ pub fn put_text(
     }
 }
 
-/// Adds the text of these lines, whose last line end is left out. No line is no text.
+/// Adds the text of these lines, without the last line end. No line is no text.
 fn put_whole(lines: &str, text: &mut String) -> Result<(), AllocError> {
     if lines.is_empty() {
         return Ok(());
@@ -29,7 +29,7 @@ fn put_whole(lines: &str, text: &mut String) -> Result<(), AllocError> {
     write!(text, "{lines}\n")
 }
 
-/// Adds the bag of these messages, which a line `--` parts.
+/// Adds the bag of these messages, which a line `--` separates.
 fn put_bag(lines: &str, text: &mut String) -> Result<(), AllocError> {
     if !lines.is_empty() {
         for message in lines.split("\n--\n") {
@@ -39,7 +39,7 @@ fn put_bag(lines: &str, text: &mut String) -> Result<(), AllocError> {
     Ok(())
 }
 
-/// Adds a message, whose last line end is left out, behind what is in the bag, and its line before it.
+/// Appends its framing line and a message, without its last line end, to the bag.
 pub fn put_message(message: &str, text: &mut String) -> Result<(), AllocError> {
     write!(
         text,
@@ -48,7 +48,7 @@ pub fn put_message(message: &str, text: &mut String) -> Result<(), AllocError> {
     )
 }
 
-/// Adds the request for a method and a path, with a body where there is one, whose last line end is left out.
+/// Adds the request for a method and a path, with a body if there is one, without its last line end.
 fn put_request(what: &str, body: &str, text: &mut String) -> Result<(), AllocError> {
     let head = " HTTP/1.1\r\nHost: x\r\n";
     if body.is_empty() {
@@ -58,7 +58,7 @@ fn put_request(what: &str, body: &str, text: &mut String) -> Result<(), AllocErr
     write!(text, "{what}{head}Content-Length: {length}\r\n\r\n{body}\n")
 }
 
-/// Bytes as they are written out, where a backslash begins what can't be written. Line ends in the row are none.
+/// Bytes as they are written out. A backslash begins what can't be written. Line ends in the row are none.
 pub fn plain_bytes(alloc: Global, text: &str) -> Result<Vec<u8>, AllocError> {
     let mut bytes = Vec::new(alloc);
     put_plain(text, &mut bytes)?;
@@ -82,8 +82,8 @@ fn put_plain(text: &str, bytes: &mut Vec<u8>) -> Result<(), AllocError> {
     Ok(())
 }
 
-/// Adds what a letter behind a backslash is written for: `\n` and `\r` are line ends, `\\` is a backslash, `\f` the
-/// byte 255, `\x` 65,498 letters, `\y` 8,167.
+/// Adds what a letter after a backslash means: `\n` and `\r` are line ends, `\\` is a backslash, `\f` the byte 255,
+/// `\x` 65,498 letters, `\y` 8,167.
 fn put_escaped(bytes: &mut Vec<u8>, byte: u8) -> Result<(), AllocError> {
     let (meant, count) = match byte {
         b'n' => (b'\n', 1),

@@ -10,7 +10,7 @@ const PACKAGES: u32 = 50;
 const UPLOAD: &str =
     "From: ftp\nNumber: 1\nKind: upload\nSource: chain\nVersion: 1\nUrgency: critical\nDay: 2025-03-01";
 
-/// Adds the bag of a chain of this many builds, and of the name that the last package depends on: an upload, its builds
+/// Adds the bag of a chain of this many builds, given the name that the last package depends on: an upload, its builds
 /// and a run that covers them. Each other package depends on the next one.
 pub fn put_chain(alloc: Global, what: &str, bag: &mut String) -> Result<(), AllocError> {
     let (builds, last) = what.split_once(' ').unwrap_or((what, ""));
@@ -22,7 +22,7 @@ pub fn put_chain(alloc: Global, what: &str, bag: &mut String) -> Result<(), Allo
     put_order(alloc, builds, bag)
 }
 
-/// Adds the build of a chain that stands behind this many of its builds.
+/// Adds the build of a chain that follows this many of its builds.
 fn put_build(
     alloc: Global,
     before: u32,
@@ -35,7 +35,7 @@ fn put_build(
     put_message(build.as_str(), bag)
 }
 
-/// Adds the text of a build that stands behind this many builds of its chain.
+/// Adds the text of a build that follows this many builds of its chain.
 fn put_packages(
     before: u32,
     builds: u32,

@@ -1,4 +1,4 @@
-//! A step that checks a store behind the last one.
+//! A step that checks a store after the last one.
 ghost use Rattle.std.specs.Prelude.{◌≡◌};
 
 use office_core_check::{Checked, check, check_status, checked_text};

@@ -1,10 +1,10 @@
-//! A reader and a writer that give or take a few bytes a call, and fail at one of the calls, if it comes to that.
+//! A reader and a writer that give or take a few bytes a call, and fail at one of the calls, if that call is made.
 
 use std::alloc::Global;
 use std::io;
 use std::io::{Read, Write};
 
-/// Gives so many bytes a call at most, and fails at one of the calls.
+/// Gives at most that many bytes a call, and fails at one of the calls.
 #[derive(Drop)]
 pub struct Broken<'a> {
     pub bytes: &'a [u8],
@@ -37,7 +37,7 @@ impl Read for Broken<'_> {
     }
 }
 
-/// Takes so many bytes a call at most, and fails at one of the calls.
+/// Takes at most that many bytes a call, and fails at one of the calls.
 #[derive(Drop)]
 pub struct Halting {
     pub taken: Vec<u8>,

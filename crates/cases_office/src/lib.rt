@@ -1,5 +1,5 @@
-//! The worked rows of the office: mail and requests, and what comes of them. A row is run in an office in memory, and
-//! once more over tables of sqlite, where both must print the same.
+//! The worked rows of the office: mail and requests, and their results. A row is run in an office in memory, and once
+//! more over tables of sqlite; both must print the same.
 #![tactic(auto)]
 
 mod asking;
@@ -18,8 +18,8 @@ use office_over::{put_in_memory, put_in_tables};
 use sitting::tells_asked;
 use std::alloc::{AllocError, Global};
 
-/// Adds what a row prints to a text that is empty: what came of it in memory, and what came of it over tables, where
-/// that is something else; or what came of it in memory, and which mail was asked for.
+/// Adds what a row prints to an empty text: its result in memory, and its result over tables, if that differs; or its
+/// result in memory, and which mail was asked for.
 pub fn put_row(alloc: Global, row: &str, came: &mut String) -> Result<(), AllocError> {
     if tells_asked(row) {
         return put_in_noting(alloc, row, came);
@@ -28,8 +28,8 @@ pub fn put_row(alloc: Global, row: &str, came: &mut String) -> Result<(), AllocE
     put_both(alloc, row, came, &mut told)
 }
 
-/// Adds what came of a row in memory to one empty text, and what came of it over tables to another. What differs comes
-/// behind the first.
+/// Adds the result of a row in memory to one empty text, and that over tables to another. Notes that differ follow the
+/// first.
 fn put_both(
     alloc: Global,
     row: &str,

@@ -11,13 +11,13 @@ use std::alloc::{AllocError, Global};
 use testing_rules_model::FactRows;
 use testing_rules_suites::Testing;
 
-/// The least number of each sender that was asked for: the greatest `u32` where none was.
+/// The least number of each sender that was asked for: the greatest `u32` if none was.
 type Least = [u32; 16];
 
 /// Nothing was asked for.
 const NONE: Least = [u32::MAX; 16];
 
-/// What a store was asked for on the way to a run's end: before it was asked for its rows of facts, where it was, and
+/// What a store was asked for on the way to a run's end: before it was asked for its rows of facts, if it was, and
 /// since then.
 #[derive(Clone, Copy)]
 struct Notes {
@@ -113,8 +113,8 @@ impl Keeper for Noting {
     }
 }
 
-/// Adds what comes of a row in an office in memory, which is made anew over its store where the row says so; and then,
-/// of each sender that was asked for on the way to the end of the last run, the least number.
+/// Adds the result of a row in an office in memory, which is rebuilt over its store if the row says so; and then, of
+/// each sender that was asked for on the way to the end of the last run, the least number.
 pub fn put_in_noting(alloc: Global, row: &str, came: &mut String) -> Result<(), AllocError> {
     match Setup::parse(alloc, setup_in(row).as_bytes()) {
         Ok(setup) => put_over_noting(alloc, setup, row, came),
@@ -122,7 +122,7 @@ pub fn put_in_noting(alloc: Global, row: &str, came: &mut String) -> Result<(), 
     }
 }
 
-/// Adds what comes of a row in an office in memory with this setup, and of each sender the least number that was asked
+/// Adds the result of a row in an office in memory with this setup, and of each sender the least number that was asked
 /// for.
 fn put_over_noting(
     alloc: Global,
@@ -150,7 +150,7 @@ fn put_over_noting(
 }
 
 /// Takes the steps of each sitting in an office that knows nothing yet, each over the store of the one before. The last
-/// one's store is given back.
+/// one's store is returned.
 fn sit_in_turn<K: Keeper>(
     alloc: Global,
     office: Office<K>,
@@ -190,7 +190,7 @@ fn put_notes(notes: &Notes, came: &mut String) -> Result<(), AllocError> {
     put_least("asked", &notes.asked, came)
 }
 
-/// Adds the least number of each sender, by its place, behind a word.
+/// Adds the least number of each sender, by its place, after a word.
 fn put_least(word: &str, least: &Least, came: &mut String) -> Result<(), AllocError> {
     for (sender, number) in least.iter().enumerate() {
         if *number < u32::MAX {

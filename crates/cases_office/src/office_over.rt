@@ -10,13 +10,13 @@ use office_store::{Keeper, OpenFault, Plain, Tables};
 use sqlite::{Alter, Connection, Error};
 use std::alloc::{AllocError, Global};
 
-/// What parts the sittings of a row.
+/// Separates the sittings of a row.
 pub const REOPEN: &str = "\n> reopen";
 
-/// What begins a statement of SQL, by which tables are changed before they are opened.
+/// Begins a statement of SQL that changes tables before they are opened.
 const STATEMENT: &str = "\n> sql ";
 
-/// Adds what comes of a row in one office in memory, which stands from its first step to its last.
+/// Adds the result of a row in one office in memory, which lasts from its first step to its last.
 pub fn put_in_memory(alloc: Global, row: &str, came: &mut String) -> Result<(), AllocError> {
     let first = row.split(REOPEN).next().unwrap_or(row);
     match Setup::parse(alloc, setup_in(first).as_bytes()) {
@@ -25,7 +25,7 @@ pub fn put_in_memory(alloc: Global, row: &str, came: &mut String) -> Result<(), 
     }
 }
 
-/// Adds what comes of a row in one office in memory with this setup.
+/// Adds the result of a row in one office in memory with this setup.
 fn put_over_plain(
     alloc: Global,
     setup: Setup,
@@ -45,7 +45,7 @@ fn put_over_plain(
     }
 }
 
-/// Takes the steps of each sitting in an office over a store, which is given back.
+/// Takes the steps of each sitting in an office over a store, which is returned.
 fn sit_in<K: Keeper>(
     alloc: Global,
     setup: Setup,
@@ -74,7 +74,7 @@ fn sit_each<K: Keeper>(
     Ok(())
 }
 
-/// Adds what comes of a row over tables, which each sitting opens again.
+/// Adds the result of a row over tables, which each sitting opens again.
 pub fn put_in_tables(alloc: Global, row: &str, came: &mut String) -> Result<(), AllocError> {
     match Connection::open_in_memory(alloc) {
         Ok(conn) => put_over_tables(alloc, conn, row, came),
@@ -82,7 +82,7 @@ pub fn put_in_tables(alloc: Global, row: &str, came: &mut String) -> Result<(), 
     }
 }
 
-/// Adds what comes of a row over tables in this connection, which each sitting opens again.
+/// Adds the result of a row over tables in this connection, which each sitting opens again.
 fn put_over_tables<S: Alter + Drop>(
     alloc: Global,
     conn: Connection<S>,
@@ -115,7 +115,7 @@ fn change_all<S: Alter>(
     Ok(())
 }
 
-/// Takes a statement. One that fails is told.
+/// Takes a statement. One that fails is reported.
 fn change<S: Alter>(
     conn: &mut Connection<S>,
     statement: &str,
@@ -127,7 +127,7 @@ fn change<S: Alter>(
     }
 }
 
-/// Takes a sitting's steps over tables, which are closed behind it.
+/// Takes a sitting's steps over tables, which are closed afterwards.
 fn sit_over<S: Alter + Drop>(
     alloc: Global,
     conn: Connection<S>,
@@ -140,7 +140,7 @@ fn sit_over<S: Alter + Drop>(
     }
 }
 
-/// Takes a sitting's steps over tables with this setup, which are closed behind it.
+/// Takes a sitting's steps over tables with this setup, which are closed afterwards.
 fn sit_with<S: Alter + Drop>(
     alloc: Global,
     setup: Setup,
@@ -160,7 +160,7 @@ fn sit_with<S: Alter + Drop>(
     }
 }
 
-/// The store of an office, once what is told behind its steps is added.
+/// The store of an office, once the reports after its steps are added.
 fn told_over<K: Keeper>(
     alloc: Global,
     office: Office<K>,
@@ -176,7 +176,7 @@ fn told_over<K: Keeper>(
     (keeper, told)
 }
 
-/// Adds what is told behind these steps: what a check of the store finds, or the facts that it keeps.
+/// Adds the report after these steps: what a check of the store finds, or the facts that it keeps.
 fn told_in<K: Keeper>(
     alloc: Global,
     setup: &Setup,

@@ -1,4 +1,4 @@
-//! Replays: of a bag, and where a read or a write fails.
+//! Replays: of a bag, and of one with a failing read or write.
 
 use crate::bytes::text_in;
 use crate::failing::{Broken, Halting, whole_reader, whole_writer};
@@ -7,7 +7,7 @@ use office_mail::{Bag, FromRead, ToWrite};
 use office_store::Keeper;
 use std::alloc::{AllocError, Global};
 
-/// Replays the bag that a reader gives, to a writer. What is returned is the exit status.
+/// Replays the bag that a reader gives, to a writer. Returns the exit status.
 fn replay_by<K: Keeper>(
     alloc: Global,
     office: &mut Office<K>,

@@ -38,7 +38,7 @@ pub fn setup_in(sitting: &str) -> &str {
     }
 }
 
-/// Takes the steps of a sitting in an office, and adds what comes of them. The text before the first step is none.
+/// Takes the steps of a sitting in an office, and adds the results. The text before the first step is none.
 pub fn sit<K: Keeper>(
     alloc: Global,
     office: &mut Office<K>,
@@ -55,7 +55,7 @@ pub fn sit<K: Keeper>(
     Ok(())
 }
 
-/// Takes one step, by its first word, what stands behind that, and the lines below.
+/// Takes one step, given its first word, what follows that, and the lines below.
 fn take<K: Keeper>(
     alloc: Global,
     office: &mut Office<K>,
@@ -73,7 +73,7 @@ fn take<K: Keeper>(
     take_with(alloc, office, what, more, text.as_bytes(), came)
 }
 
-/// Takes one step, by the bytes that it stands for: mail or a request.
+/// Takes one step, given its bytes: mail or a request.
 fn take_with<K: Keeper>(
     alloc: Global,
     office: &mut Office<K>,
@@ -91,7 +91,7 @@ fn take_with<K: Keeper>(
     }
 }
 
-/// Takes one step: a call of the office by itself.
+/// Takes one step: a single call of the office.
 fn take_call<K: Keeper>(
     alloc: Global,
     office: &mut Office<K>,
@@ -109,7 +109,7 @@ fn take_call<K: Keeper>(
     }
 }
 
-/// A setup and a statement come before an opening, and what is told behind the last step is none here.
+/// A setup and a statement come before an opening, and a report after the last step is none here.
 fn put_other(what: &str, came: &mut String) -> Result<(), AllocError> {
     match what {
         "setup" | "sql" | "facts" | "check" | "asked" => Ok(()),
@@ -117,17 +117,17 @@ fn put_other(what: &str, came: &mut String) -> Result<(), AllocError> {
     }
 }
 
-/// Whether the facts that are kept are told behind these steps.
+/// Whether the kept facts are reported after these steps.
 pub fn tells_facts(steps: &str) -> bool {
     steps.lines().last() == Some("> facts")
 }
 
-/// Whether the store is checked behind these steps.
+/// Whether the store is checked after these steps.
 pub fn tells_check(steps: &str) -> bool {
     steps.lines().last() == Some("> check")
 }
 
-/// Whether it is told which mail these steps ask a store for.
+/// Whether the mail that these steps ask a store for is reported.
 pub fn tells_asked(steps: &str) -> bool {
     steps.lines().last() == Some("> asked")
 }

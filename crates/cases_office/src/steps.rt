@@ -1,4 +1,4 @@
-//! Steps but for replays: a request, and the calls of an office one by one.
+//! Steps other than replays: a request, and the calls of an office one by one.
 
 use crate::bytes::{put_visible, text_in};
 use crate::failing::{Broken, Halting, whole_reader, whole_writer};
@@ -8,7 +8,7 @@ use office_store::Keeper;
 use std::alloc::{AllocError, Global};
 use testing_rules_model::FactRow;
 
-/// Serves the request that a reader gives, to a writer. What is returned is whether it is served.
+/// Serves the request that a reader gives, to a writer. Returns whether it is served.
 fn serve_by<K: Keeper>(office: &mut Office<K>, reader: &mut Broken, writer: &mut Halting) -> bool {
     serve_one(
         office,

@@ -1,9 +1,9 @@
-//! Rows and parts of the whole office. Worked rows come from standard input, and random ones from a file; behind them
-//! stand the parts in which one thing fails, each of which says `right` or what is wrong, and those of the program's
-//! own calls. With ample memory each part says right. Whoever runs the program may refuse one growth of memory: a part
-//! in which one thing fails then says right, too.
+//! Rows and parts of the whole office. Worked rows come from standard input, and random ones from a file. The parts
+//! follow: those in which one thing fails, which print `right` or what is wrong, and those of the program's own calls.
+//! With ample memory each part is right. Whoever runs the program may refuse one growth of memory: a part in which one
+//! thing fails is then right too.
 //!
-//! With words, only the parts whose names begin with one of them are tried, and no row is read.
+//! With words, only the parts with names that begin with one of them are tried, and no row is read.
 #![tactic(auto)]
 
 mod client;
@@ -44,7 +44,7 @@ fn try_call(rt: &HostRuntime, call: Call) -> Result<(), Met> {
     }
 }
 
-/// What is said of a part of the program's own calls. One that was refused memory in what it needs itself is tried once
+/// The result of a part of the program's own calls. If it was refused memory in what it needs itself, it is tried once
 /// more.
 fn said_of_call(rt: &HostRuntime, call: Call) -> &'static str {
     let tried = match try_call(rt, call) {
@@ -58,13 +58,13 @@ fn said_of_call(rt: &HostRuntime, call: Call) -> &'static str {
     }
 }
 
-/// Tells what is said of a part, and whether that is that it isn't right. A line takes no memory.
+/// Prints the result of a part, and returns whether it isn't right. A line allocates nothing.
 fn tell(rt: &HostRuntime, name: &str, said: &str) -> u8 {
     let _ = println!(rt; "{name}: {said}");
     if said == "right" { 0 } else { 1 }
 }
 
-/// Tries the parts that these words ask for, and says how many weren't right.
+/// Tries the parts that these words ask for, and returns how many weren't right.
 fn try_parts(rt: &HostRuntime, words: &[String]) -> u8 {
     let mut wrong = 0u8;
     for (name, part) in parts() {
@@ -80,7 +80,7 @@ fn try_parts(rt: &HostRuntime, words: &[String]) -> u8 {
     wrong
 }
 
-/// Shows the rows, if no word was given. What is returned is how often something was wrong.
+/// Shows the rows, if no word was given. Returns how often something was wrong.
 fn show_without(rt: &HostRuntime, words: &[String]) -> u8 {
     if words.is_empty() && show_rows(rt).is_err() {
         let _ = println!(rt; "the rows can't be read or shown");

@@ -8,7 +8,7 @@ use testing_rules::{
     Archs, Excuses, Facts, Testing, Update, excuses, migrate, testing_text, update_text,
 };
 
-/// A group that can't move: its moves are those that are due, whether or not they were refused before.
+/// A group that can't move makes the moves that are due, whether or not they were refused before.
 pub fn try_moves(alloc: Global) -> Result<(), Met> {
     let setup = setup_of(alloc)?;
     let tried = try_group(alloc, &setup);
@@ -97,7 +97,7 @@ fn try_excuses(
     }
 }
 
-/// The update of the moves by these excuses is the one that is due. They are asked for again where they are refused.
+/// The update of the moves by these excuses is the one that is due. If they are refused, they are asked for again.
 fn try_moves_by(
     alloc: Global,
     archs: &Archs,
@@ -112,7 +112,7 @@ fn try_moves_by(
     }
 }
 
-/// The update of the moves is the due one behind moves that were refused, which left testing as it was.
+/// The update of the moves is the due one after refused moves, which left testing as it was.
 fn try_moves_again(
     alloc: Global,
     archs: &Archs,
@@ -138,7 +138,7 @@ fn tells_update(alloc: Global, archs: &Archs, update: Update, date: Date) -> Res
     }
 }
 
-/// Testing after so many runs is this.
+/// Testing after that many runs is this.
 fn tells_testing(
     alloc: Global,
     archs: &Archs,

@@ -1,4 +1,4 @@
-//! The rows that are read, and what comes of each.
+//! The rows that are read, and the result of each.
 
 use cases_office::put_row;
 use std::{fs, io};
@@ -6,7 +6,7 @@ use std::{fs, io};
 /// The file of the random rows.
 const RANDOM_ROWS: &str = "random_rows";
 
-/// Runs a row, whose first line says what it is about, and prints what came of it.
+/// Runs a row, whose first line says what it is about, and prints the result.
 fn show(rt: &HostRuntime, row: &str) -> io::Result<()> {
     let about = row.lines().next().unwrap_or("");
     let mut came = String::new(rt.alloc());

@@ -1,11 +1,11 @@
-//! The sentences of faults: of a store, and of a setup's file that isn't there. All end with status 4.
+//! The sentences of faults: of a store, and of a setup's file that is missing. All end with status 4.
 
 use cases_faults::{Met, due};
 use office_cli::{FileFault, conf_status, read_setup, store_status};
 use sqlite::{Error, ErrorCode};
 use std::alloc::Global;
 
-/// A fault of a store is told by this sentence, and ends with status 4.
+/// A fault of a store prints this sentence, and ends with status 4.
 fn tells(alloc: Global, fault: FileFault, sentence: &str) -> Result<(), Met> {
     let status = store_status(&fault);
     match format!(in alloc; "{fault}") {
@@ -41,7 +41,7 @@ pub fn try_store_faults(alloc: Global) -> Result<(), Met> {
     )
 }
 
-/// A setup's file that isn't there is told in the system's words.
+/// A missing setup's file is reported in the system's words.
 pub fn try_missing_setup(rt: &HostRuntime) -> Result<(), Met> {
     let Err(fault) = read_setup(rt, "no_such_folder/setup.conf") else {
         return Err(Met::Wrong("a setup that isn't there is read"));

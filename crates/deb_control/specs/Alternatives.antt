@@ -1,4 +1,4 @@
--- What contracts see of a clause.
+-- How contracts see a clause.
 use Rattle.std.specs.Prelude.{List, [], ◌∷◌}
 use Rattle.deb_control.specs.declared.relation.Alternative.{Alternative}
 use Rattle.deb_control.specs.declared.relation.Alternatives.{Alternatives}

@@ -1,5 +1,5 @@
 -- Steps: no contract of a call that users make rests on this file.
--- A binary package, of which the clauses of both fields are read at once.
+-- A binary package; the clauses of both fields are read together.
 use Rattle.std.specs.Prelude.{Bool, ◌&&◌, List, ◌++◌, Result, Ok}
 use Rattle.std.specs.Str.{bytes_eq}
 use Rattle.deb_control.specs.Paragraphs.{Field, value_of}
@@ -11,7 +11,7 @@ use Rattle.deb_control.specs.declared.fault.BinaryFault.{BinaryFault}
 use Rattle.deb_control.specs.declared.fault.BinaryFault.TheVariants.{BadName, BadVersion}
 use Rattle.deb_control.specs.declared.binary.Binary.{Binary}
 
--- what the package of a paragraph needs: the clauses of Pre-Depends, then those of Depends, or the first fault of these
+-- the needs of a paragraph's package: the clauses of Pre-Depends, then those of Depends, or the first fault in these
 unfoldable pub needs_in : List Field → Result (List (List Alternative)) BinaryFault
 needs_in p = do
   before ← of_field PreDepends (clauses_in (optional p PreDepends))

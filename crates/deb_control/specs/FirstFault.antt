@@ -1,5 +1,5 @@
--- The first fault from the left of a text that spells no alternative (Debian Policy 7.1): what stands before it is
--- spelled, and where the next part is due there is another word.
+-- The first fault from the left of a text that spells no alternative (Debian Policy 7.1): the text before it is well
+-- spelled, and another word is in the place of the next part.
 use Rattle.std.specs.Prelude.{◌≡◌, ℕ, Bool, true, false, not, List, [], ◌∷◌, ◌++◌, Err, ◌↔◌, ⊤, codes}
 use Rattle.std.specs.List.{list_all}
 use Rattle.deb_control.specs.Text.{is_white}
@@ -14,7 +14,7 @@ abbrev pub IsStopped : (ℕ → Bool) → List ℕ → Type 0
 IsStopped stops [] = ⊤
 IsStopped stops (c ∷ cs) = stops c ≡ true
 
--- Behind white, a word goes to the first character that ends it, or to the end of the text.
+-- After white, a word ends at the first character of this kind, or at the end of the text.
 pub record IsWord (ends : ℕ → Bool) (text word rest : List ℕ) : Type 0 where
   pub before : List ℕ
   pub written : text ≡ before ++ (word ++ rest)
@@ -23,18 +23,18 @@ pub record IsWord (ends : ℕ → Bool) (text word rest : List ℕ) : Type 0 whe
   pub runs : list_all (λ c. not (ends c)) word ≡ true
   pub stops : IsStopped ends rest
 
--- the word that stands where a name is due is none
+-- the word in the place of a name isn't a package name
 pub record HasBadName (text : List ℕ) : Type 0 where
   pub word : List ℕ
   pub rest : List ℕ
   pub is_word : IsWord ends_name text word rest
   pub unnamed : is_package_name word ≡ false
 
--- the longest sign: no sign goes on with the next character
+-- the longest sign: the next character doesn't continue it
 abbrev pub IsLongest : List ℕ → List ℕ → Type 0
 IsLongest sign after = (c : ℕ) (more : List ℕ) (op : Op) → after ≡ c ∷ more → IsSign op (sign ++ c ∷ []) → ⊥
 
--- the word that stands behind a sign, where a version is due, is none
+-- the word in the place of a version, after a sign, isn't a version
 pub record HasBadVersion (signs : Signs) (text : List ℕ) : Type 0 where
   pub before : List ℕ
   pub name : List ℕ
@@ -56,9 +56,10 @@ pub record HasBadVersion (signs : Signs) (text : List ℕ) : Type 0 where
   pub is_word : IsWord ends_version after word rest
   pub unversioned : is_version word ≡ false
 
--- The laws: an alternative is refused for its name, or for a version, exactly where that is its first fault.
+-- The law: an alternative is refused for its name exactly if that is its first fault.
 abbrev pub RefusesBadNames : Type 0
 RefusesBadNames = (signs : Signs) (text : List ℕ) → (alternative_in signs text ≡ Err BadName) ↔ HasBadName text
 
+-- The law: an alternative is refused for a version exactly if that is its first fault.
 abbrev pub RefusesBadVersions : Type 0
 RefusesBadVersions = (signs : Signs) (text : List ℕ) → (alternative_in signs text ≡ Err BadVersion) ↔ HasBadVersion signs text

@@ -13,25 +13,25 @@ use Rattle.deb_control.specs.declared.fault.ParagraphFault.TheVariants.{NotUtf8,
 abbrev pub Field : Type 0
 Field = List ℕ × List ℕ
 
--- a field as slices of the source, by their bytes
+-- a field as borrowed parts of the source, by their bytes
 abbrev pub shown : Bor (List ℕ) × Bor (List ℕ) → Field
 shown f = (f.0.now, f.1.now)
 
--- whether there is anything in a list
+-- whether a list has any items
 abbrev pub not_empty : {X : Type 0} → List X → Bool
 not_empty [] = false
 not_empty (x ∷ xs) = true
 
--- a character of a field's name: from ! to ~, but no colon (Debian Policy 5.1)
+-- a character of a field's name: from ! to ~, except the colon (Debian Policy 5.1)
 abbrev pub is_name_char : ℕ → Bool
 is_name_char c = nat_le (char "!") c && nat_le c (char "~") && not (c == char ":")
 
--- a field's name: one character at least, and neither # nor - at the front
+-- a field's name: at least one character, the first neither # nor -
 unfoldable pub is_field_name : List ℕ → Bool
 is_field_name [] = false
 is_field_name (c ∷ cs) = not (c == char "#") && not (c == char "-") && list_all is_name_char (c ∷ cs)
 
--- the name in a line that begins a field: what stands before its first colon
+-- the name in a line that begins a field: the text before its first colon
 abbrev pub name_in : List ℕ → List ℕ
 name_in line = before_first is_colon line
 
@@ -39,20 +39,20 @@ name_in line = before_first is_colon line
 abbrev pub has_colon : List ℕ → Bool
 has_colon line = list_any is_colon line
 
--- The field that a line begins. Its value reaches over the lines that continue it, without the white at both ends.
+-- The field that a line begins. Its value includes the lines that continue it, without the white at both ends.
 unfoldable pub field_of : List ℕ → List (List ℕ) → Field
 field_of line continued = (name_in line, trim_white (after_first is_colon (join_with_byte (char "\n") (line ∷ continued))))
 
--- the fields of a paragraph's lines: one for each line that doesn't continue, with the continuing lines after it
+-- the fields of a paragraph's lines: one for each line that doesn't continue another, with its continuing lines
 unfoldable pub fields : List (List ℕ) → List Field
 fields [] = []
 fields (line ∷ after) = if continues line then fields after else field_of line (take_while continues after) ∷ fields after
 
--- one of these names is this one: names are compared without regard to ASCII case (Debian Policy 5.1)
+-- one of these names is this name: names are compared without regard to ASCII case (Debian Policy 5.1)
 abbrev pub has_name : List (List ℕ) → List ℕ → Bool
 has_name names name = list_any (λ n. str_eq_ignore_ascii_case n name) names
 
--- the fault of a line that doesn't continue, where these names stand before it in its paragraph
+-- the fault of a line that begins a field, after fields with these names in its paragraph
 unfoldable pub line_fault : List (List ℕ) → List ℕ → Option ParagraphFault
 line_fault names line =
     if not (has_colon line) then Some NoColon
@@ -75,7 +75,7 @@ first_fault names (line ∷ after) =
 unfoldable pub paragraph_lines : List (List ℕ) → List (List (List ℕ))
 paragraph_lines ls = filter not_empty (slice_split is_blank_line ls)
 
--- What a reader finds in a text: the paragraphs before the first bad line, and the fault of that line if there is one.
+-- The content of a text: the paragraphs before the first bad line, and the fault of that line if there is one.
 pub record Reading : Type 0 where
   pub paragraphs : List (List Field)
   pub refusal : Option ParagraphFault
@@ -84,7 +84,7 @@ pub record Reading : Type 0 where
 abbrev pub ended : Reading
 ended = record { paragraphs = []; refusal = None }
 
--- nothing but a refusal is left
+-- only a refusal is left
 abbrev pub refusing : ParagraphFault → Reading
 refusing fault = record { paragraphs = []; refusal = Some fault }
 
@@ -92,7 +92,7 @@ refusing fault = record { paragraphs = []; refusal = Some fault }
 abbrev pub then_read : List Field → Reading → Reading
 then_read paragraph rest = record { paragraphs = paragraph ∷ rest.paragraphs; refusal = rest.refusal }
 
--- a paragraph and the rest, unless the paragraph has a bad line: then nothing but its refusal
+-- a paragraph and the rest, unless the paragraph has a bad line: then only its refusal
 abbrev pub unless_bad : Option ParagraphFault → List Field → Reading → Reading
 unless_bad None paragraph rest = then_read paragraph rest
 unless_bad (Some fault) paragraph rest = refusing fault
@@ -102,14 +102,14 @@ unfoldable pub reading_of : List (List (List ℕ)) → Reading
 reading_of [] = ended
 reading_of (p ∷ ps) = unless_bad (first_fault [] p) (fields p) (reading_of ps)
 
--- what a reader finds in a text of UTF-8
+-- the content of a text in UTF-8
 unfoldable pub reading_of_text : List ℕ → Reading
 reading_of_text text = reading_of (paragraph_lines (lines text))
 
--- what a reader finds in any bytes: bytes that aren't UTF-8 are refused whole
+-- the content of any bytes: bytes that aren't UTF-8 are refused as a whole
 unfoldable pub reading : List ℕ → Reading
 reading bytes = if is_utf8 bytes then reading_of_text bytes else refusing NotUtf8
 
--- the value of the field of this name, in any case of letters
+-- the value of the field with this name, in any case of letters
 unfoldable pub value_of : List Field → List ℕ → Option (List ℕ)
 value_of paragraph name = option_map (λ (f : Field). f.1) (find (λ (f : Field). str_eq_ignore_ascii_case f.0 name) paragraph)

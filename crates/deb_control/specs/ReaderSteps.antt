@@ -1,5 +1,5 @@
 -- Steps: no contract of a call that users make rests on this file.
--- How a reader of paragraphs cuts its text: lines, fields, and where they end.
+-- How a reader of paragraphs cuts its text into lines and fields, and where these end.
 use Rattle.std.specs.Prelude.{ℕ, ◌≡◌, ◌<◌, ◌≤◌, ◌+◌, Bool, true, false, not, ◌&&◌, ◌==◌, List, [], ◌∷◌, ◌++◌, length, take, drop, slice_index, Option, Some, None, Result, Ok, Err, ◌⊎◌}
 use Rattle.std.specs.List.{list_all, take_while, prefix_len, before_first, after_first}
 use Rattle.std.specs.Borrow.{Bor}
@@ -53,20 +53,20 @@ abbrev pub may_name : List ℕ → Bool
 may_name [] = false
 may_name (c ∷ cs) = not (c == char "#") && not (c == char "-") && not (c == char ":")
 
--- a colon stands behind n bytes, and a field's name may begin with the first of them
+-- a colon follows the first n bytes, and a field's name may begin with the first of them
 abbrev pub is_named : List ℕ → ℕ → Bool
 is_named bytes n = slice_index bytes n == char ":" && may_name bytes
 
--- the line is refused for its name, whatever fields stand before it
+-- the line is refused for its name, whatever fields precede it
 abbrev pub NameRefused : ParagraphFault → List ℕ → Type 0
 NameRefused e whole = (names : List (List ℕ)) → line_fault names (line_in_front whole) ≡ Some e
 
--- what looking for a name answers
+-- the result of looking for a name
 abbrev pub NameRead : Result ℕ ParagraphFault → List ℕ → Type 0
 NameRead (Ok n) whole = IsColonAt whole n × (is_field_name (take n whole) ≡ true)
 NameRead (Err e) whole = NameRefused e whole
 
--- what reading a field answers, where fields of these names stand before it
+-- the result of reading a field after fields with these names
 abbrev pub FieldRead : Result (Bor (List ℕ) × Bor (List ℕ)) ParagraphFault → List (List ℕ) → List ℕ → Type 0
 FieldRead (Ok f) names whole = (line_fault names (line_in_front whole) ≡ None) × (f.0.now ≡ name_in (line_in_front whole)) × (f.1.now ≡ trim_white (after_first is_colon whole))
 FieldRead (Err e) names whole = line_fault names (line_in_front whole) ≡ Some e

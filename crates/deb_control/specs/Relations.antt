@@ -1,5 +1,5 @@
--- Relations between packages (Debian Policy 7.1 and 7.5): which texts are clauses and provisions, and the first
--- fault from the left of any other text.
+-- Relations between packages (Debian Policy 7.1 and 7.5): which texts are clauses and provisions, and the first fault
+-- from the left of any other text.
 use Rattle.std.specs.Prelude.{ℕ, Bool, true, false, not, ◌&&◌, ◌||◌, ◌==◌, nat_le, if◌then◌else◌, List, [], ◌∷◌, length, drop, Option, Some, None, is_none, Result, Ok, Err}
 use Rattle.std.specs.List.{list_all, filter, slice_split, prefix_len, position_or_len, before_first}
 use Rattle.std.specs.Option.{option_map}
@@ -19,18 +19,18 @@ use Rattle.deb_control.specs.declared.relation.Relation.{Relation}
 use Rattle.deb_control.specs.declared.relation.Alternative.{Alternative}
 use Rattle.deb_control.specs.declared.relation.Provision.{Provision}
 
--- a step, and what follows unless it failed
+-- a step, and the next one unless it failed
 infixl 10 ◌>>=◌
 abbrev pub ◌>>=◌ : {A B E : Type 0} → Result A E → (A → Result B E) → Result B E
 (Ok x) >>= f = f x
 (Err e) >>= f = Err e
 
--- the values of all texts, or the first fault from the left
+-- the values of all texts, or the fault of the first text that has one
 unfoldable pub each_in : {A E : Type 0} → (List ℕ → Result A E) → List (List ℕ) → Result (List A) E
 each_in read [] = Ok []
 each_in read (text ∷ texts) = read text >>= λ value. each_in read texts >>= λ values. Ok (value ∷ values)
 
--- a version that compares so with the stated one is in the relation (Debian Policy 7.1)
+-- how a version must compare with the one in the relation (Debian Policy 7.1)
 abbrev pub is_in : Op → Ordering → Bool
 is_in Below o = is_lt o
 is_in AtMost o = is_le o
@@ -46,61 +46,61 @@ holds relation v = is_in relation.op (version_cmp v relation.version)
 abbrev pub is_lower_or_digit : ℕ → Bool
 is_lower_or_digit c = nat_le (char "a") c && nat_le c (char "z") || nat_le (char "0") c && nat_le c (char "9")
 
--- these, and `+`, `-` and `.`
+-- a character of a package name: a lower case letter, a digit, `+`, `-` or `.` (Debian Policy 5.6.1)
 abbrev pub is_package_char : ℕ → Bool
 is_package_char c = is_lower_or_digit c || c == char "+" || c == char "-" || c == char "."
 
--- a package name has two characters at least, all of these, and begins with a letter or digit (Debian Policy 5.6.1)
+-- a package name: at least two of these characters, the first a letter or digit (Debian Policy 5.6.1)
 unfoldable pub is_package_name : List ℕ → Bool
 is_package_name [] = false
 is_package_name (c ∷ cs) = is_lower_or_digit c && nat_le 1 (length cs) && list_all is_package_char cs
 
--- a text that is a version (Debian Policy 5.6.12)
+-- the text is a version (Debian Policy 5.6.12)
 unfoldable pub is_version : List ℕ → Bool
 is_version text = is_none (version_fault text)
 
--- the text without the white in front
+-- the text without the white at its front
 abbrev pub skip_white : List ℕ → List ℕ
 skip_white text = drop (prefix_len is_white text) text
 
--- what follows this character, if the text begins with it
+-- the rest after this character, if the text begins with it
 abbrev pub after_char : ℕ → List ℕ → Option (List ℕ)
 after_char c [] = None
 after_char c (x ∷ xs) = if x == c then Some xs else None
 
--- a name goes to the first white, `:`, `(`, `[`, `<` or the end
+-- a name ends at the first white, `:`, `(`, `[`, `<` or at the end
 abbrev pub ends_name : ℕ → Bool
 ends_name c = is_white c || c == char ":" || c == char "(" || c == char "[" || c == char "<"
 
--- a version goes to the first white, `)` or the end
+-- a version ends at the first white or `)`, or at the end
 abbrev pub ends_version : ℕ → Bool
 ends_version c = is_white c || c == char ")"
 
--- a qualifier, as `any` of `python3:any`: one or more lower case letters, digits and `-`. It is ignored.
+-- a character of a qualifier, like `any` in `python3:any`: a lower case letter, a digit or `-`. Qualifiers are ignored.
 abbrev pub is_qualifier_char : ℕ → Bool
 is_qualifier_char c = is_lower_or_digit c || c == char "-"
 
--- what follows a run of n characters, which may not be empty
+-- the rest after a run of n characters, which must not be empty
 abbrev pub after_run_of_one : List ℕ → ℕ → Result (List ℕ) RelationFault
 after_run_of_one text n = if n == 0 then Err BadRelation else Ok (drop n text)
 
--- what follows a qualifier, if there is one
+-- the rest after a qualifier, if there is one
 unfoldable pub after_qualifier : List ℕ → Result (List ℕ) RelationFault
 after_qualifier [] = Ok []
 after_qualifier (c ∷ cs) = if c == char ":" then after_run_of_one cs (prefix_len is_qualifier_char cs) else Ok (c ∷ cs)
 
--- The sign of a relation in front, and what follows it: `<<` `<=` `=` `>=` `>>`, and `<` and `>`, which mean `<=` and `>=`.
--- The longest sign is taken. Here what begins with `<`, of which that is left out.
+-- The sign of a relation and the rest after it, once its first character `<` is read: `<<`, `<=`, or the old sign `<`,
+-- which means `<=`. The longest sign is taken (Debian Policy 7.1; this office reads old signs).
 abbrev pub less_sign : List ℕ → Op × List ℕ
 less_sign [] = (AtMost, [])
 less_sign (c ∷ cs) = if c == char "<" then (Below, cs) else (if c == char "=" then (AtMost, cs) else (AtMost, c ∷ cs))
 
--- what begins with `>`, of which that is left out
+-- the same for `>`: `>>`, `>=`, or the old sign `>`, which means `>=`
 abbrev pub greater_sign : List ℕ → Op × List ℕ
 greater_sign [] = (AtLeast, [])
 greater_sign (c ∷ cs) = if c == char ">" then (Above, cs) else (if c == char "=" then (AtLeast, cs) else (AtLeast, c ∷ cs))
 
--- the sign in front, and what follows it
+-- the sign at the front, and the rest after it
 unfoldable pub sign_in : List ℕ → Option (Op × List ℕ)
 sign_in [] = None
 sign_in (c ∷ cs) =
@@ -113,7 +113,7 @@ abbrev pub closes : Option (List ℕ) → Bool
 closes None = false
 closes (Some rest) = list_all is_white rest
 
--- a version, and what is to be `)` and the end
+-- a version, and the rest, which must be `)` and the end
 abbrev pub version_then : List ℕ → List ℕ → Result (List ℕ) RelationFault
 version_then version rest =
     if is_version version then (if closes (after_char (char ")") (skip_white rest)) then Ok version else Err BadRelation)
@@ -128,29 +128,29 @@ abbrev pub is_equal : Op → Bool
 is_equal Equal = true
 is_equal _ = false
 
--- any sign may stand in a dependency, `=` alone in a provision (Debian Policy 7.5)
+-- any sign is allowed in a dependency, only `=` in a provision (Debian Policy 7.5)
 abbrev pub allows : Signs → Op → Bool
 allows Any op = true
 allows EqualAlone op = is_equal op
 
--- a relation that stands within parentheses, where signs are taken if they are allowed
+-- the relation in parentheses, from a sign if that sign is allowed
 abbrev pub relation_of : Signs → Option (Op × List ℕ) → Result (Option Relation) RelationFault
 relation_of signs None = Err BadRelation
 relation_of signs (Some sign) =
     if allows signs sign.0 then (version_in sign.1 >>= λ version. Ok (Some (record { op = sign.0; version = version })))
     else Err BadRelation
 
--- the relation behind `(`, which there must be
+-- the relation after a mandatory `(`
 abbrev pub within_parentheses : Signs → Option (List ℕ) → Result (Option Relation) RelationFault
 within_parentheses signs None = Err BadRelation
 within_parentheses signs (Some inside) = relation_of signs (sign_in (skip_white inside))
 
--- what may follow a name: the end, or a relation in parentheses
+-- the text after a name: white to the end, or a relation in parentheses
 unfoldable pub relation_in : Signs → List ℕ → Result (Option Relation) RelationFault
 relation_in signs rest =
     if list_all is_white rest then Ok None else within_parentheses signs (after_char (char "(") (skip_white rest))
 
--- an alternative of this name, and what follows it
+-- an alternative with this name, and the text after the name
 abbrev pub named : Signs → List ℕ → List ℕ → Result Alternative RelationFault
 named signs name rest =
     if is_package_name name then
@@ -170,11 +170,11 @@ is_comma c = c == char ","
 abbrev pub is_bar : ℕ → Bool
 is_bar c = c == char "|"
 
--- the items of a list by commas; an item of white alone is skipped
+-- the items of a list separated by commas; an item of only white is skipped
 unfoldable pub items : List ℕ → List (List ℕ)
 items text = filter (λ item. not (list_all is_white item)) (slice_split is_comma text)
 
--- a clause: alternatives, separated by `|`
+-- a clause: alternatives separated by `|`
 unfoldable pub clause_in : List ℕ → Result (List Alternative) RelationFault
 clause_in item = each_in (alternative_in Any) (slice_split is_bar item)
 
@@ -182,7 +182,7 @@ clause_in item = each_in (alternative_in Any) (slice_split is_bar item)
 unfoldable pub clauses_in : List ℕ → Result (List (List Alternative)) RelationFault
 clauses_in text = each_in clause_in (items text)
 
--- an alternative as a provision: a name, and perhaps the version that it is provided in
+-- an alternative as a provision: a name, and perhaps the version in which it is provided
 abbrev pub provision_of : Alternative → Provision
 provision_of a = record { name = a.name; version = option_map (λ (r : Relation). r.version) a.relation }
 

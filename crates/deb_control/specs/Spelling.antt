@@ -1,6 +1,6 @@
--- How relations and sources are written: which texts spell an alternative, a clause, a provision and a source, part by
--- part (Debian Policy 5.6.1, 7.1, 7.2 and 7.5). The definitions of Relations and Binary read a text from the left, since
--- they also tell its first fault. These say what is written, in any order, and the laws say that both agree.
+-- How relations and sources are written, part by part: alternatives, clauses, provisions and sources (Debian Policy
+-- 5.6.1, 7.1, 7.2 and 7.5). The definitions of Relations and Binary read a text from the left, to find its first fault.
+-- The laws say that both agree.
 use Rattle.std.specs.Prelude.{◌≡◌, ℕ, true, List, [], ◌∷◌, ◌++◌, Option, Some, None, Ok, ◌⊎◌, ◌↔◌, ⊤, codes}
 use Rattle.std.specs.List.{list_all, slice_split}
 use Rattle.std.specs.Option.{option_map}
@@ -17,16 +17,16 @@ use Rattle.deb_control.specs.declared.relation.Relation.{Relation}
 use Rattle.deb_control.specs.declared.relation.Alternative.{Alternative}
 use Rattle.deb_control.specs.declared.relation.Provision.{Provision}
 
--- white, or nothing
+-- white or empty
 abbrev pub IsWhite : List ℕ → Type 0
 IsWhite text = list_all is_white text ≡ true
 
--- the qualifier of a name, as `:any`, or nothing
+-- the qualifier of a name, like `:any`, or empty
 abbrev pub IsQualifier : List ℕ → Type 0
 IsQualifier [] = ⊤
 IsQualifier (c ∷ word) = (c ≡ char ":") × (not_empty word ≡ true) × (list_all is_qualifier_char word ≡ true)
 
--- the signs of a relation, two of which have an old form
+-- the signs of a relation; two of them have an old form
 abbrev pub IsSign : Op → List ℕ → Type 0
 IsSign Below sign = sign ≡ codes "<<"
 IsSign AtMost sign = (sign ≡ codes "<=") ⊎ (sign ≡ codes "<")
@@ -48,12 +48,12 @@ pub record SpellsRelation (signs : Signs) (text : List ℕ) (relation : Relation
   pub allowed : allows signs relation.op ≡ true
   pub versioned : is_version relation.version ≡ true
 
--- what follows a name: white, or a relation
+-- the text after a name: white, or a relation
 abbrev pub SpellsRest : Signs → List ℕ → Option Relation → Type 0
 SpellsRest signs text None = IsWhite text
 SpellsRest signs text (Some relation) = SpellsRelation signs text relation
 
--- A text spells an alternative: white or none, a package name, a qualifier or none, and white or a relation.
+-- A text spells an alternative: optional white, a package name, an optional qualifier, then white or a relation.
 pub record SpellsAlternative (signs : Signs) (text : List ℕ) (alternative : Alternative) : Type 0 where
   pub before : List ℕ
   pub qualifier : List ℕ
@@ -71,22 +71,23 @@ EachSpells Spells [] (value ∷ values) = ⊥
 EachSpells Spells (text ∷ texts) [] = ⊥
 EachSpells Spells (text ∷ texts) (value ∷ values) = Spells text value × EachSpells Spells texts values
 
--- a text spells a clause: its alternatives stand between the `|`
+-- a text spells a clause: its alternatives are the parts between the `|`
 abbrev pub SpellsClause : List ℕ → List Alternative → Type 0
 SpellsClause text clause = EachSpells (SpellsAlternative Any) (slice_split is_bar text) clause
 
--- the alternative that reads like a provision
+-- the alternative with the spelling of a provision
 abbrev pub as_alternative : Provision → Alternative
 as_alternative p = record { name = p.name; relation = option_map (λ (v : List ℕ). record { op = Equal; version = v }) p.version }
 
--- a text spells a provision: it spells an alternative in which `=` alone may stand
+-- a text spells a provision: it spells an alternative in which only `=` is allowed
 abbrev pub SpellsProvision : List ℕ → Provision → Type 0
 SpellsProvision text provision = SpellsAlternative EqualAlone text (as_alternative provision)
 
--- The laws: a text is read as clauses, or provisions, exactly where its items spell them.
+-- The law: a text is read as clauses exactly if its items spell them.
 abbrev pub ReadsSpelledClauses : Type 0
 ReadsSpelledClauses = (text : List ℕ) (clauses : List (List Alternative)) → (clauses_in text ≡ Ok clauses) ↔ EachSpells SpellsClause (items text) clauses
 
+-- The law: a text is read as provisions exactly if its items spell them.
 abbrev pub ReadsSpelledProvisions : Type 0
 ReadsSpelledProvisions = (text : List ℕ) (provisions : List Provision) → (provisions_in text ≡ Ok provisions) ↔ EachSpells SpellsProvision (items text) provisions
 
@@ -100,8 +101,8 @@ pub record SpellsVersion (text version : List ℕ) : Type 0 where
   pub whites : IsWhite before × IsWhite within × IsWhite behind × IsWhite after
   pub versioned : is_version version ≡ true
 
--- A text spells a source, its name and version, in the paragraph of a binary of this version: white or none, a package
--- name, and a version, or white where the source has the binary's version (Debian Policy 5.6.1).
+-- A text spells a source (its name and version) for a binary of this version: optional white, a package name, then a
+-- version, or white if the source has the binary's version (Debian Policy 5.6.1).
 pub record SpellsSource (binary text : List ℕ) (source : List ℕ × List ℕ) : Type 0 where
   pub before : List ℕ
   pub rest : List ℕ
@@ -110,6 +111,6 @@ pub record SpellsSource (binary text : List ℕ) (source : List ℕ × List ℕ)
   pub named : is_package_name source.0 ≡ true
   pub ended : (IsWhite rest × (source.1 ≡ binary)) ⊎ SpellsVersion rest source.1
 
--- The law: a text is read as a source exactly where it spells it.
+-- The law: a text is read as a source exactly if it spells it.
 abbrev pub ReadsSpelledSources : Type 0
 ReadsSpelledSources = (binary text : List ℕ) (source : List ℕ × List ℕ) → (source_in binary text ≡ Ok source) ↔ SpellsSource binary text source

@@ -23,14 +23,14 @@ use crate::text::{is_all_white, skip_white, strip_char};
 use deb_version::{NoMemory, Version};
 use std::alloc::{AllocError, Global};
 
-/// A binary package: what it is called, where it runs, what it was built from, what it needs and what it provides
-/// (Debian Policy 5.3). The fields that say whether it meets a clause come first, and so side by side in memory.
+/// A binary package: its name, architecture, source, needs and provisions (Debian Policy 5.3). The fields that decide
+/// whether it meets a clause come first, so that they are adjacent in memory.
 #[derive(Drop)]
 pub struct Binary {
     pub name: Text,
     pub version: Version,
 
-    /// Those of Pre-Depends, then those of Depends (Debian Policy 7.2).
+    /// The clauses of Pre-Depends, then those of Depends (Debian Policy 7.2).
     pub clauses: Clauses,
     pub provides: Provisions,
     pub source: Text,
@@ -39,7 +39,7 @@ pub struct Binary {
 }
 
 impl BinaryField {
-    /// The field's name as it is written in control data.
+    /// The field's name in control data.
     pub fn name(self) -> &'static str
         ensures { result.now ≡ field_name self }
     {
@@ -57,17 +57,17 @@ impl BinaryField {
 
 impl Binary {
     /// The binary that a paragraph describes, or its first fault: a missing field, or else the first bad field in the
-    /// order of `BinaryField`. Without a field `Source` the package's name and version are the source's, and without a
-    /// version there its version is (Debian Policy 5.6.1).
+    /// order of `BinaryField`. Without a field `Source` the source has the package's name and version, and without a
+    /// version in it the package's version (Debian Policy 5.6.1).
     pub fn parse(alloc: Global, paragraph: &Paragraph<'_>) -> Result<Binary, BinaryFault>
         ensures { (result ≡ binary_of paragraph.now) ⊎ (result ≡ Err BinaryFault.NoMemory) }
     {
         read_binary(alloc, paragraph, None)
     }
 
-    /// The binary that a paragraph describes, or its first fault, beside another binary and the paragraph that it was
-    /// read from. If the two paragraphs have the same texts under Pre-Depends and Depends, the clauses of the other
-    /// binary are shared, and nothing is read for them.
+    /// The binary that a paragraph describes, or its first fault, given another binary and its paragraph. If the two
+    /// paragraphs have the same Pre-Depends and Depends, the other binary's clauses are shared, and nothing is read for
+    /// them.
     pub fn parse_like(
         alloc: Global,
         paragraph: &Paragraph<'_>,
@@ -96,7 +96,7 @@ impl Binary {
     }
 }
 
-/// The binary that a paragraph describes, or its first fault. Clauses that are known already are shared.
+/// The binary that a paragraph describes, or its first fault. Known clauses are shared.
 #[tactic(auto, unfolding(crate::specs::BinarySteps::binary_by))]
 fn read_binary(
     alloc: Global,
@@ -130,7 +130,7 @@ fn read_binary(
     })
 }
 
-/// The clauses of a binary, if the paragraph needs the same as the one that the binary was read from.
+/// The clauses of a binary, if the paragraph has the same needs as the binary's own paragraph.
 fn clauses_like<'a>(
     paragraph: &Paragraph<'_>,
     before: &Paragraph<'_>,
@@ -146,7 +146,7 @@ fn clauses_like<'a>(
     }
 }
 
-/// Whether both paragraphs have the same texts under Pre-Depends and Depends.
+/// Whether both paragraphs have the same Pre-Depends and Depends.
 fn needs_same(paragraph: &Paragraph<'_>, other: &Paragraph<'_>) -> bool
     ensures { result ≡ needs_same paragraph.now other.now }
 {
@@ -160,7 +160,7 @@ fn has_same(paragraph: &Paragraph<'_>, other: &Paragraph<'_>, field: BinaryField
     optional(paragraph, field) == optional(other, field)
 }
 
-/// What a package needs: the clauses that are known, or else those that are read.
+/// What a package needs: the known clauses, or else those of its paragraph.
 fn needs(
     alloc: Global,
     paragraph: &Paragraph<'_>,
@@ -188,7 +188,7 @@ fn read_needs(alloc: Global, paragraph: &Paragraph<'_>) -> Result<Clauses, Binar
     Ok(Clauses::new(alloc, joined(before, depends)?)?)
 }
 
-/// The value of a field that must be there.
+/// The value of a mandatory field.
 fn required<'a>(paragraph: &Paragraph<'a>, field: BinaryField) -> Result<&'a str, BinaryFault>
     ensures { GivesBy (λ x. x.now) result (required paragraph.now field) }
 {
@@ -198,7 +198,7 @@ fn required<'a>(paragraph: &Paragraph<'a>, field: BinaryField) -> Result<&'a str
     }
 }
 
-/// The value of a field that may be absent.
+/// The value of an optional field.
 fn optional<'a>(paragraph: &Paragraph<'a>, field: BinaryField) -> &'a str
     ensures { result.now ≡ optional paragraph.now field }
 {
@@ -208,7 +208,7 @@ fn optional<'a>(paragraph: &Paragraph<'a>, field: BinaryField) -> &'a str
     }
 }
 
-/// A fault of a field.
+/// The result for this field.
 fn in_field<T>(field: BinaryField, outcome: Result<T, RelationFault>) -> Result<T, BinaryFault>
     ensures { result ≡ of_field field outcome }
 {
@@ -221,7 +221,7 @@ fn in_field<T>(field: BinaryField, outcome: Result<T, RelationFault>) -> Result<
     }
 }
 
-/// Whether a text is an architecture's word.
+/// Whether a text is an architecture.
 #[tactic(auto, unfolding(crate::specs::Binary::is_architecture))]
 fn is_architecture(word: &[u8]) -> bool
     ensures { result ≡ is_architecture word.now }
@@ -284,7 +284,7 @@ fn source_with(alloc: Global, name: &str, version: &str) -> Result<(Text, Versio
     Ok((Text::from_str(alloc, name)?, version))
 }
 
-/// The clauses of a field, one by one. If the field is absent or empty, no memory is taken.
+/// The clauses of a field, one by one. If the field is missing or empty, nothing is allocated.
 fn clauses_of(
     alloc: Global,
     paragraph: &Paragraph<'_>,
@@ -299,7 +299,7 @@ fn clauses_of(
     in_field(field, read_clauses(alloc, text))
 }
 
-/// The provisions. If the field is absent or empty, no memory is taken.
+/// The provisions. If the field is missing or empty, nothing is allocated.
 fn read_provisions(alloc: Global, paragraph: &Paragraph<'_>) -> Result<Provisions, BinaryFault>
     ensures { Gives result (of_field Provides (provisions_in (optional paragraph.now Provides))) }
 {
@@ -311,7 +311,7 @@ fn read_provisions(alloc: Global, paragraph: &Paragraph<'_>) -> Result<Provision
     in_field(BinaryField::Provides, read_all_provisions(alloc, text))
 }
 
-/// Clauses, and then more.
+/// The clauses of both lists.
 fn joined(before: Vec<Clause>, after: Vec<Clause>) -> Result<Vec<Clause>, AllocError>
     ensures { IfOk result (λ all. all.items ≡ before.items ++ after.items) }
 {

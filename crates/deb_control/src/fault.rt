@@ -8,11 +8,11 @@ ghost use Rattle.deb_control.specs.declared.fault.BinaryFault.TheVariants as bin
 use std::alloc::{AllocError, AllocFailed};
 use thiserror::Error;
 
-/// Why a text is not paragraphs of fields (Debian Policy 5.1). Each but the first and the last speaks of the first bad
-/// line, and is the first in this order that applies to it.
+/// Why a text isn't paragraphs of fields (Debian Policy 5.1). Each fault but the first and the last is about the first
+/// bad line, and is the first in this order that applies to it.
 #[derive(Clone, Copy, Debug, PartialEq, Eq, Error)]
 pub enum ParagraphFault {
-    /// The whole text is not UTF-8.
+    /// The text as a whole is not UTF-8.
     #[error("the text is not UTF-8")]
     NotUtf8,
 
@@ -20,7 +20,7 @@ pub enum ParagraphFault {
     #[error("a line has no colon")]
     NoColon,
 
-    /// What stands before a line's first colon may not be a field's name.
+    /// The text before a line's first colon isn't a valid field name.
     #[error("a field has a bad name")]
     BadName,
 
@@ -28,11 +28,11 @@ pub enum ParagraphFault {
     #[error("the first line of a paragraph continues nothing")]
     FirstLineContinues,
 
-    /// A field of that name, in any case of letters, stood before it in its paragraph.
+    /// A field of that name, in any case of letters, precedes it in its paragraph.
     #[error("a field stands twice in a paragraph")]
     RepeatedField,
 
-    /// A growth of memory was refused.
+    /// An allocation failed.
     #[error("out of memory")]
     NoMemory,
 }
@@ -53,22 +53,22 @@ impl<T: Drop> From<AllocFailed<T>> for ParagraphFault {
     }
 }
 
-/// Why a text is no list of clauses or provisions: its first fault from the left (Debian Policy 7.1, 7.5).
+/// Why a text isn't a list of clauses or provisions: its first fault from the left (Debian Policy 7.1, 7.5).
 #[derive(Clone, Copy, Debug, PartialEq, Eq, Error)]
 pub enum RelationFault {
-    /// An alternative begins with no package name.
+    /// An alternative doesn't begin with a package name.
     #[error("a bad package name")]
     BadName,
 
-    /// What stands where a version is due is none.
+    /// The word in the place of a version isn't one.
     #[error("a bad version")]
     BadVersion,
 
-    /// Anything else, as an architecture list, a build profile or a missing parenthesis.
+    /// Anything else, like an architecture list, a build profile or a missing parenthesis.
     #[error("a bad relation")]
     BadRelation,
 
-    /// A growth of memory was refused.
+    /// An allocation failed.
     #[error("out of memory")]
     NoMemory,
 }
@@ -101,26 +101,26 @@ pub enum BinaryField {
     Provides,
 }
 
-/// Why a paragraph is no binary package: a missing field, or else the first bad one in the order of `BinaryField`.
+/// Why a paragraph isn't a binary package: a missing field, or else the first bad one in the order of `BinaryField`.
 #[derive(Clone, Copy, Debug, PartialEq, Eq, Error)]
 pub enum BinaryFault {
-    /// The first of the fields Package, Version and Architecture that is not there.
+    /// The first missing field of Package, Version and Architecture.
     #[error("the field {0:?} is missing")]
     MissingField(BinaryField),
 
-    /// What stands where a name, or an architecture's word, is due is none.
+    /// The word in the place of a name or an architecture isn't one.
     #[error("a bad name in {0:?}")]
     BadName(BinaryField),
 
-    /// What stands where a version is due is none.
+    /// The word in the place of a version isn't one.
     #[error("a bad version in {0:?}")]
     BadVersion(BinaryField),
 
-    /// What follows a good name is none of what may.
+    /// The text after a good name isn't allowed there.
     #[error("a bad relation in {0:?}")]
     BadRelation(BinaryField),
 
-    /// A growth of memory was refused.
+    /// An allocation failed.
     #[error("out of memory")]
     NoMemory,
 }

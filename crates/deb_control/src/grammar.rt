@@ -16,8 +16,8 @@ use deb_version::{Version, VersionFault};
 use std::alloc::Global;
 
 impl Clauses {
-    /// The clauses of a text, as the value of a field `Depends`, or its first fault from the left. An item of white alone
-    /// between two commas is skipped, and the qualifier of a name, as `:any`, is left out.
+    /// The clauses of a text, like the value of a field `Depends`, or its first fault from the left. An item of only
+    /// white between two commas is skipped, and the qualifier of a name, like `:any`, is dropped.
     pub fn parse(alloc: Global, text: &str) -> Result<Clauses, RelationFault>
         ensures { (result ≡ clauses_in text.now) ⊎ (result ≡ Err RelationFault.NoMemory) }
     {
@@ -51,8 +51,8 @@ pub fn read_clauses(alloc: Global, text: &str) -> Result<Vec<Clause>, RelationFa
 }
 
 impl Provisions {
-    /// The provisions of a text, as the value of a field `Provides`, or its first fault from the left. No `|` may stand
-    /// there, and no sign but `=`.
+    /// The provisions of a text, like the value of a field `Provides`, or its first fault from the left. It must not
+    /// contain `|` or any sign but `=`.
     pub fn parse(alloc: Global, text: &str) -> Result<Provisions, RelationFault>
         ensures { (result ≡ provisions_in text.now) ⊎ (result ≡ Err RelationFault.NoMemory) }
     {
@@ -77,7 +77,7 @@ pub fn read_all_provisions(alloc: Global, text: &str) -> Result<Provisions, Rela
     Ok(Provisions::new(provisions))
 }
 
-/// How many items a text has between a character. A vector takes room for as many.
+/// The number of items separated by a character. A vector is allocated for as many.
 fn count_items(text: &[u8], separator: u8) -> usize {
     let mut items = 1;
     let mut end = index_of(text, separator);
@@ -88,7 +88,7 @@ fn count_items(text: &[u8], separator: u8) -> usize {
     items
 }
 
-/// The first item of a text between a character, and what follows that character. The last item has nothing after it.
+/// The first item before a separator, and the text after the separator. No text follows the last item.
 fn next_item(text: &str, separator: u8) -> (&str, Option<&str>)
     requires { separator < 128 }
     ensures items { slice_split (λ c. c == separator) text.now
@@ -103,7 +103,7 @@ fn next_item(text: &str, separator: u8) -> (&str, Option<&str>)
     (item, Some(rest))
 }
 
-/// The alternatives of a clause. Nearly each clause has one, and takes no memory for a list.
+/// The alternatives of a clause. Nearly every clause has one, and allocates no list.
 fn read_clause(alloc: Global, item: &str) -> Result<Clause, RelationFault>
     ensures { Gives result (clause_in item.now) }
 {
@@ -121,7 +121,7 @@ fn read_only_one(alloc: Global, item: &str) -> Result<Clause, RelationFault>
     Ok(Clause::one(alternative))
 }
 
-/// The alternatives of a clause, which a `|` separates.
+/// The alternatives of a clause, separated by `|`.
 #[tactic(auto, unfolding(crate::specs::Relations::clause_in))]
 fn read_alternatives(alloc: Global, item: &str) -> Result<Clause, RelationFault>
     ensures { Gives result (clause_in item.now) }
@@ -136,7 +136,7 @@ fn read_alternatives(alloc: Global, item: &str) -> Result<Clause, RelationFault>
     Ok(Clause::new(alternatives))
 }
 
-/// A name, perhaps a qualifier, and perhaps the version that is provided.
+/// A name, perhaps a qualifier, and perhaps the provided version.
 #[tactic(auto, unfolding(crate::specs::Relations::provision_in))]
 fn read_provision(alloc: Global, item: &str) -> Result<Provision, RelationFault>
     ensures { Gives result (provision_in item.now) }
@@ -197,7 +197,7 @@ pub fn read_version(alloc: Global, text: &str) -> Result<Version, RelationFault>
     }
 }
 
-/// The version that a text is.
+/// The version with this text.
 #[tactic(auto, unfolding(crate::specs::Relations::is_version))]
 pub fn parse_version(alloc: Global, text: &str) -> Result<Version, RelationFault>
     ensures { MatchResult result
@@ -211,7 +211,7 @@ pub fn parse_version(alloc: Global, text: &str) -> Result<Version, RelationFault
     }
 }
 
-/// What follows a qualifier, if there is one.
+/// The rest after a qualifier, if there is one.
 #[tactic(auto, unfolding(crate::specs::Relations::after_qualifier))]
 fn skip_qualifier(text: &str) -> Result<&str, RelationFault>
     ensures { GivesBy (λ x. x.now) result (after_qualifier text.now) }
@@ -226,7 +226,7 @@ fn skip_qualifier(text: &str) -> Result<&str, RelationFault>
     Ok(rest.split_at(len).1)
 }
 
-/// How many characters of a qualifier stand in front.
+/// The length of the qualifier at the front.
 fn qualifier_len(bytes: &[u8]) -> usize
     ensures { result ≡ prefix_len is_qualifier_char bytes.now }
 {
@@ -238,7 +238,7 @@ fn qualifier_len(bytes: &[u8]) -> usize
     bytes.len()
 }
 
-/// The sign of a relation, and what follows it.
+/// The sign of a relation, and the rest after it.
 #[tactic(auto, unfolding(crate::specs::Relations::sign_in))]
 fn read_sign(text: &str) -> Option<(Op, &str)>
     ensures { option_map (λ x. (x.0, x.1.now)) result ≡ sign_in text.now }
@@ -255,7 +255,7 @@ fn read_sign(text: &str) -> Option<(Op, &str)>
     None
 }
 
-/// The sign that begins with `<`, of which that is already read, and what follows it.
+/// The sign whose first character `<` is already read, and the rest after it.
 fn read_less(text: &str) -> (Op, &str)
     ensures { (result.0, result.1.now) ≡ less_sign text.now }
 {
@@ -268,7 +268,7 @@ fn read_less(text: &str) -> (Op, &str)
     (Op::AtMost, text)
 }
 
-/// The sign that begins with `>`, of which that is already read, and what follows it.
+/// The sign whose first character `>` is already read, and the rest after it.
 fn read_greater(text: &str) -> (Op, &str)
     ensures { (result.0, result.1.now) ≡ greater_sign text.now }
 {
@@ -281,7 +281,7 @@ fn read_greater(text: &str) -> (Op, &str)
     (Op::AtLeast, text)
 }
 
-/// A package name in front, and what follows it, or None where none stands there. Its characters are looked through
+/// The package name at the front and the rest after it, or None without a package name. Its characters are scanned
 /// once.
 pub fn split_package(text: &str) -> Option<(&str, &str)>
     ensures { MatchOption result (is_package_name (before_first ends_name text.now) ≡ false)
@@ -297,7 +297,7 @@ pub fn split_package(text: &str) -> Option<(&str, &str)>
     Some(text.split_at(len))
 }
 
-/// How many characters of a package name stand in front.
+/// The length of the package name at the front.
 fn package_len(bytes: &[u8]) -> usize
     ensures { result ≡ prefix_len is_package_char bytes.now }
 {
@@ -309,7 +309,7 @@ fn package_len(bytes: &[u8]) -> usize
     bytes.len()
 }
 
-/// Whether the characters of a package name in front are one.
+/// Whether the package name characters at the front are a package name.
 fn is_package(bytes: &[u8], len: usize) -> bool
     requires { len ≤ length bytes.now }
     ensures { result ≡ is_package bytes.now len }
@@ -317,7 +317,7 @@ fn is_package(bytes: &[u8], len: usize) -> bool
     2 <= len && is_lower_or_digit(bytes[0]) && (len == bytes.len() || ends_name(bytes[len]))
 }
 
-/// A version in front, and what follows it.
+/// The version at the front, and the rest after it.
 fn split_version(text: &str) -> (&str, &str)
     ensures version { result.0.now ≡ before_first ends_version text.now }
     ensures rest { result.1.now ≡ drop (position_or_len ends_version text.now) text.now }

@@ -1,6 +1,6 @@
 //! Debian control data: paragraphs of fields (Debian Policy 5.1), relations between packages (7.1, 7.2, 7.5), and
-//! binary packages (5.3, 5.6). A call that takes memory is given the allocator first, and answers `NoMemory` where a
-//! growth of memory was refused.
+//! binary packages (5.3, 5.6). A call that allocates gets the allocator first, and returns `NoMemory` if an allocation
+//! failed.
 #![tactic(auto)]
 
 mod binary;

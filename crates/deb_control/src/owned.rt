@@ -28,7 +28,7 @@ impl Model for Text {
 }
 
 impl Text {
-    /// A text of one's own with these bytes.
+    /// An owned text with these bytes.
     pub fn from_str(alloc: Global, text: &str) -> Result<Text, AllocError>
         ensures { IfOk result (λ t. t ≡ text.now) }
     {
@@ -36,7 +36,7 @@ impl Text {
         Ok(Text { text })
     }
 
-    /// A text of these bytes. It takes no memory.
+    /// A text of these bytes. It allocates nothing.
     pub fn from_string(text: String) -> Text
         ensures { result ≡ string_bytes text }
     {

@@ -18,8 +18,8 @@ use std::str;
 /// Room for the fields of nearly all paragraphs.
 const FIELDS: usize = 12;
 
-/// A paragraph: its fields in source order, each a name and a value, which are slices of the source. Contracts see the
-/// list of them.
+/// A paragraph: its fields in source order, each a name and a value borrowed from the source. Contracts see the list of
+/// them.
 #[derive(Drop)]
 pub struct Paragraph<'a> {
     fields: Vec<(&'a str, &'a str)>,
@@ -35,15 +35,15 @@ impl<'a> Model for Paragraph<'a> {
 }
 
 impl<'a> Paragraph<'a> {
-    /// The value under a name, which is sought without regard to ASCII case, or None where no field has it. It takes no
-    /// memory.
+    /// The value of the field with this name, compared without regard to ASCII case, or None without such a field. It
+    /// allocates nothing.
     pub fn field(&self, name: &str) -> Option<&'a str>
         ensures { option_copied result ≡ value_of self.now name.now }
     {
         find_value(&self.fields, name)
     }
 
-    /// All names and values, in source order. It takes no memory.
+    /// All names and values, in source order. It allocates nothing.
     pub fn fields(&self) -> &[(&'a str, &'a str)]
         ensures { map shown result.now ≡ self.now }
     {
@@ -51,12 +51,12 @@ impl<'a> Paragraph<'a> {
     }
 }
 
-/// A reader of the paragraphs of a text. Contracts see what it has yet to give.
+/// A reader of the paragraphs of a text. Contracts see what it has yet to read.
 #[derive(Drop)]
 pub struct Paragraphs<'a> {
     alloc: Global,
 
-    /// What is left of the text, or None where it is yet to be said that the bytes aren't UTF-8.
+    /// The rest of the text, or None if the reader has yet to report that the bytes aren't UTF-8.
     text: Option<&'a str>,
 }
 
@@ -70,7 +70,7 @@ impl<'a> Model for Paragraphs<'a> {
 }
 
 impl<'a> Paragraphs<'a> {
-    /// A reader of these bytes, which may be any. It takes no memory: the calls of `next` do.
+    /// A reader of any bytes. It allocates nothing; the calls of `next` do.
     pub fn new(alloc: Global, bytes: &'a [u8]) -> Paragraphs<'a>
         ensures { result ≡ reading bytes.now }
     {
@@ -80,15 +80,15 @@ impl<'a> Paragraphs<'a> {
         }
     }
 
-    /// The next paragraph, or None at the end. A text that isn't UTF-8 is refused at the first call, and a paragraph with
-    /// a bad line in its turn, with the fault of its first bad line. After a refusal the reader is at its end.
+    /// The next paragraph, or None at the end. A text that isn't UTF-8 is refused at the first call. A paragraph with a
+    /// bad line is refused in its turn, for its first bad line. After a refusal the reader is at its end.
     pub fn next(&mut self) -> Result<Option<Paragraph<'a>>, ParagraphFault>
         ensures paragraph { IfOk result (λ found. IfSome found (λ p. self.old ≡ then_read p self.new)) }
         ensures end { IfOk result (λ found. IfNone found ((self.old ≡ ended) × (self.new ≡ ended))) }
         ensures refused { IfErr result (λ e. RefusedBy e self.old) }
         ensures after_refusal { OnErr result (self.new ≡ ended) }
 
-        // At its end the reader takes no memory.
+        // At its end the reader allocates nothing.
         ensures stays_at_end { self.old ≡ ended → result ≡ Ok None }
     {
         let Some(text) = self.text else {
@@ -113,7 +113,7 @@ fn same_name(a: &str, b: &str) -> bool
     a.eq_ignore_ascii_case(b)
 }
 
-/// The value of the first field of a name.
+/// The value of the first field with a name.
 #[tactic(auto, unfolding(crate::specs::Paragraphs::value_of))]
 fn find_value<'a>(fields: &[(&'a str, &'a str)], name: &str) -> Option<&'a str>
     ensures { option_copied result ≡ value_of (map shown fields.now) name.now }
@@ -138,7 +138,7 @@ fn has_name(fields: &[(&str, &str)], name: &str) -> bool
     false
 }
 
-/// The text from its first line that isn't blank on.
+/// The text from its first line that isn't blank.
 fn skip_blank_lines(text: &str) -> &str
     ensures same { reading_of_text result.now ≡ reading_of_text text.now }
     ensures begins { (result.now ≡ []) ⊎ (is_blank_line (line_in_front result.now) ≡ false) }
@@ -154,7 +154,7 @@ fn skip_blank_lines(text: &str) -> &str
     rest
 }
 
-/// Where the field at the front ends, with the lines that continue it.
+/// Where the field at the front ends, including its continuing lines.
 fn field_end(bytes: &[u8]) -> usize
     ensures { IsFieldEnd bytes.now result }
 {
@@ -165,7 +165,7 @@ fn field_end(bytes: &[u8]) -> usize
     end
 }
 
-/// The field at the front, and what follows it.
+/// The field at the front, and the rest after it.
 fn split_field(text: &str) -> (&str, &str)
     ensures { IsFieldCut text.now result.0.now result.1.now }
 {
@@ -177,7 +177,7 @@ fn split_field(text: &str) -> (&str, &str)
     }
 }
 
-/// How many characters of a name stand in front.
+/// The length of the name at the front.
 fn name_len(bytes: &[u8]) -> usize
     ensures { result ≡ prefix_len is_name_char bytes.now }
 {
@@ -189,14 +189,14 @@ fn name_len(bytes: &[u8]) -> usize
     bytes.len()
 }
 
-/// A character of a name: from `!` to `~`, but no colon.
+/// A character of a name: from `!` to `~`, except the colon.
 fn is_name_char(c: u8) -> bool
     ensures { result ≡ is_name_char c }
 {
     b'!' <= c && c <= b'~' && c != b':'
 }
 
-/// Where the name of a field ends: at the first colon of its first line. What follows the colon isn't looked at.
+/// Where the name of a field ends: at the first colon of its first line. The text after the colon isn't read.
 fn name_end(whole: &str) -> Option<usize>
     ensures { IsNameEnd whole.now result }
 {
@@ -211,7 +211,7 @@ fn name_end(whole: &str) -> Option<usize>
     None
 }
 
-/// Whether the first byte may begin a field's name.
+/// Whether a field's name may begin with the first byte.
 fn may_name(bytes: &[u8]) -> bool
     ensures { result ≡ may_name bytes.now }
 {
@@ -221,14 +221,14 @@ fn may_name(bytes: &[u8]) -> bool
     }
 }
 
-/// Whether a colon stands at a place, behind what may begin a name.
+/// Whether a colon is at this place, after a possible front of a name.
 fn is_named(bytes: &[u8], len: usize) -> bool
     ensures { result ≡ is_named bytes.now len }
 {
     len < bytes.len() && bytes[len] == b':' && may_name(bytes)
 }
 
-/// The fault of a line that has no good name.
+/// The fault of a line without a valid name.
 fn name_fault(whole: &str) -> ParagraphFault
     requires { is_named whole.now (prefix_len is_name_char whole.now) ≡ false }
     ensures { NameRefused result whole.now }
@@ -239,7 +239,7 @@ fn name_fault(whole: &str) -> ParagraphFault
     }
 }
 
-/// Where the name of a field ends: at the first colon of its first line. The name is looked through once.
+/// Where the name of a field ends: at the first colon of its first line. The name is scanned once.
 fn read_name(whole: &str) -> Result<usize, ParagraphFault>
     ensures { NameRead result whole.now }
 {
@@ -251,7 +251,7 @@ fn read_name(whole: &str) -> Result<usize, ParagraphFault>
     Ok(len)
 }
 
-/// The field that these lines are, where the other fields stand before it.
+/// The field in these lines, after the other fields.
 #[tactic(auto, unfolding(crate::specs::Paragraphs::line_fault))]
 fn read_field<'a>(
     before: &[(&str, &str)],
@@ -267,7 +267,7 @@ fn read_field<'a>(
     Ok((name, trim_white(value)))
 }
 
-/// The paragraph at the front of a text, whose first line isn't blank, and what follows it.
+/// The paragraph at the front of a text that begins with a line that isn't blank, and the rest after it.
 fn read_paragraph<'a>(
     alloc: Global,
     text: &'a str,

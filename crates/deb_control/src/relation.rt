@@ -12,7 +12,7 @@ use std::marker::Model;
 use std::rc::Rc;
 use std::slice;
 
-/// How a version is compared with the one that a relation states (Debian Policy 7.1).
+/// How a version must compare with the one in a relation (Debian Policy 7.1).
 #[derive(Clone, Copy, Debug, PartialEq, Eq)]
 pub enum Op {
     /// `<<`
@@ -31,7 +31,7 @@ pub enum Op {
     Above,
 }
 
-/// Which signs may stand: any in a dependency, `=` alone in a provision (Debian Policy 7.5).
+/// Which signs are allowed: any in a dependency, only `=` in a provision (Debian Policy 7.5).
 #[derive(Clone, Copy, Debug, PartialEq, Eq)]
 pub enum Signs {
     Any,
@@ -39,7 +39,7 @@ pub enum Signs {
 }
 
 impl Signs {
-    /// Whether the sign of this comparison may stand.
+    /// Whether the sign of this comparison is allowed.
     pub fn allows(self, op: Op) -> bool
         ensures { result ≡ allows self op }
     {
@@ -50,7 +50,7 @@ impl Signs {
     }
 }
 
-/// A relation to a version, as `(>= 1.2)` (Debian Policy 7.1).
+/// A relation to a version, like `(>= 1.2)` (Debian Policy 7.1).
 #[derive(Drop)]
 pub struct Relation {
     pub op: Op,
@@ -58,7 +58,7 @@ pub struct Relation {
 }
 
 impl Relation {
-    /// Whether a version is in the relation, by the order of versions (Debian Policy 5.6.12). It takes no memory.
+    /// Whether a version is in the relation, by the order of versions (Debian Policy 5.6.12). It allocates nothing.
     #[tactic(auto, unfolding(crate::specs::Relations::holds))]
     pub fn holds(&self, version: &Version) -> bool
         ensures { result ≡ holds self.now version.now }
@@ -85,7 +85,7 @@ impl Relation {
     }
 }
 
-/// One way to meet a clause: a package, perhaps of certain versions (Debian Policy 7.1).
+/// One way to meet a clause: a package, perhaps only certain versions of it (Debian Policy 7.1).
 #[derive(Drop)]
 pub struct Alternative {
     pub name: Text,
@@ -127,14 +127,14 @@ impl Provision {
     }
 }
 
-/// The alternatives of a clause. Nearly each clause has one, which takes no memory of its own.
+/// The alternatives of a clause. Nearly every clause has one, which needs no allocation.
 #[derive(Drop)]
 enum Alternatives {
     One(Alternative),
     Several(Vec<Alternative>),
 }
 
-/// Alternatives, of which one is to be met (Debian Policy 7.1). Contracts see the list of them.
+/// Alternatives; one of them must be met (Debian Policy 7.1). Contracts see the list of them.
 pub struct Clause {
     alternatives: Alternatives,
 }
@@ -156,7 +156,7 @@ impl Model for Clause {
 }
 
 impl Clause {
-    /// The clause of one alternative. It takes no memory.
+    /// The clause of one alternative. It allocates nothing.
     pub fn one(alternative: Alternative) -> Clause
         ensures { result ≡ alternative ∷ [] }
     {
@@ -165,7 +165,7 @@ impl Clause {
         }
     }
 
-    /// The clause of these alternatives. It takes no memory, and what room is left over in the vector is given back.
+    /// The clause of these alternatives. It allocates nothing, and frees the vector's unused room.
     pub fn new(alternatives: Vec<Alternative>) -> Clause
         ensures { result ≡ alternatives.items }
     {
@@ -176,7 +176,7 @@ impl Clause {
         }
     }
 
-    /// The alternatives, in the order in which they are written.
+    /// The alternatives, in written order.
     pub fn as_slice(&self) -> &[Alternative]
         ensures { result.now ≡ self.now }
     {
@@ -212,7 +212,7 @@ fn copy_alternatives(
     Ok(copies)
 }
 
-/// Clauses, each of which is to be met (Debian Policy 7.1, 7.2). Contracts see the list of them. Copies share them.
+/// Clauses that must all be met (Debian Policy 7.1, 7.2). Contracts see the list of them. Copies share them.
 pub struct Clauses {
     clauses: Rc<Vec<Clause>>,
 }
@@ -233,7 +233,7 @@ impl Model for Clauses {
 }
 
 impl Clauses {
-    /// These clauses. What room is left over in the vector is given back.
+    /// These clauses. The vector's unused room is freed.
     pub fn new(alloc: Global, clauses: Vec<Clause>) -> Result<Clauses, AllocError>
         ensures { IfOk result (λ c. c ≡ clauses.items) }
     {
@@ -243,14 +243,14 @@ impl Clauses {
         Ok(Clauses { clauses })
     }
 
-    /// The clauses, in the order in which they are written.
+    /// The clauses, in written order.
     pub fn as_slice(&self) -> &[Clause]
         ensures { result.now ≡ self.now }
     {
         self.clauses.as_ref().as_slice()
     }
 
-    /// Equal clauses, which are shared.
+    /// Equal clauses, shared with the original.
     pub fn copy(&self) -> Result<Clauses, NoMemory>
         ensures { IfOk result (λ c. c ≡ self.now) }
     {
@@ -280,7 +280,7 @@ impl Model for Provisions {
 }
 
 impl Provisions {
-    /// These provisions. It takes no memory, and what room is left over in the vector is given back.
+    /// These provisions. It allocates nothing, and frees the vector's unused room.
     pub fn new(provisions: Vec<Provision>) -> Provisions
         ensures { result ≡ provisions.items }
     {
@@ -289,14 +289,14 @@ impl Provisions {
         Provisions { provisions }
     }
 
-    /// The provisions, in the order in which they are written.
+    /// The provisions, in written order.
     pub fn as_slice(&self) -> &[Provision]
         ensures { result.now ≡ self.now }
     {
         self.provisions.as_slice()
     }
 
-    /// The provisions as a vector. It takes no memory.
+    /// The provisions as a vector. It allocates nothing.
     pub fn into_vec(self) -> Vec<Provision>
         ensures { result.items ≡ self }
     {

@@ -2,6 +2,6 @@
 use Rattle.std.specs.Prelude.{ℕ, codes, slice_index}
 use Prim.Native.String.{String}
 
--- the code of a character, which is written as a text
+-- the code of the only character of a text
 abbrev pub char : String → ℕ
 char text = slice_index (codes text) 0

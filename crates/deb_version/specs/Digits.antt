@@ -1,5 +1,5 @@
 -- Steps: no contract of a call that users make rests on this file.
--- Runs of digits, which are numbers of any length.
+-- Runs of digits: numbers of any length.
 use Rattle.std.specs.Prelude.{◌≡◌, ◌==◌, ℕ, Bool, true, not, List, drop}
 use Rattle.std.specs.Char.{is_ascii_digit}
 use Rattle.std.specs.List.{position_or_len, list_all, before_first}

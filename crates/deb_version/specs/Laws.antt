@@ -1,6 +1,6 @@
 -- Steps: no contract of a call that users make rests on this file.
 -- The laws of the order of versions: it is total, and the same version is an equivalence that the order respects.
--- A proof in a crate above cites these, and std's lemmas on `IsTotalOrder` (std/lemmas/Cmp.md) at `version_order`.
+-- A proof in a crate above cites these, and std's lemmas on `IsTotalOrder` (std/lemmas/Cmp.md) with `version_order`.
 use Rattle.std.specs.Prelude.{◌≡◌, ℕ, suc, zero, ◌+◌, ◌≤◌, ◌<◌, ◌⊎◌, Bool, true, false, Option, Some, None, Result, Ok, Err, unwrap_or, List, [], ◌∷◌, length, ℤ, pos}
 use Rattle.std.specs.declared.cmp.Ordering.{Ordering}
 use Rattle.std.specs.declared.cmp.Ordering.TheVariants.{Less, Equal, Greater}
@@ -36,7 +36,7 @@ key_cmp_continued (suc n) [] (y ∷ ys) h k = ap (λ o. ordering_then (int_cmp (
 key_cmp_continued (suc n) (x ∷ xs) [] h k = ap (λ o. ordering_then (int_cmp x (pos 0)) o) (key_cmp_continued n xs [] (omega arith) (omega arith))
 key_cmp_continued (suc n) (x ∷ xs) (y ∷ ys) h k = ap (λ o. ordering_then (int_cmp x y) o) (key_cmp_continued n xs ys (omega arith) (omega arith))
 
--- lists of one length are in a total order
+-- lists of the same length are totally ordered
 lists_order : IsTotalOrder (slice_cmp int_cmp)
 lists_order = lists_total int_cmp_total
 
@@ -76,7 +76,7 @@ pub version_order : IsTotalOrder version_cmp
 unfolding version_cmp
 version_order = then_total (on_total epoch_of nat_cmp_total) (then_total (on_total upstream_of part_order) (on_total revision_of part_order))
 
--- a version is the same as itself
+-- a version equals itself
 pub same_refl : (a : List ℕ) → SameVersion a a
 same_refl a = tied_itself version_order a
 
@@ -86,7 +86,7 @@ same_sym a b h = tied_back version_order a b h
 pub same_trans : (a b c : List ℕ) → SameVersion a b → SameVersion b c → SameVersion a c
 same_trans a b c h k = version_order.congr a b c h ∙ k
 
--- the same version compares alike, on either side
+-- equal versions compare alike, on either side
 pub same_left : (a b c : List ℕ) → SameVersion a b → version_cmp a c ≡ version_cmp b c
 same_left a b c h = version_order.congr a b c h
 
@@ -96,7 +96,7 @@ same_right a b c h = alike_right version_order a b c h
 pub below_trans : (a b c : List ℕ) → IsBelow a b → IsBelow b c → IsBelow a c
 below_trans a b c h k = version_order.trans a b c h k
 
--- above is below the other way round
+-- above is the converse of below
 pub below_from_above : (a b : List ℕ) → IsAbove a b → IsBelow b a
 below_from_above a b h = version_order.antisymm b a ∙ ap ordering_reverse h
 
@@ -106,11 +106,11 @@ above_from_below a b h = version_order.antisymm b a ∙ ap ordering_reverse h
 pub above_trans : (a b c : List ℕ) → IsAbove a b → IsAbove b c → IsAbove a c
 above_trans a b c h k = above_from_below c a (below_trans c b a (below_from_above b c k) (below_from_above a b h))
 
--- of two versions one is below, or they are the same, or one is above
+-- of two versions one is below the other, or they are the same
 pub version_cases : (a b : List ℕ) → (IsBelow a b) ⊎ ((SameVersion a b) ⊎ (IsAbove a b))
 version_cases a b = ordering_cases (version_cmp a b)
 
--- not above is transitive: what a choice of the greatest version needs
+-- "not above" is transitive: the choice of the greatest version needs this
 pub at_most_trans : (a b c : List ℕ) → is_gt (version_cmp a b) ≡ false → is_gt (version_cmp b c) ≡ false → is_gt (version_cmp a c) ≡ false
 at_most_trans a b c h k = upto version_order a b c h k
 
@@ -138,16 +138,16 @@ passed_by : (o : Option VersionFault) (e : VersionFault) → (o ≡ Some NoMemor
 passed_by None e never h k = refl
 passed_by (Some x) e never h k = absurd (never (ap Some (sym h ∙ k)))
 
--- want of memory is no fault of a text
+-- running out of memory is no fault of a text
 pub not_out_of_memory : (text : List ℕ) → version_fault text ≡ Some NoMemory → ⊥
 unfolding version_fault
 not_out_of_memory text h = never_memory _ _ _ _ _ _ h
 
--- a refusal other than want of memory names the text's first fault, so the text is no version
+-- a refusal other than out of memory names the text's first fault, so the text isn't a version
 pub refused_for : (text : List ℕ) (e : VersionFault) → e ≡ unwrap_or (version_fault text) NoMemory → (e ≡ NoMemory → ⊥) → version_fault text ≡ Some e
 refused_for text e h other = refused_by (version_fault text) e h other
 
--- want of memory is answered only for a version
+-- only a version is refused for running out of memory
 pub refused_version : (text : List ℕ) (e : VersionFault) → e ≡ unwrap_or (version_fault text) NoMemory → e ≡ NoMemory → IsVersion text
 refused_version text e h k = passed_by (version_fault text) e (not_out_of_memory text) h k
 

@@ -9,7 +9,7 @@ use Rattle.deb_version.specs.declared.faults.VersionFault.{VersionFault}
 use Rattle.deb_version.specs.declared.faults.CompareFault.{CompareFault}
 use Rattle.deb_version.specs.declared.faults.CompareFault.TheVariants.{First, Second}
 
--- epochs are compared as numbers, then upstream versions, then revisions
+-- epochs are compared first, as numbers, then upstream versions, then revisions
 unfoldable pub version_cmp : List ℕ → List ℕ → Ordering
 version_cmp a b =
     ordering_then (nat_cmp (epoch_of a) (epoch_of b))
@@ -27,12 +27,13 @@ IsBelow a b = version_cmp a b ≡ Less
 abbrev pub IsAbove : List ℕ → List ℕ → Type 0
 IsAbove a b = version_cmp a b ≡ Greater
 
--- an order, unless the first or else the second text has a fault
+-- an order, unless the first text has a fault, or else the second
 abbrev pub unless_refused : Option VersionFault → Option VersionFault → Ordering → Result Ordering CompareFault
 unless_refused (Some fault) second order = Err (First fault)
 unless_refused None (Some fault) order = Err (Second fault)
 unless_refused None None order = Ok order
 
--- what comparing two texts answers: their order where both are versions, else which is none, and its first fault
+-- the result of comparing two texts: their order if both are versions, else the first text that isn't, with its first
+-- fault
 abbrev pub text_cmp : List ℕ → List ℕ → Result Ordering CompareFault
 text_cmp a b = unless_refused (version_fault a) (version_fault b) (version_cmp a b)

@@ -1,9 +1,9 @@
-// Why a text is no version, and want of memory.
+// Why a text isn't a version, and running out of memory.
 ghost use Rattle.deb_version.specs.declared.faults.VersionFault.TheVariants.{NoMemory as OutOfMemory};
 
 use std::alloc::{AllocError, AllocFailed};
 
-/// Want of memory, the only refusal of a call that copies what is sound.
+/// Out of memory: the only refusal of a call that copies a valid value.
 #[derive(Clone, Copy, Debug, PartialEq, Eq, thiserror::Error)]
 #[error("out of memory")]
 pub struct NoMemory;
@@ -20,8 +20,8 @@ impl<T: Drop> From<AllocFailed<T>> for NoMemory {
     }
 }
 
-/// Why a text is no version (Debian Policy 5.6.12), or want of memory. Of several faults the first in
-/// this order is named.
+/// Why a text isn't a version (Debian Policy 5.6.12), or out of memory. Of several faults the first in this order is
+/// reported.
 #[derive(Clone, Copy, Debug, PartialEq, Eq, thiserror::Error)]
 pub enum VersionFault {
     #[error("the version is empty")]
@@ -40,7 +40,7 @@ pub enum VersionFault {
     NoMemory,
 }
 
-/// Which of two compared texts is no version, and why. Where neither is, the first is named.
+/// Which of two compared texts isn't a version, and why. If neither is, the first is reported.
 #[derive(Clone, Copy, Debug, PartialEq, Eq, thiserror::Error)]
 pub enum CompareFault {
     #[error("the first version is refused: {0}")]

@@ -1,4 +1,4 @@
-// Versions that are only compared, over lent texts.
+// Versions that are only compared, over borrowed texts.
 ghost use Rattle.std.specs.Prelude.{◌≡◌};
 ghost use Rattle.deb_version.specs.Order.{text_cmp};
 
@@ -6,8 +6,8 @@ use super::faults::CompareFault;
 use super::split::{compare_split, split_text};
 use std::cmp::Ordering;
 
-/// The order of the versions that two texts state (Debian Policy 5.6.12), or the fault of the first text
-/// that states none. It takes no memory, so no fault is `NoMemory`.
+/// The order of two version texts (Debian Policy 5.6.12), or the fault of the first text that isn't a version. It
+/// allocates nothing, so no fault is `NoMemory`.
 pub fn compare_texts(a: &str, b: &str) -> Result<Ordering, CompareFault>
     ensures { result ≡ text_cmp a.now b.now }
 {

@@ -47,12 +47,12 @@ impl Model for Version {
 }
 
 impl Version {
-    /// The version that a text of 1 to 256 bytes states. A text that is none is refused for its first
-    /// fault, in the order in which `VersionFault` names them.
+    /// Parses a version of 1 to 256 bytes. A text that isn't a version is refused for its first fault, in the order of
+    /// `VersionFault`.
     pub fn parse(alloc: Global, text: &str) -> Result<Version, VersionFault>
-        // What is read is a version, and keeps its text.
+        // A parsed text is a version, and is kept as it is.
         ensures version { IfOk result (λ v. IsVersion text.now × (v ≡ text.now)) }
-        // The fault is the text's first, or NoMemory where it has none.
+        // The error is the text's first fault, or NoMemory if it has none.
         ensures fault { IfErr result (λ e. e ≡ unwrap_or (version_fault text.now) VersionFault.NoMemory) }
     {
         let split = split_text(text.as_bytes())?;
@@ -60,8 +60,8 @@ impl Version {
         Ok(Version { text, split })
     }
 
-    /// The order of two versions (Debian Policy 5.6.12), which takes no memory. It is no `Ord`, since
-    /// texts of the same version may differ, as `1.0` and `0:1.00-0` do.
+    /// The order of two versions (Debian Policy 5.6.12). It allocates nothing. It isn't an `Ord`: different texts can
+    /// be the same version, like `1.0` and `0:1.00-0`.
     pub fn order(&self, other: &Version) -> Ordering
         ensures { result ≡ version_cmp self.now other.now }
     {
@@ -98,8 +98,8 @@ pub fn order_is_total()
     ensures { IsTotalOrder version_cmp }
 {}
 
-/// The key of a part is that of its first block and then that of the rest, where a block is a run of
-/// non-digits and then a run of digits, each the longest.
+/// The key of a part is the key of its first block, then the key of the rest. A block is the longest run of non-digits,
+/// then the longest run of digits.
 pub fn key_is_by_blocks()
     ensures { (text digits rest : List ℕ) → IsFirstBlock text digits rest → key (text ++ digits ++ rest) ≡ map weight text ++ (pos 0 ∷ pos (digits_value 10 digits) ∷ key rest) }
 {}

@@ -22,8 +22,8 @@ pub fn order_parts(a: &[u8], b: &[u8]) -> Ordering
     order_by_turns(left, right)
 }
 
-/// How much of the front of two parts can be passed over: it is the same in both, and ends behind a
-/// non-digit, so that it cuts no number.
+/// The length of the front of two parts that can be skipped: it is the same in both and ends after a non-digit, so that
+/// it cuts no number.
 fn common_front(a: &[u8], b: &[u8]) -> usize
     ensures within_first { result ≤ length a.now }
     ensures within_second { result ≤ length b.now }
@@ -41,8 +41,7 @@ fn common_front(a: &[u8], b: &[u8]) -> usize
     front
 }
 
-/// The order of two parts, from the left: non-digits by their ranks, one by one, and runs of digits as
-/// numbers.
+/// The order of two parts, from the left: non-digits one by one by their ranks, and runs of digits as numbers.
 fn order_by_turns(a: &[u8], b: &[u8]) -> Ordering
     ensures { result ≡ part_cmp a.now b.now }
 {
@@ -78,7 +77,7 @@ fn front_rank(part: &[u8]) -> u16
     }
 }
 
-/// The rank of a byte: `~` before the end of the part, then letters, then all others.
+/// The rank of a byte: `~` before the end of the part, then letters, then all other bytes.
 fn rank(byte: u8) -> u16
     ensures { result ≡ rank byte }
 {
@@ -100,7 +99,7 @@ fn behind_first(part: &[u8]) -> &[u8]
     }
 }
 
-/// The digits at the front of a part, and what follows them.
+/// The digits at the front of a part, and the rest after them.
 #[derive(Clone, Copy)]
 struct Number<'a> {
     digits: &'a [u8],
@@ -136,14 +135,14 @@ fn without_zeros(digits: &[u8]) -> &[u8]
     &digits[first_non_zero(digits).unwrap_or(digits.len())..]
 }
 
-/// Where the first byte that is no digit stands.
+/// The place of the first byte that isn't a digit.
 fn first_non_digit(part: &[u8]) -> Option<usize>
     ensures { result ≡ position is_non_digit part.now }
 {
     part.iter().position(|byte| !byte.is_ascii_digit())
 }
 
-/// Where the first byte other than `0` stands.
+/// The place of the first byte other than `0`.
 fn first_non_zero(digits: &[u8]) -> Option<usize>
     ensures { result ≡ position is_not_zero digits.now }
 {

@@ -8,20 +8,20 @@ use std::alloc::{AllocError, Global};
 use std::marker::Model;
 use std::str;
 
-/// So many bytes stand inline.
+/// The most inline bytes.
 const ROOM: usize = 30;
 
 /// Where a string keeps its bytes.
 #[derive(Debug, Drop)]
 enum Data {
-    /// In the value itself, with room behind them.
+    /// In the value itself, with unused room after them.
     Inline { len: u8, bytes: [u8; ROOM] },
 
     Heap(String),
 }
 
-/// A string that keeps up to 30 bytes inline, so nearly all names and versions take no memory. It takes 32 bytes itself.
-/// Contracts see its bytes.
+/// A string that keeps up to 30 bytes inline, so that nearly all names and versions allocate nothing. It has a size of
+/// 32 bytes. Contracts see its bytes.
 #[derive(Debug, Drop)]
 pub struct SmallString {
     data: Data,
@@ -38,7 +38,7 @@ impl Model for SmallString {
     ghost invariant = { λ s. IsText s.data };
 }
 
-/// A text of so few bytes, inline.
+/// A short text, inline.
 fn inline(text: &str) -> Data
     requires { length text.now ≤ 30 }
     ensures bytes { bytes_of result ≡ text.now }
@@ -53,7 +53,7 @@ fn inline(text: &str) -> Data
 }
 
 impl SmallString {
-    /// A string with these bytes. One of up to 30 takes no memory.
+    /// A string with these bytes. Up to 30 bytes allocate nothing.
     pub fn from_str(alloc: Global, text: &str) -> Result<SmallString, AllocError>
         ensures ok { IfOk result (λ s. s ≡ text.now) }
         ensures short { length text.now ≤ 30 → IsOk result }
@@ -66,7 +66,7 @@ impl SmallString {
         Ok(SmallString { data })
     }
 
-    /// A string of these bytes. It takes no memory.
+    /// A string of these bytes. It allocates nothing.
     pub fn from_string(text: String) -> SmallString
         ensures { result ≡ string_bytes text }
     {
@@ -88,7 +88,7 @@ impl SmallString {
         }
     }
 
-    /// An equal string. One of up to 30 bytes that stand inline takes no memory.
+    /// An equal string. Up to 30 inline bytes allocate nothing.
     pub fn copy(&self, alloc: Global) -> Result<SmallString, AllocError>
         ensures { IfOk result (λ s. s ≡ self.now) }
     {

@@ -1,4 +1,4 @@
-// Where the parts of a version stand in its text, and what is wrong with a text that is none.
+// Where the parts of a version are in its text, and the fault of a text that isn't a version.
 ghost use Rattle.std.specs.Prelude.{◌≡◌, ◌==◌, ◌+◌, ◌*◌, ◌^◌, ◌&&◌, nat_lt, ◌<◌, ◌≤◌, true, false, drop, take, length, not, IsTrue, Some, None, MatchOption, MatchResult};
 ghost use Rattle.std.specs.List.{position, list_any, list_all, before_last, after_last};
 ghost use Rattle.std.specs.Char.{is_ascii_digit, digit_value};
@@ -17,8 +17,8 @@ const MAX_EPOCH: u32 = 2_147_483_647;
 /// The greatest length of a text.
 const MAX_LEN: usize = 256;
 
-/// Where each byte may stand: `r` in a revision and an upstream version, `u` in an upstream version
-/// alone, `x` in neither.
+/// Where each byte is allowed: `r` in a revision and an upstream version, `u` only in an upstream version, `x` in
+/// neither.
 static PLACES: [u8; 256] = *b"\
     xxxxxxxxxxxxxxxxxxxxxxxxxxxxxxxx\
     xxxxxxxxxxxrxurxrrrrrrrrrruxxxxx\
@@ -29,7 +29,7 @@ static PLACES: [u8; 256] = *b"\
     xxxxxxxxxxxxxxxxxxxxxxxxxxxxxxxx\
     xxxxxxxxxxxxxxxxxxxxxxxxxxxxxxxx";
 
-/// Where the parts of a version stand in its text.
+/// Where the parts of a version are in its text.
 #[derive(Clone, Copy)]
 pub struct Split {
     pub epoch: u32,
@@ -52,7 +52,7 @@ impl Split {
     }
 }
 
-/// How a text splits into the parts of a version, or its first fault.
+/// The split of a text into the parts of a version, or its first fault.
 pub fn split_text(text: &[u8]) -> Result<Split, VersionFault>
     ensures { MatchResult result (λ s. IsVersion text.now × IsSplit text.now s.epoch s.start s.upstream_len) (λ fault. version_fault text.now ≡ Some fault) }
 {
@@ -74,7 +74,7 @@ pub fn split_text(text: &[u8]) -> Result<Split, VersionFault>
     }
 }
 
-/// The order of two versions, by their texts and how these split. Equal texts, which are the most, need no look at their
+/// The order of two versions, by their texts and splits. Equal texts, the most common case, need no look at their
 /// parts.
 pub fn compare_split(a: &[u8], first: Split, b: &[u8], second: Split) -> Ordering
     requires first { IsSplit a.now first.epoch first.start first.upstream_len }
@@ -107,7 +107,7 @@ fn parts_of(text: &[u8], split: Split) -> (&[u8], &[u8])
     parts_at(rest, split.upstream_len as usize)
 }
 
-/// The upstream version and the revision, of what follows the epoch.
+/// The upstream version and the revision, in the text after the epoch.
 fn parts_at(rest: &[u8], upstream_len: usize) -> (&[u8], &[u8])
     requires { upstream_len ≤ length rest.now }
     ensures upstream { result.0.now ≡ take upstream_len rest.now }
@@ -120,7 +120,7 @@ fn parts_at(rest: &[u8], upstream_len: usize) -> (&[u8], &[u8])
     }
 }
 
-/// What is wrong with an upstream version and a revision.
+/// The fault of an upstream version and a revision.
 #[tactic(auto, unfolding(crate::specs::Text::first_fault))]
 fn parts_fault(upstream: &[u8], revision: &[u8]) -> Option<VersionFault>
     ensures { result ≡ first_fault false false false (length upstream.now == 0) (length revision.now == 0) (has_bad_byte upstream.now revision.now) }
@@ -137,7 +137,7 @@ fn parts_fault(upstream: &[u8], revision: &[u8]) -> Option<VersionFault>
     None
 }
 
-/// The epoch of a text and where the rest of it begins, or None where it states an epoch that is none.
+/// The epoch of a text and where the rest of it begins, or None if its epoch isn't valid.
 fn stated_epoch(text: &[u8]) -> Option<(u32, usize)>
     ensures { MatchOption result (has_bad_epoch text.now ≡ true) (λ e. (has_bad_epoch text.now ≡ false) × (e.0 ≡ epoch_of text.now) × (e.1 ≤ length text.now) × (drop e.1 text.now ≡ after_epoch text.now)) }
 {
@@ -150,7 +150,7 @@ fn stated_epoch(text: &[u8]) -> Option<(u32, usize)>
     }
 }
 
-/// How long the upstream version is, in what follows the epoch.
+/// The length of the upstream version, in the text after the epoch.
 fn upstream_len(rest: &[u8]) -> usize
     ensures within { result ≤ length rest.now }
     ensures upstream { take result rest.now ≡ upstream_in rest.now }
@@ -162,7 +162,7 @@ fn upstream_len(rest: &[u8]) -> usize
     }
 }
 
-/// The epoch that digits write, or None where they are no epoch.
+/// The epoch written with these digits, or None if they aren't an epoch.
 fn epoch_value(digits: &[u8]) -> Option<u32>
     ensures { MatchOption result (is_epoch digits.now ≡ false) (λ epoch. (is_epoch digits.now ≡ true) × (epoch ≡ digits_value 10 digits.now)) }
 {
@@ -176,7 +176,7 @@ fn epoch_value(digits: &[u8]) -> Option<u32>
     Some(epoch)
 }
 
-/// The epoch with one more digit behind it.
+/// The epoch with one more digit after it.
 fn with_digit(epoch: u32, digit: u8) -> Option<u32>
     requires { epoch < 2 ^ 31 }
     ensures { MatchOption result ((is_ascii_digit digit && nat_lt (epoch * 10 + digit_value digit) (2 ^ 31)) ≡ false) (λ more. ((is_ascii_digit digit && nat_lt (epoch * 10 + digit_value digit) (2 ^ 31)) ≡ true) × (more ≡ epoch * 10 + digit_value digit)) }
@@ -191,14 +191,14 @@ fn with_digit(epoch: u32, digit: u8) -> Option<u32>
     Some(more)
 }
 
-/// Where the first colon stands.
+/// The place of the first colon.
 fn first_colon(text: &[u8]) -> Option<usize>
     ensures { result ≡ position is_colon text.now }
 {
     text.iter().position(|byte| *byte == b':')
 }
 
-/// Where the last hyphen stands.
+/// The place of the last hyphen.
 fn last_hyphen(text: &[u8]) -> Option<usize>
     ensures { MatchOption result (list_any is_hyphen text.now ≡ false) (λ i. (list_any is_hyphen text.now ≡ true) × (i < length text.now) × (take i text.now ≡ before_last is_hyphen text.now) × (drop (i + 1) text.now ≡ after_last is_hyphen text.now)) }
 {
@@ -210,28 +210,28 @@ fn last_hyphen(text: &[u8]) -> Option<usize>
     None
 }
 
-/// Whether an upstream version has only bytes that may stand there.
+/// Whether an upstream version has only allowed bytes.
 fn is_upstream(text: &[u8]) -> bool
     ensures { result ≡ list_all is_upstream_byte text.now }
 {
     text.iter().all(|byte| is_upstream_byte(*byte))
 }
 
-/// Whether a revision has only bytes that may stand there.
+/// Whether a revision has only allowed bytes.
 fn is_revision(text: &[u8]) -> bool
     ensures { result ≡ list_all is_revision_byte text.now }
 {
     text.iter().all(|byte| is_revision_byte(*byte))
 }
 
-/// Whether a byte may stand in an upstream version.
+/// Whether a byte is allowed in an upstream version.
 fn is_upstream_byte(byte: u8) -> bool
     ensures { result ≡ is_upstream_byte byte }
 {
     PLACES[byte as usize] != b'x'
 }
 
-/// Whether a byte may stand in a revision.
+/// Whether a byte is allowed in a revision.
 fn is_revision_byte(byte: u8) -> bool
     ensures { result ≡ is_revision_byte byte }
 {

@@ -11,7 +11,7 @@ fn main(rt: HostRuntime) -> ExitCode {
     ExitCode::from(run(&rt))
 }
 
-/// Does what the arguments ask for, and gives the exit status.
+/// Does what the arguments ask for, and returns the exit status.
 fn run(rt: &HostRuntime) -> u8 {
     match read_args(rt) {
         Ok(args) => run_args(rt, &args),
@@ -19,7 +19,7 @@ fn run(rt: &HostRuntime) -> u8 {
     }
 }
 
-/// Does what arguments that were read ask for, and gives the exit status.
+/// Does what arguments that were read ask for, and returns the exit status.
 fn run_args(rt: &HostRuntime, args: &[String]) -> u8 {
     let texts = match as_texts(rt.alloc(), args) {
         Ok(texts) => texts,
@@ -34,7 +34,7 @@ fn run_args(rt: &HostRuntime, args: &[String]) -> u8 {
     }
 }
 
-/// Says on standard error why the arguments can't be read, and gives the exit status.
+/// Prints on standard error why the arguments can't be read, and returns the exit status.
 fn tell_args(rt: &HostRuntime, fault: ArgsFault) -> u8 {
     let _ = eprintln!(rt; "office: {fault}");
     args_status(&fault)

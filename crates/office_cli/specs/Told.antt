@@ -1,5 +1,5 @@
--- Steps: no contract of a call that users make rests on this file.
--- What is told without a run, and its exit status.
+-- The text and the exit status of commands that make no run.
+-- The claim on other calls rests on the definitions of texts; the others are steps of the proof.
 use Rattle.std.specs.Prelude.{◌≡◌, ◌⊎◌, ◌<◌, ◌==◌, ℕ, List, Option, Some, None, if◌then◌else◌, option_map, length}
 use Rattle.office_core_facts.specs.Outcome.{testing_after, testing_text}
 use Rattle.office_core_facts.specs.OfficeState.{OfficeState}
@@ -18,7 +18,7 @@ use Rattle.office_core_orders.specs.declared.waiting_lines.Awaited.TheVariants.{
 use Rattle.office_cli.specs.declared.reasons.WhichRun.{WhichRun}
 use Rattle.office_cli.specs.declared.reasons.WhichRun.TheVariants.{Last, Earlier, Unfinished}
 
--- the text of a report in an office's state, none where its run isn't finished
+-- the text of a report in an office's state, none if its run isn't finished
 abbrev pub IsReportText : OfficeState → Report → Option (List ℕ) → Type 0
 IsReportText state Testing told = told ≡ Some (testing_text state.setup state.finished (testing_after state.setup state.kept state.finished))
 IsReportText state Unstable None = ⊥
@@ -26,12 +26,12 @@ IsReportText state Unstable (Some text) = IsUnstableText state.setup state.kept 
 IsReportText state (Excuses run) told = told ≡ option_map (λ reports. reports.excuses) (reports_at state run)
 IsReportText state (Update run) told = told ≡ option_map (λ reports. reports.updates) (reports_at state run)
 
--- 0 where a run waits for its order, 1 where it waits for mail
+-- 0 if a run waits for its order, 1 if it waits for mail
 abbrev pub status_of_awaited : Awaited → ℕ
 status_of_awaited Order = 0
 status_of_awaited (Mail lacks) = 1
 
--- a text tells how much mail an office keeps of each sender
+-- the text on how much mail an office keeps of each sender
 pub record TellsMail (state : OfficeState) (text : List ℕ) : Type 0 where
   pub counts : List MailCount
   pub counted : AreMailCounts state.kept (length state.setup.senders) counts
@@ -43,13 +43,13 @@ pub record TellsOrder (state : OfficeState) (day : Date) (text : List ℕ) : Typ
   pub are : AreUnbroken state.kept unbroken
   pub text_is : text ≡ order_text state.setup unbroken day
 
--- 0 where hints are proposed, or where so many sources were asked for and the run with the hints moves each of them; else 1
+-- 0 if hints are proposed, or if that many sources were asked for and the run with the hints moves each of them; else 1
 abbrev pub status_of_proposal : ℕ → Proposal → ℕ
 status_of_proposal asked proposal =
     if asked == 0 then (if length proposal.hints.items == 0 then 1 else 0)
     else (if length proposal.freed.items == asked then 0 else 1)
 
--- The run that is asked about, where so many are finished: the last finished one, where it or none is named; an earlier one;
+-- The run that is asked about, given the number of finished runs: the last one, if it or none is named; an earlier one;
 -- or one that isn't finished.
 abbrev pub IsAsked : ℕ → Option ℕ → WhichRun → Type 0
 IsAsked finished run (Last k) = (k ≡ finished) × ((run ≡ None) ⊎ (run ≡ Some k))

@@ -3,7 +3,7 @@
 use std::io;
 use std::io::{ErrorKind, Read};
 
-/// The bytes of a request that have come. A read behind them fails, unless the client sends no more.
+/// The bytes of a request that have come. A read after them fails, unless the client sends no more.
 #[derive(Drop)]
 pub struct ArrivedReader<'a> {
     bytes: &'a [u8],

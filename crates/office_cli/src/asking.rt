@@ -17,7 +17,7 @@ use office_mail::ToWrite;
 use office_store::Keeper;
 use std::io::{BufWriter, Write};
 
-/// What is asked of an office, which changes nothing.
+/// A question to an office, which changes nothing.
 #[derive(Clone, Copy, Debug, PartialEq, Eq)]
 pub enum Question {
     /// Its finished runs.
@@ -34,7 +34,7 @@ pub enum Question {
     Hints,
 }
 
-/// Prints the answer to a question, and gives the exit status.
+/// Prints the answer to a question, and returns the exit status.
 pub fn tell_answer<K: Keeper>(rt: &HostRuntime, office: &mut Office<K>, question: Question) -> u8 {
     match question {
         Question::Runs => tell_text(rt, runs_text(office)),
@@ -46,7 +46,7 @@ pub fn tell_answer<K: Keeper>(rt: &HostRuntime, office: &mut Office<K>, question
     }
 }
 
-/// Prints a text, and gives the exit status.
+/// Prints a text, and returns the exit status.
 fn tell_text(rt: &HostRuntime, text: Result<Text, StoreFault>) -> u8 {
     match text {
         Ok(text) => print_text(rt, &text, 0),
@@ -54,7 +54,7 @@ fn tell_text(rt: &HostRuntime, text: Result<Text, StoreFault>) -> u8 {
     }
 }
 
-/// The text that tells how much mail is kept of each sender.
+/// The text on how much mail is kept of each sender.
 fn counted_text<K: Keeper>(office: &mut Office<K>) -> Result<Text, StoreFault>
     ensures text { Holds K.Keeper office.old office.new → IfOk result (λ text. TellsMail (state_of K.Keeper office.old) text) }
     ensures asks { Asks K.Keeper office.old office.new }
@@ -72,7 +72,7 @@ fn order_on<K: Keeper>(office: &mut Office<K>, day: Date) -> Result<Text, StoreF
     Ok(order_text(office.alloc(), office.setup(), &unbroken, day)?)
 }
 
-/// Prints each message that is kept, and gives the exit status. Where it fails, what was had before is printed.
+/// Prints each message that is kept, and returns the exit status. If it fails, it has printed what came before.
 fn tell_list<K: Keeper>(rt: &HostRuntime, office: &mut Office<K>) -> u8 {
     let Ok(mut output) = BufWriter::new(rt.alloc(), rt.stdout()) else {
         return refuse(rt, StoreFault::NoMemory);
@@ -81,7 +81,7 @@ fn tell_list<K: Keeper>(rt: &HostRuntime, office: &mut Office<K>) -> u8 {
     end_output(rt, &mut output, written)
 }
 
-/// Prints a bag of all kept mail, and gives the exit status. Where it fails, what was had before is printed.
+/// Prints a bag of all kept mail, and returns the exit status. If it fails, it has printed what came before.
 fn tell_export<K: Keeper>(rt: &HostRuntime, office: &mut Office<K>) -> u8 {
     let Ok(mut output) = BufWriter::new(rt.alloc(), rt.stdout()) else {
         return refuse(rt, StoreFault::NoMemory);
@@ -90,7 +90,7 @@ fn tell_export<K: Keeper>(rt: &HostRuntime, office: &mut Office<K>) -> u8 {
     end_output(rt, &mut output, written)
 }
 
-/// Prints what a writer still holds, and gives the exit status.
+/// Prints what a writer still holds, and returns the exit status.
 fn end_output<W: Write>(rt: &HostRuntime, output: &mut W, written: Result<(), AskFault>) -> u8 {
     let flushed = output.flush();
     match written {

@@ -8,7 +8,7 @@ use office_http::StoreFault;
 use office_mail::Setup;
 use office_store::Keeper;
 
-/// Prints what a check of a store finds, and gives the exit status.
+/// Prints what a check of a store finds, and returns the exit status.
 pub fn tell_check<K: Keeper>(rt: &HostRuntime, setup: &Setup, keeper: &mut K) -> u8
     requires { K.setup keeper.old ≡ setup.now }
 {
@@ -18,7 +18,7 @@ pub fn tell_check<K: Keeper>(rt: &HostRuntime, setup: &Setup, keeper: &mut K) ->
     }
 }
 
-/// Prints what a check found, and gives the exit status.
+/// Prints what a check found, and returns the exit status.
 fn print_checked(rt: &HostRuntime, setup: &Setup, checked: Checked) -> u8 {
     match checked_text(rt.alloc(), setup, checked) {
         Ok(text) => print_text(rt, &text, check_status(checked)),

@@ -1,4 +1,4 @@
-//! One client of the service: what came of its request, and what it hasn't taken of its reply.
+//! One client of the service: what has come of its request, and what it hasn't taken of its reply.
 
 ghost use Rattle.std.specs.Prelude.{◌≡◌};
 ghost use Rattle.office_http_requests.specs.Routes.{office_routes};
@@ -30,10 +30,10 @@ const REQUEST: u64 = 40_000;
 /// The time in which any reply has to be taken, in milliseconds.
 const REPLY: u64 = 30_000;
 
-/// How many bytes of a reply allow its client one millisecond more.
+/// How many bytes of a reply give its client one millisecond more.
 const PACE: u64 = 100;
 
-/// The time in which what a client still sends after its reply is read, in milliseconds.
+/// How long what a client still sends after its reply is read, in milliseconds.
 const LINGER: u64 = 500;
 
 /// How often in a row a request that isn't whole is looked at with no pause.
@@ -44,10 +44,10 @@ const PAUSE: u64 = 10;
 
 const LONGEST: u32 = 64;
 
-/// What tells a client to send the body (RFC 9110, section 15.2.1).
+/// Asks a client to send the body (RFC 9110, section 15.2.1).
 const CONTINUE: &[u8] = b"HTTP/1.1 100 Continue\r\n\r\n";
 
-/// The requests that only print what is there.
+/// The requests that only print what exists.
 const QUICK: [&[u8]; 6] = [
     b"GET /status",
     b"GET /excuses/",
@@ -85,7 +85,7 @@ pub struct Client {
     /// How often the request was looked at and wasn't whole, and when last.
     looks: u32,
     looked: Instant,
-    /// The client was told to send the body.
+    /// The client was asked to send the body.
     is_invited: bool,
     reply: Vec<u8>,
     sent: usize,
@@ -114,7 +114,7 @@ impl Client {
         self.stage == Stage::Gone
     }
 
-    /// Whether the client hasn't asked for anything yet, so that its place may be given to another.
+    /// Whether the client hasn't asked for anything yet, so that its place may go to another.
     pub fn is_asking(&self) -> bool {
         self.stage == Stage::Asking
     }
@@ -129,7 +129,7 @@ impl Client {
         self.reply.len().saturating_sub(self.sent)
     }
 
-    /// Whether the request only asks for what is there.
+    /// Whether the request only asks for what exists.
     pub fn is_quick(&self) -> bool {
         QUICK.iter().any(|front| self.request.starts_with(front))
     }
@@ -173,7 +173,7 @@ impl Client {
         Ok(())
     }
 
-    /// Sends what the client takes of its reply. Behind the last byte the client leaves.
+    /// Sends what the client takes of its reply. After the last byte the client leaves.
     fn send_reply(&mut self, now: Instant) -> io::Result<()> {
         for _ in 0..=self.reply.len() {
             let rest = self.reply.get(self.sent..).unwrap_or(&[]);
@@ -193,7 +193,7 @@ impl Client {
         Ok(())
     }
 
-    /// Reads and drops what a client sends that has its reply. At the end its connection is to be closed.
+    /// Reads and drops what a client with its reply sends. At the end its connection is to be closed.
     fn drop_rest(&mut self) -> io::Result<()> {
         let mut dropped = [0u8; CHUNK];
         for _ in 0..REQUEST_ROOM {
@@ -218,8 +218,8 @@ impl Client {
             && now.saturating_duration_since(self.looked) >= pause_behind(self.looks)
     }
 
-    /// Answers the request if all of it has come, and returns whether it did. Until then the office reads what has come and
-    /// meets a reader that fails, so that it does nothing.
+    /// Answers the request if all of it has come, and returns whether it did. Until then the office reads what has
+    /// come, meets a reader that fails, and does nothing.
     pub fn answer<K: Keeper>(
         &mut self,
         rt: &HostRuntime,
@@ -261,7 +261,7 @@ impl Client {
         }
     }
 
-    /// Begins to send a reply, but for what the client was told before. A client to which nothing is due is gone.
+    /// Begins to send a reply, without what the client got before. A client with nothing due is gone.
     fn take(&mut self, reply: Vec<u8>, now: Instant) {
         self.sent = if self.is_invited { CONTINUE.len() } else { 0 };
         self.reply = reply;
@@ -274,7 +274,7 @@ impl Client {
         };
     }
 
-    /// Tells a client to send the body if it waits for that and wasn't told yet.
+    /// Asks a client to send the body if it waits for that and wasn't asked yet.
     fn invite(&mut self, rt: &HostRuntime, told: &[u8]) {
         if self.is_invited || told != CONTINUE {
             return;
@@ -285,7 +285,7 @@ impl Client {
         }
     }
 
-    /// Ends the connection by a fault, which is printed on standard error.
+    /// Ends the connection because of a fault, which it prints on standard error.
     fn end_by(&mut self, rt: &HostRuntime, fault: io::Error) {
         let _ = match self.stage {
             Stage::Asking if self.request.is_empty() => Ok(()),
@@ -320,7 +320,7 @@ impl Client {
     }
 }
 
-/// The pause behind so many looks at a request that wasn't whole.
+/// The pause after that many looks at a request that wasn't whole.
 fn pause_behind(looks: u32) -> Duration {
     let further = min(looks.saturating_sub(EAGER_LOOKS), LONGEST);
     Duration::from_millis(PAUSE.saturating_mul(u64::from(further)))
@@ -331,7 +331,7 @@ fn has_head(request: &[u8]) -> bool {
     request.windows(3).any(|three| matches!(three, [b'\n', b'\r', b'\n'] | [b'\n', b'\n', _]))
 }
 
-/// Answers the request that has come, into a list. `Read` says that it isn't whole, and that nothing was done.
+/// Answers the request that has come, into a list. `Read` means that it isn't whole, and that nothing was done.
 fn answer_arrived<K: Keeper>(
     office: &mut Office<K>,
     table: &Routes,

@@ -1,4 +1,4 @@
-//! The clients of the service: many are waited for at once, and one request is answered at a time.
+//! The clients of the service: it waits for many at once, and answers one request at a time.
 
 ghost use Rattle.std.specs.Prelude.{◌≡◌};
 ghost use Rattle.office_http_requests.specs.Routes.{office_routes};
@@ -14,16 +14,16 @@ use std::io::ErrorKind;
 use std::time::{Duration, Instant};
 use std::{io, thread};
 
-/// How many clients are waited for at most.
+/// The most clients that it waits for.
 const ROOM: usize = 512;
 
-/// How many bytes of replies may wait to be taken. Above that the client that has been taking its reply longest is sent away.
+/// How many bytes of replies may wait to be taken. Above that the client taking its reply longest is sent away.
 const UNSENT: usize = 64_000_000;
 
 /// How often in a row an accept may fail.
 const ACCEPTS: u32 = 100;
 
-/// The wait behind an accept that failed, and between two looks at clients that are there, in milliseconds.
+/// The wait after an accept that failed, and between two looks at connected clients, in milliseconds.
 const PAUSE: u64 = 100;
 
 const TICK: u64 = 50;
@@ -31,7 +31,7 @@ const TICK: u64 = 50;
 /// How many events are taken at once. Which clients they name doesn't matter, since all are looked at.
 const EVENTS: usize = 64;
 
-/// The clients that are there, and those that may still come.
+/// The clients that are connected, and those that may still come.
 #[derive(Drop)]
 pub struct Clients {
     poll: Poll,
@@ -46,7 +46,7 @@ pub struct Clients {
 }
 
 impl Clients {
-    /// Nobody is there yet, and so many may come.
+    /// No client yet; this many may be accepted.
     pub fn new(
         rt: &HostRuntime,
         listener: &mut TcpListener,
@@ -74,7 +74,7 @@ impl Clients {
         self.left == 0 && self.clients.is_empty()
     }
 
-    /// Waits until something comes, or for a while if somebody is there.
+    /// Waits until something comes, or for a while if a client is connected.
     fn wait(&mut self, is_busy: bool) -> Result<(), ServiceFault> {
         let limit = if is_busy || self.failed > 0 {
             Some(Duration::from_millis(0))
@@ -88,7 +88,7 @@ impl Clients {
             .map_err(ServiceFault::Socket)
     }
 
-    /// Takes the connections that wait. If there is no room, the client that has been asking longest gives its place.
+    /// Accepts the connections that wait. If there is no room, the client asking longest gives up its place.
     fn accept(
         &mut self,
         rt: &HostRuntime,
@@ -108,7 +108,7 @@ impl Clients {
         Ok(())
     }
 
-    /// Whether one more client can be waited for, once the one that has been asking longest is sent away.
+    /// Whether there is room for one more client, after sending away the one asking longest if necessary.
     fn has_room(&mut self) -> bool {
         self.clients.len() < ROOM || self.send_away(true)
     }
@@ -163,8 +163,8 @@ impl Clients {
             .map_err(|_| ServiceFault::NoMemory)
     }
 
-    /// An accept that fails is no connection: it is printed on standard error, and the next one is made a little later, until
-    /// 100 in a row have failed.
+    /// A failed accept is no connection: it prints the fault on standard error and waits a little, until 100 in a row
+    /// have failed.
     fn pause_behind(&mut self, rt: &HostRuntime, fault: io::Error) -> Result<(), ServiceFault> {
         let _ = eprintln!(rt; "office: a connection wasn't taken: {fault}");
         self.failed = self.failed.saturating_add(1);
@@ -193,8 +193,8 @@ impl Clients {
         sum
     }
 
-    /// Answers all requests that only ask for what is there, and of the others the first one that is whole. Returns whether
-    /// anything was answered.
+    /// Answers all requests that only ask for what exists, and of the others the first one that is whole. Returns
+    /// whether anything was answered.
     fn answer<K: Keeper>(
         &mut self,
         rt: &HostRuntime,
@@ -223,7 +223,7 @@ impl Clients {
     }
 }
 
-/// Serves so many connections of a listener.
+/// Serves that many connections of a listener.
 pub fn serve_clients<K: Keeper>(
     rt: &HostRuntime,
     listener: &mut TcpListener,

@@ -1,25 +1,25 @@
-//! What the service says on standard error of the mail that it gets.
+//! What the service prints on standard error about the mail that it gets.
 
 use crate::teller::{is_plain, sender_and_number};
 use deb_control::Paragraphs;
 use std::env;
 
-/// The front of a request that delivers mail.
+/// The beginning of a request that delivers mail.
 const MAIL: &[u8] = b"POST /mail";
 
-/// The field in which a proxy names its user, with the colon behind it.
+/// The field in which a proxy names its user, with its colon.
 const USER: &[u8] = b"x-remote-user:";
 
-/// Which mail is named.
+/// Which mail is printed.
 #[derive(Clone, Copy, Debug, PartialEq, Eq)]
 pub enum Level {
-    /// What is refused.
+    /// Refused mail.
     Refused,
-    /// What is held, too.
+    /// Held mail too.
     Held,
 }
 
-/// The level that the environment states by `OFFICE_LOG=held`; else refused mail alone is named.
+/// The level that the environment states by `OFFICE_LOG=held`; without it only refused mail is printed.
 pub fn stated_level(rt: &HostRuntime) -> Level {
     match env::var(rt, "OFFICE_LOG") {
         Ok(word) if word.as_str() == "held" => Level::Held,
@@ -27,8 +27,8 @@ pub fn stated_level(rt: &HostRuntime) -> Level {
     }
 }
 
-/// Says on standard error what became of a message, by its request and the end of its reply: its sender and number, the
-/// sender's path, the proxy's user, and the answer. Nothing is said of other requests.
+/// Prints on standard error the outcome of a message, from its request and the end of its reply. The line has the
+/// sender and number, the sender's path, the proxy's user, and the answer. Other requests print nothing.
 pub fn note_mail(rt: &HostRuntime, level: Level, request: &[u8], reply: &[u8]) {
     let Some(behind) = request.strip_prefix(MAIL) else {
         return;
@@ -54,7 +54,7 @@ pub fn note_mail(rt: &HostRuntime, level: Level, request: &[u8], reply: &[u8]) {
     let _ = eprintln!(rt; ": {answer}");
 }
 
-/// The last line of a reply, if mail that is so answered is named.
+/// The last line of a reply, if mail with this answer is printed.
 fn answer_in(level: Level, reply: &[u8]) -> Option<&str> {
     let line = reply.rsplit(|byte| *byte == b'\n').nth(1)?;
     let text = str::from_utf8(line).ok()?;
@@ -78,7 +78,7 @@ fn user_in(request: &[u8]) -> Option<&str> {
     None
 }
 
-/// What stands behind the front of a path up to its end or its query, if it begins with a slash and is plain.
+/// What follows the beginning of a path, up to its end or its query, if it begins with a slash and is plain.
 fn sender_path(behind: &[u8]) -> Option<&str> {
     let end = behind.iter().position(|byte| matches!(*byte, b' ' | b'?'))?;
     let text = str::from_utf8(behind.get(..end)?).ok()?;
@@ -89,7 +89,7 @@ fn sender_path(behind: &[u8]) -> Option<&str> {
     }
 }
 
-/// What stands behind the first empty line.
+/// What follows the first empty line.
 fn body_of(request: &[u8]) -> &[u8] {
     let mut start = 0usize;
     for line in request.split(|byte| *byte == b'\n') {

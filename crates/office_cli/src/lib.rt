@@ -1,7 +1,7 @@
-//! What the office's program does with an office: it replays bags of mail from standard input, serves mail and reports
-//! over HTTP on loopback, tells earlier reports and what a run waits for, over a store in memory or in a file, answers
-//! questions about the runs and the mail of a store in a file, checks such a store, tells why sources stand where a run
-//! left them, tries hints and proposes some, and tells which messages of a bag are refused.
+//! What the office's program does with an office. It replays bags of mail from standard input, and serves mail and
+//! reports over HTTP on loopback. Over a store in memory or in a file it prints earlier reports and what a run waits
+//! for. Of a store in a file it answers questions about the runs and the mail, and checks it. It prints why sources are
+//! where a run left them, tries hints and proposes some, and prints which messages of a bag are refused.
 #![tactic(auto)]
 
 mod arrived;

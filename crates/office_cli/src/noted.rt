@@ -19,7 +19,7 @@ impl<R> FaultKeepingReader<R> {
         }
     }
 
-    /// Why the last read that failed did.
+    /// Why the last failed read failed.
     pub fn fault(&self) -> Option<io::Error> {
         self.fault
     }

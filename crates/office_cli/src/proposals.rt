@@ -1,4 +1,4 @@
-//! Hints that are proposed for the next run, and what is told beside them.
+//! Hints that are proposed for the next run, and notes on them.
 
 ghost use Rattle.std.specs.Prelude.{◌≡◌, length};
 ghost use Rattle.office_cli.specs.Told.{status_of_proposal};
@@ -13,7 +13,7 @@ use office_core_outcome::{
 use office_http::StoreFault;
 use office_mail::Setup;
 
-/// Prints the hints of a proposal, and gives the exit status. What the search says beside them is told on standard error.
+/// Prints the hints of a proposal, and returns the exit status. Prints the notes of the search on standard error.
 pub fn print_proposal(
     rt: &HostRuntime,
     setup: &Setup,
@@ -31,7 +31,7 @@ pub fn print_proposal(
     }
 }
 
-/// The exit status of a proposal: 0 where there is a hint, or where each source that was asked for moves.
+/// The exit status of a proposal: 0 if there is a hint, or if each source that was asked for moves.
 fn proposal_status(sources: &[Text], proposal: &Proposal) -> u8
     ensures { result ≡ status_of_proposal (length sources.now) proposal.now }
 {
@@ -47,7 +47,7 @@ fn proposal_status(sources: &[Text], proposal: &Proposal) -> u8
     }
 }
 
-/// Says on standard error how many hints are proposed, under which numbers, and how many sources move.
+/// Prints on standard error how many hints are proposed, under which numbers, and how many sources move.
 fn tell_count(rt: &HostRuntime, setup: &Setup, proposal: &Proposal) {
     let run = proposal.run;
     let (year, month, day) = (proposal.date.year, proposal.date.month, proposal.date.day);
@@ -66,8 +66,8 @@ fn tell_count(rt: &HostRuntime, setup: &Setup, proposal: &Proposal) {
     };
 }
 
-/// Says on standard error which groups are too long for a hint, how many the run refused, and how the search ended for
-/// the sources that were asked for.
+/// Prints on standard error which groups are too long for a hint, how many the run refused, and how the search ended
+/// for the sources that were asked for.
 fn tell_notes(rt: &HostRuntime, notes: &SearchNotes) {
     for group in &notes.long {
         tell_long(rt, group);
@@ -81,7 +81,7 @@ fn tell_notes(rt: &HostRuntime, notes: &SearchNotes) {
     }
 }
 
-/// Says on standard error that a group is too long for a hint.
+/// Prints on standard error that a group is too long for a hint.
 fn tell_long(rt: &HostRuntime, group: &LongGroup) {
     let (sources, first, bytes) = (group.sources, group.first.as_str(), group.bytes);
     let _ = eprintln!(rt;
@@ -89,7 +89,7 @@ fn tell_long(rt: &HostRuntime, group: &LongGroup) {
     );
 }
 
-/// Says on standard error how the search ended for a source, unless a hint moves it.
+/// Prints on standard error how the search ended for a source, unless a hint moves it.
 fn tell_end(rt: &HostRuntime, asked: &AskedSource) {
     let name = asked.name.as_str();
     let _ = match asked.end {

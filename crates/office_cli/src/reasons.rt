@@ -1,4 +1,4 @@
-//! Why sources stand where a run left them, and what a run made of hints.
+//! Why sources are where a run left them, and what a run made of hints.
 
 ghost use Rattle.std.specs.Prelude.{◌≡◌, if◌then◌else◌, IfOk};
 ghost use Rattle.office_cli.specs.Told.{IsAsked};
@@ -21,16 +21,16 @@ use std::io;
 /// What is asked of a run.
 #[derive(Clone, Copy)]
 enum Ask<'a> {
-    /// Why these sources stand where it left them.
+    /// Why these sources are where it left them.
     Sources(&'a [&'a str]),
-    /// What it made of the hints of these numbers.
+    /// What it made of the hints with these numbers.
     Hints(&'a [u32]),
 }
 
-/// The run that is asked about, beside the finished ones.
+/// The run that is asked about, by the finished ones.
 #[derive(Drop)]
 pub enum WhichRun {
-    /// The last finished one, which is asked about where none is named.
+    /// The last finished one, also if no run is named.
     Last { run: u32 },
     /// An earlier one.
     Earlier { run: u32 },
@@ -38,8 +38,8 @@ pub enum WhichRun {
     Unfinished,
 }
 
-/// Tells why sources stand where a run left them, for the setup in a file, over the store in another or over the bag on
-/// standard input, and gives the exit status. Without a run it is the last finished one.
+/// Prints why sources are where a run left them, for the setup in a file, over the store in another or over the bag on
+/// standard input, and returns the exit status. Without a run it is the last finished one.
 pub fn why_for(
     rt: &HostRuntime,
     conf: &str,
@@ -50,8 +50,8 @@ pub fn why_for(
     ask_for(rt, conf, db, run, Ask::Sources(sources))
 }
 
-/// Tells what a run made of the hints of these numbers, for the setup in a file, over the store in another or over the bag on
-/// standard input, and gives the exit status. Without a run it is the last finished one.
+/// Prints what a run made of the hints with these numbers, for the setup in a file, over the store in another or the
+/// bag on standard input, and returns the exit status. Without a run it is the last finished one.
 pub fn hints_for(
     rt: &HostRuntime,
     conf: &str,
@@ -81,7 +81,7 @@ fn number_of(word: &str) -> Option<u32> {
     }
 }
 
-/// Says on standard error that a word is no number of a hint, and gives the exit status.
+/// Prints on standard error that a word is no number of a hint, and returns the exit status.
 fn refuse_number(rt: &HostRuntime, word: &str) -> u8 {
     let _ = eprintln!(rt; "office: '{word}': no number of a hint");
     ExitStatus::Usage.code()
@@ -116,7 +116,7 @@ fn ask_stored(rt: &HostRuntime, path: &str, setup: Setup, run: Option<u32>, ask:
     }
 }
 
-/// Asks a run over the bag on standard input. Where the bag is refused or mail was lost, that alone is told.
+/// Asks a run over the bag on standard input. If the bag is refused or mail was lost, prints only that.
 fn ask_in_memory(rt: &HostRuntime, setup: Setup, run: Option<u32>, ask: Ask<'_>) -> u8 {
     let Ok(copy) = setup.copy(rt.alloc()) else {
         return out_of_memory(rt);
@@ -136,7 +136,7 @@ fn ask_in_memory(rt: &HostRuntime, setup: Setup, run: Option<u32>, ask: Ask<'_>)
     }
 }
 
-/// Prints what is asked of a run of an office, and gives the office's store with the exit status.
+/// Prints what is asked of a run of an office, and returns the office's store with the exit status.
 fn tell<K: Keeper>(
     rt: &HostRuntime,
     setup: &Setup,
@@ -150,7 +150,7 @@ fn tell<K: Keeper>(
     }
 }
 
-/// Prints why sources stand where a run of an office left them, and gives the office's store with the exit status.
+/// Prints why sources are where a run of an office left them, and returns the office's store with the exit status.
 fn tell_why<K: Keeper>(
     rt: &HostRuntime,
     setup: &Setup,
@@ -172,7 +172,7 @@ fn tell_why<K: Keeper>(
     }
 }
 
-/// Prints what a run of an office made of hints, and gives the office's store with the exit status.
+/// Prints what a run of an office made of hints, and returns the office's store with the exit status.
 fn tell_hints<K: Keeper>(
     rt: &HostRuntime,
     setup: &Setup,
@@ -193,7 +193,7 @@ fn tell_hints<K: Keeper>(
     (keeper, status)
 }
 
-/// Prints what a finished run of a store made of hints, over an office in memory that is as it was before the run, and gives
+/// Prints what a finished run of a store made of hints, over an office in memory as it was before the run, and returns
 /// the exit status.
 fn tell_hints_of<K: Keeper>(
     rt: &HostRuntime,
@@ -212,7 +212,7 @@ fn tell_hints_of<K: Keeper>(
     }
 }
 
-/// Prints what the next run of an office makes of each hint, and gives the exit status.
+/// Prints what the next run of an office makes of each hint, and returns the exit status.
 fn tell_each_hint<K: Keeper>(rt: &HostRuntime, office: &mut Office<K>, numbers: &[u32]) -> u8 {
     let mut status = 0;
     for number in numbers {
@@ -225,7 +225,7 @@ fn tell_each_hint<K: Keeper>(rt: &HostRuntime, office: &mut Office<K>, numbers: 
     status
 }
 
-/// Prints what the next run of an office makes of a hint, and gives the exit status.
+/// Prints what the next run of an office makes of a hint, and returns the exit status.
 fn tell_hint<K: Keeper>(rt: &HostRuntime, office: &mut Office<K>, number: u32) -> u8 {
     match office.hint_told(number) {
         Ok(Some(told)) => print_text(rt, &told.text, hint_status(&told)),
@@ -234,7 +234,7 @@ fn tell_hint<K: Keeper>(rt: &HostRuntime, office: &mut Office<K>, number: u32) -
     }
 }
 
-/// The exit status for what is told of a hint: 1 where the run doesn't cover it.
+/// The exit status for the text on a hint: 1 if the run doesn't cover it.
 fn hint_status(told: &HintText) -> u8
     ensures { result ≡ (if told.now.is_known then 0 else 1) }
 {
@@ -245,7 +245,7 @@ fn hint_status(told: &HintText) -> u8
     }
 }
 
-/// Says on standard error that the store isn't what its mail gives, and gives the exit status.
+/// Prints on standard error that the store isn't what its mail gives, and returns the exit status.
 fn tell_other_mail(rt: &HostRuntime) -> u8 {
     let _ = eprintln!(rt; "office: the store isn't what its mail gives: office check tells where");
     ExitStatus::Negative.code()
@@ -261,7 +261,7 @@ fn asked_run<K: Keeper>(office: &mut Office<K>, run: Option<u32>) -> Result<Whic
     Ok(asked_of(finished, run))
 }
 
-/// The run that is asked about, where so many are finished.
+/// The run that is asked about, given the number of finished runs.
 fn asked_of(finished: u32, run: Option<u32>) -> WhichRun
     ensures { IsAsked finished run result }
 {
@@ -272,7 +272,7 @@ fn asked_of(finished: u32, run: Option<u32>) -> WhichRun
     }
 }
 
-/// Prints what is told of sources for the last finished run, and gives the exit status. Nothing is printed for a run that
+/// Prints the texts on sources for the last finished run, and returns the exit status. Prints nothing for a run that
 /// isn't finished.
 fn tell_last<K: Keeper>(
     rt: &HostRuntime,
@@ -287,8 +287,8 @@ fn tell_last<K: Keeper>(
     }
 }
 
-/// Prints what is told of sources for an earlier run of a store, over an office in memory that is as that run left it, and
-/// gives the exit status.
+/// Prints the texts on sources for an earlier run of a store, over an office in memory as that run left it, and returns
+/// the exit status.
 fn tell_earlier<K: Keeper>(
     rt: &HostRuntime,
     setup: &Setup,
@@ -306,8 +306,8 @@ fn tell_earlier<K: Keeper>(
     }
 }
 
-/// Prints why each source stands where a run left it, by an office of which that is the last finished run, and gives
-/// the exit status.
+/// Prints why each source is where a run left it, from an office with that as its last finished run, and returns the
+/// exit status.
 fn tell_sources<K: Keeper>(
     rt: &HostRuntime,
     office: &mut Office<K>,
@@ -325,8 +325,8 @@ fn tell_sources<K: Keeper>(
     status
 }
 
-/// Prints why a source stands where a run left it, by an office of which that is the last finished run, and gives the
-/// exit status. Nothing is printed where no run is finished.
+/// Prints why a source is where a run left it, from an office with that as its last finished run, and returns the exit
+/// status. Prints nothing if no run is finished.
 fn tell_source<K: Keeper>(rt: &HostRuntime, office: &mut Office<K>, run: u32, source: &str) -> u8 {
     match why_of_run(office, run, source) {
         Ok(Some(why)) => print_text(rt, &why.text, status_of(&why)),
@@ -335,7 +335,7 @@ fn tell_source<K: Keeper>(rt: &HostRuntime, office: &mut Office<K>, run: u32, so
     }
 }
 
-/// The exit status for what is told of a source: 1 where unstable hasn't it.
+/// The exit status for the text on a source: 1 if unstable doesn't have it.
 fn status_of(why: &WhyText) -> u8
     ensures { result ≡ (if why.now.is_known then 0 else 1) }
 {

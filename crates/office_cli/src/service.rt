@@ -33,7 +33,7 @@ pub enum ServiceFault {
     NotTaken,
 }
 
-/// The exit status of a service: 0 where it came to its end, else 4.
+/// The exit status of a service: 0 if it came to its end, else 4.
 pub fn service_status(served: &Result<(), ServiceFault>) -> u8
     ensures { result ≡ status_of_service served.now }
 {
@@ -43,7 +43,7 @@ pub fn service_status(served: &Result<(), ServiceFault>) -> u8
     }
 }
 
-/// Serves so many connections on a port of 127.0.0.1. A connection that fails counts.
+/// Serves that many connections on a port of 127.0.0.1. A connection that fails counts.
 pub fn serve<K: Keeper>(
     rt: &HostRuntime,
     office: &mut Office<K>,
@@ -66,7 +66,7 @@ pub fn listen(rt: &HostRuntime, port: u32) -> Result<TcpListener, ServiceFault> 
     TcpListener::bind(rt, SocketAddr::from((Ipv4Addr::LOCALHOST, port))).map_err(socket_fault)
 }
 
-/// What the system's refusal of a port is told as.
+/// The fault for the system's refusal of a port.
 fn socket_fault(fault: io::Error) -> ServiceFault
     ensures { result ≡ fault_by (error_kind fault) fault }
 {
@@ -77,7 +77,7 @@ fn socket_fault(fault: io::Error) -> ServiceFault
     }
 }
 
-/// Serves the next connection of a listener. One that fails is told on standard error.
+/// Serves the next connection of a listener. If it fails, prints that on standard error.
 pub fn serve_next<K: Keeper>(
     rt: &HostRuntime,
     listener: &mut TcpListener,

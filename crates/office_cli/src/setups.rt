@@ -1,4 +1,4 @@
-//! Where in its file the fault of a setup is.
+//! The place of a setup's fault in its file.
 
 use office_mail::{Setup, SetupFault};
 use std::alloc::Global;
@@ -6,13 +6,13 @@ use std::cmp::min;
 use std::fs;
 use std::io::Read;
 
-/// The most bytes of a setup that are looked at.
+/// The most bytes of a setup that are read.
 const ENOUGH: u64 = 65_537;
 
-/// How many paragraphs are looked at. A setup has 17 at most.
+/// How many paragraphs are read. A setup has 17 at most.
 const PARAGRAPHS: u32 = 32;
 
-/// The line of a file at which the paragraph begins that a setup is refused for, if the fault is of one paragraph.
+/// The line of a file at which the refused paragraph of a setup begins, if the fault is of one paragraph.
 pub fn line_of_fault(rt: &HostRuntime, path: &str, fault: SetupFault) -> Option<usize> {
     match fault {
         SetupFault::BadRoles | SetupFault::TooMany | SetupFault::NoMemory => return None,
@@ -24,8 +24,8 @@ pub fn line_of_fault(rt: &HostRuntime, path: &str, fault: SetupFault) -> Option<
     line_in(rt.alloc(), text.as_slice(), fault)
 }
 
-/// The line at which the first paragraph begins up to whose end a text is refused so. The fault is in the last one if that is
-/// so of no paragraph before.
+/// The first line of the first paragraph for which the text up to its end is refused with this fault. If there is no
+/// such paragraph before, it is the last one.
 fn line_in(alloc: Global, text: &[u8], fault: SetupFault) -> Option<usize> {
     let mut line = 0usize;
     let mut end = 0usize;

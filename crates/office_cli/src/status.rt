@@ -8,7 +8,7 @@ ghost use Rattle.office_cli.specs.Status.{code_of};
 pub enum ExitStatus {
     /// A question has no answer, or an answer says no: nothing changes, something waits, a message is refused.
     Negative,
-    /// The words aren't as they have to be.
+    /// The words aren't as required.
     Usage,
     /// A setup, a bag, a hint or a store is refused.
     Refused,
@@ -17,7 +17,7 @@ pub enum ExitStatus {
 }
 
 impl ExitStatus {
-    /// The number that the process ends with. All is well at 0, which no value here stands for.
+    /// The number that the process ends with. Success is 0, for which there is no value here.
     pub fn code(self) -> u8
         ensures { result ≡ code_of self }
     {

@@ -1,4 +1,4 @@
-//! What the program's words ask for: a comparison, the version, why sources stand where a run left them, a trial of
+//! What the program's words ask for: a comparison, the version, why sources are where a run left them, a trial of
 //! hints, a proposal of some, or a task over a store.
 
 use crate::asking::{Question, tell_answer};
@@ -23,26 +23,26 @@ use sqlite::{File, FileStore, Unknown};
 use std::io::{BufWriter, Write};
 use std::{fs, io, mem};
 
-/// What is done in an office, once its store is there.
+/// What is done in an office, once its store is open.
 #[derive(Clone, Copy)]
 enum Task {
-    /// The bag on standard input is replayed.
+    /// Replays the bag on standard input.
     Replay,
-    /// So many connections are served on a port.
+    /// Serves that many connections on a port.
     Serve { port: u32, connections: u32 },
-    /// What the first run that isn't ready waits for is told.
+    /// Prints what the first run that isn't ready waits for.
     Waiting,
-    /// What the first run that isn't ready waits for is told, once the bag on standard input is delivered.
+    /// Delivers the bag on standard input, and then prints what the first run that isn't ready waits for.
     BagWaiting,
-    /// A report is told.
+    /// Prints a report.
     Report(Report),
-    /// A question is answered.
+    /// Answers a question.
     Answer(Question),
-    /// The refused messages of the bag on standard input are told.
+    /// Prints the refused messages of the bag on standard input.
     Lint,
 }
 
-/// Does what words ask for, and gives the exit status.
+/// Does what words ask for, and returns the exit status.
 pub fn run_command(rt: &HostRuntime, words: Words) -> u8 {
     match words {
         Words::Compare { v1, op, v2 } => compare(rt, v1, op, v2),
@@ -106,7 +106,7 @@ fn answer_for(rt: &HostRuntime, conf: &str, db: &str, question: Question) -> u8 
     run_for(rt, conf, Some(db), Task::Answer(question))
 }
 
-/// Tells the next order on a day for the setup in a file, from the store in another.
+/// Prints the next order on a day for the setup in a file, from the store in another.
 fn order_for(rt: &HostRuntime, day: &str, conf: &str, db: &str) -> u8 {
     match day_in(day) {
         Some(date) => answer_for(rt, conf, db, Question::Order(date)),
@@ -138,7 +138,7 @@ fn check_for(rt: &HostRuntime, conf: &str, db: &str) -> u8 {
     }
 }
 
-/// Says on standard error why the setup in a file is refused, and gives the exit status.
+/// Prints on standard error why the setup in a file is refused, and returns the exit status.
 pub(crate) fn tell_setup(rt: &HostRuntime, conf: &str, fault: &ConfFault) -> u8 {
     let line = match fault {
         ConfFault::Refused(fault) => line_of_fault(rt, conf, *fault),
@@ -151,12 +151,12 @@ pub(crate) fn tell_setup(rt: &HostRuntime, conf: &str, fault: &ConfFault) -> u8 
     conf_status(fault)
 }
 
-/// Looks whether a file is there.
+/// Checks that a file exists.
 pub(crate) fn find_file(rt: &HostRuntime, path: &str) -> io::Result<()> {
     fs::open(rt, path).map(drop)
 }
 
-/// Looks whether the file is there that a task tells of. Only a replay and a service make one.
+/// Checks that the file for a task exists. Only a replay and a service create it.
 fn find_store_file(rt: &HostRuntime, path: &str, task: Task) -> io::Result<()> {
     match task {
         Task::Waiting | Task::Report(_) | Task::Answer(_) => find_file(rt, path),
@@ -164,7 +164,7 @@ fn find_store_file(rt: &HostRuntime, path: &str, task: Task) -> io::Result<()> {
     }
 }
 
-/// Says on standard error why a store's file can't be read, and gives the exit status.
+/// Prints on standard error why a store's file can't be read, and returns the exit status.
 pub(crate) fn tell_unfound(rt: &HostRuntime, path: &str, fault: io::Error) -> u8 {
     let _ = eprintln!(rt; "office: {path}: the file can't be read: {fault}");
     ExitStatus::Failed.code()
@@ -200,7 +200,7 @@ fn check_stored(rt: &HostRuntime, path: &str, setup: &Setup) -> u8 {
     }
 }
 
-/// Closes the store of a task that ended with a status, and gives the exit status.
+/// Closes the store of a task that ended with a status, and returns the exit status.
 pub(crate) fn end_store(
     rt: &HostRuntime,
     path: &str,
@@ -213,14 +213,14 @@ pub(crate) fn end_store(
     }
 }
 
-/// Says on standard error what a store in a file was refused for, and gives the exit status.
+/// Prints on standard error why a store in a file was refused, and returns the exit status.
 pub(crate) fn tell_store(rt: &HostRuntime, path: &str, fault: &FileFault) -> u8 {
     let _ = eprintln!(rt; "office: {path}: {fault}");
     store_status(fault)
 }
 
-/// Does a task in an office whose store is in memory. The process ends behind it, which gives back all memory at once, so
-/// the office's values aren't let go one by one.
+/// Does a task in an office whose store is in memory. The process then ends and so frees all memory at once, so the
+/// office's values aren't dropped one by one.
 fn run_in_memory(rt: &HostRuntime, setup: Setup, task: Task) -> u8 {
     match Plain::new(rt.alloc(), &setup) {
         Ok(plain) => {
@@ -246,7 +246,7 @@ fn run_over<K: Keeper>(rt: &HostRuntime, office: &mut Office<K>, task: Task) -> 
     }
 }
 
-/// Replays the bag on standard input in an office, and prints what came of it.
+/// Replays the bag on standard input in an office, and prints the results.
 fn replay_over<K: Keeper>(rt: &HostRuntime, office: &mut Office<K>) -> u8 {
     let Ok(mut output) = BufWriter::new(rt.alloc(), rt.stdout()) else {
         return out_of_memory(rt);
@@ -254,7 +254,7 @@ fn replay_over<K: Keeper>(rt: &HostRuntime, office: &mut Office<K>) -> u8 {
     replay_to(rt, office, &mut output)
 }
 
-/// Delivers the bag on standard input, of which only the refused messages are told.
+/// Delivers the bag on standard input, and prints only its refused messages.
 fn lint_over<K: Keeper>(rt: &HostRuntime, office: &mut Office<K>) -> u8 {
     let mut teller = Teller::new(rt);
     match replay_told(rt, office, &mut io::sink(), &mut teller) {
@@ -263,8 +263,8 @@ fn lint_over<K: Keeper>(rt: &HostRuntime, office: &mut Office<K>) -> u8 {
     }
 }
 
-/// Delivers the bag on standard input, and tells what the first run that isn't ready waits for. Where the bag is refused
-/// or mail was lost, that alone is told.
+/// Delivers the bag on standard input, and prints what the first run that isn't ready waits for. If the bag is refused
+/// or mail was lost, prints only that.
 fn deliver_and_tell<K: Keeper>(rt: &HostRuntime, office: &mut Office<K>) -> u8 {
     match replay_to(rt, office, &mut io::sink()) {
         0 => tell_waiting(rt, office),
@@ -272,7 +272,7 @@ fn deliver_and_tell<K: Keeper>(rt: &HostRuntime, office: &mut Office<K>) -> u8 {
     }
 }
 
-/// Replays the bag on standard input in an office, and gives the exit status.
+/// Replays the bag on standard input in an office, and returns the exit status.
 pub(crate) fn replay_to<K: Keeper, W: Write>(
     rt: &HostRuntime,
     office: &mut Office<K>,
@@ -281,7 +281,7 @@ pub(crate) fn replay_to<K: Keeper, W: Write>(
     replay_told(rt, office, output, &mut Teller::new(rt))
 }
 
-/// Replays the bag on standard input in an office, of which a teller tells, and gives the exit status.
+/// Replays the bag on standard input in an office, with reports by a teller, and returns the exit status.
 fn replay_told<K: Keeper, W: Write>(
     rt: &HostRuntime,
     office: &mut Office<K>,
@@ -300,7 +300,7 @@ fn replay_told<K: Keeper, W: Write>(
     replay_status(&replayed)
 }
 
-/// Serves so many connections on a port, over an office.
+/// Serves that many connections on a port, over an office.
 fn serve_over<K: Keeper>(
     rt: &HostRuntime,
     office: &mut Office<K>,
@@ -314,7 +314,7 @@ fn serve_over<K: Keeper>(
     service_status(&served)
 }
 
-/// Says on standard error what was refused, where something was.
+/// Prints on standard error what was refused, if something was.
 fn tell_replay(
     rt: &HostRuntime,
     replayed: &Result<Replayed, WriteFault>,
@@ -337,7 +337,7 @@ fn tell_replay(
     };
 }
 
-/// Says on standard error why a bag was refused, and why a read failed, where one did.
+/// Prints on standard error why a bag was refused, and why a read failed, if one did.
 fn tell_bag(rt: &HostRuntime, fault: BagFault, unread: Option<io::Error>) {
     let _ = match (fault, unread) {
         (BagFault::ReadFault, Some(unread)) => {

@@ -1,4 +1,4 @@
-//! Tells on standard error which messages of a bag were refused, and how far a replay is.
+//! Prints on standard error which messages of a bag were refused, and how far a replay is.
 
 use deb_control::{Paragraph, Paragraphs};
 use office_core_orders::fault_words;
@@ -7,14 +7,14 @@ use office_mail::MailFault;
 use std::io::IsTerminal;
 use std::time::{Duration, Instant};
 
-/// After how many milliseconds a terminal is told again how far a replay is.
+/// After how many milliseconds a terminal shows again how far a replay is.
 const PACE: u64 = 1_000;
 
-/// How many bytes of a field's value are told at most.
+/// How many bytes of a field's value are printed at most.
 const ROOM: usize = 64;
 
-/// Tells on standard error which message of a bag was refused, and why; and where standard error is a terminal, about
-/// once a second, how many messages were answered and how many runs are finished.
+/// Prints on standard error which message of a bag was refused, and why. If standard error is a terminal, also prints
+/// about once a second how many messages were answered and how many runs are finished.
 #[derive(Drop)]
 pub struct Teller<'a> {
     rt: &'a HostRuntime,
@@ -22,7 +22,7 @@ pub struct Teller<'a> {
     finished: u32,
     /// Whether a message was refused.
     refused: bool,
-    /// When the pace was told, where standard error is a terminal.
+    /// When the pace was printed, if standard error is a terminal.
     told: Option<Instant>,
 }
 
@@ -48,7 +48,7 @@ impl<'a> Teller<'a> {
         self.refused
     }
 
-    /// Tells which message was refused, and the reply.
+    /// Prints which message was refused, and the reply.
     fn tell_refusal(&self, text: &[u8], fault: DeliverFault) {
         let (rt, place) = (self.rt, self.messages);
         let (word, field) = fault_words(fault);
@@ -62,7 +62,7 @@ impl<'a> Teller<'a> {
         };
     }
 
-    /// Tells how far the replay is, if that was told long enough ago.
+    /// Prints how far the replay is, if it last did so long enough ago.
     fn tell_pace(&mut self) {
         let Some(told) = self.told else {
             return;
@@ -99,7 +99,7 @@ impl Watcher for Teller<'_> {
     }
 }
 
-/// Whether a message was lost, of which the end of the replay tells.
+/// Whether a message was lost, which the end of the replay reports.
 fn is_loss(fault: DeliverFault) -> bool {
     matches!(
         fault,
@@ -107,7 +107,7 @@ fn is_loss(fault: DeliverFault) -> bool {
     )
 }
 
-/// The sender and the number of a message, where its first paragraph has both in plain letters.
+/// The sender and the number of a message, if its first paragraph has both in plain letters.
 pub(crate) fn sender_and_number<'a>(first: &Paragraph<'a>) -> Option<(&'a str, &'a str)> {
     let sender = plain_field(first, "From")?;
     let number = plain_field(first, "Number")?;

@@ -1,5 +1,5 @@
-//! What is told without a run: a report of an earlier run, testing, unstable, what the first run that isn't ready waits for,
-//! the version.
+//! What is printed without a run: a report of an earlier run, testing, unstable, what the first run that isn't ready
+//! waits for, the version.
 
 ghost use Rattle.std.specs.Prelude.{◌≡◌, IfOk};
 ghost use Rattle.office_cli.specs.Told.{IsReportText, status_of_awaited};
@@ -15,10 +15,10 @@ use office_store::Keeper;
 /// The program's version.
 const VERSION: &str = "0.10.0";
 
-/// The kit that the program is for. Whether it was proved by it, the log of the gate says.
+/// The kit that the program is for. The log of the gate says whether it was proved by it.
 const KIT: &str = "rattle-kit-13f";
 
-/// Prints the program's version and its kit, and gives the exit status.
+/// Prints the program's version and its kit, and returns the exit status.
 pub fn tell_version(rt: &HostRuntime) -> u8 {
     match println!(rt; "office {VERSION}\nfor {KIT}") {
         Ok(()) => 0,
@@ -26,8 +26,8 @@ pub fn tell_version(rt: &HostRuntime) -> u8 {
     }
 }
 
-/// Prints a report of an earlier run, testing or unstable, and gives the exit status. For a run that isn't finished it
-/// says so on standard error.
+/// Prints a report of an earlier run, testing or unstable, and returns the exit status. If the run isn't finished,
+/// prints that on standard error.
 pub fn tell_report<K: Keeper>(rt: &HostRuntime, office: &mut Office<K>, report: Report) -> u8 {
     match report_text(office, report) {
         Ok(Some(text)) => print_text(rt, &text, 0),
@@ -36,7 +36,7 @@ pub fn tell_report<K: Keeper>(rt: &HostRuntime, office: &mut Office<K>, report: 
     }
 }
 
-/// The text of a report, none where its run isn't finished.
+/// The text of a report, none if its run isn't finished.
 fn report_text<K: Keeper>(
     office: &mut Office<K>,
     report: Report,
@@ -53,7 +53,7 @@ fn report_text<K: Keeper>(
     }
 }
 
-/// Prints what the first run that isn't ready waits for, and gives the exit status.
+/// Prints what the first run that isn't ready waits for, and returns the exit status.
 pub fn tell_waiting<K: Keeper>(rt: &HostRuntime, office: &mut Office<K>) -> u8 {
     match office.waiting() {
         Ok(waiting) => print_waiting(rt, office, &waiting),
@@ -61,7 +61,7 @@ pub fn tell_waiting<K: Keeper>(rt: &HostRuntime, office: &mut Office<K>) -> u8 {
     }
 }
 
-/// Prints what a run waits for, and gives the exit status.
+/// Prints what a run waits for, and returns the exit status.
 fn print_waiting<K: Keeper>(rt: &HostRuntime, office: &Office<K>, waiting: &Waiting) -> u8 {
     match waiting_text(rt.alloc(), office.setup(), waiting) {
         Ok(text) => print_text(rt, &text, waiting_status(&waiting.awaited)),
@@ -69,7 +69,7 @@ fn print_waiting<K: Keeper>(rt: &HostRuntime, office: &Office<K>, waiting: &Wait
     }
 }
 
-/// The exit status of what a run waits for: 0 where that is its order, 1 where it is mail.
+/// The exit status of what a run waits for: 0 if that is its order, 1 if it is mail.
 fn waiting_status(awaited: &Awaited) -> u8
     ensures { result ≡ status_of_awaited awaited.now }
 {
@@ -79,7 +79,7 @@ fn waiting_status(awaited: &Awaited) -> u8
     }
 }
 
-/// Prints a text, and gives the exit status: the one that is handed over, unless standard output failed.
+/// Prints a text, and returns the exit status: the given one, unless standard output failed.
 pub(crate) fn print_text(rt: &HostRuntime, text: &Text, status: u8) -> u8 {
     match print!(rt; "{}", text.as_str()) {
         Ok(()) => status,
@@ -87,7 +87,7 @@ pub(crate) fn print_text(rt: &HostRuntime, text: &Text, status: u8) -> u8 {
     }
 }
 
-/// Says on standard error that memory ran out or the store failed, and gives the exit status.
+/// Prints on standard error that memory ran out or the store failed, and returns the exit status.
 pub(crate) fn refuse(rt: &HostRuntime, fault: StoreFault) -> u8 {
     let _ = match fault {
         StoreFault::NoMemory => eprintln!(rt; "office: out of memory"),
@@ -98,13 +98,13 @@ pub(crate) fn refuse(rt: &HostRuntime, fault: StoreFault) -> u8 {
     ExitStatus::Failed.code()
 }
 
-/// Says on standard error that the run asked about isn't finished, and gives the exit status.
+/// Prints on standard error that the run asked about isn't finished, and returns the exit status.
 pub(crate) fn refuse_unfinished(rt: &HostRuntime) -> u8 {
     let _ = eprintln!(rt; "office: that run isn't finished: office runs prints those that are");
     ExitStatus::Negative.code()
 }
 
-/// Says on standard error that standard output failed, and gives the exit status.
+/// Prints on standard error that standard output failed, and returns the exit status.
 pub(crate) fn refuse_output(rt: &HostRuntime) -> u8 {
     let _ = eprintln!(rt; "office: standard output: a write failed");
     ExitStatus::Failed.code()

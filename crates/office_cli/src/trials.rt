@@ -24,12 +24,12 @@ use std::io;
 enum Ask<'a> {
     /// What these hints would change in it.
     Try(&'a [Text]),
-    /// Hints that free these sources in it, or that move groups where none is named.
+    /// Hints that free these sources in it, or that move groups if no source is named.
     Propose(&'a [Text]),
 }
 
-/// Tries hints for the setup in a file, over the store in another or over the bag on standard input, and gives the exit
-/// status.
+/// Tries hints for the setup in a file, over the store in another or over the bag on standard input, and returns the
+/// exit status.
 pub fn try_for(
     rt: &HostRuntime,
     conf: &str,
@@ -47,7 +47,7 @@ pub fn try_for(
     ask_for(rt, conf, db, Ask::Try(&hints), terms)
 }
 
-/// Proposes hints for the setup in a file, over the store in another or over the bag on standard input, and gives the exit
+/// Proposes hints for the setup in a file, over the store in another or the bag on standard input, and returns the exit
 /// status.
 pub fn propose_for(
     rt: &HostRuntime,
@@ -71,7 +71,7 @@ pub fn propose_for(
     ask_for(rt, conf, db, Ask::Propose(&sources), terms)
 }
 
-/// What a trial takes beside the hints, none where a text is no day.
+/// The terms of a trial, none if a text is no day.
 fn terms_of(day: Option<&str>, all: bool) -> Option<TrialOptions> {
     match day {
         Some(text) => Some(TrialOptions {
@@ -121,7 +121,7 @@ fn ask_stored(rt: &HostRuntime, path: &str, setup: Setup, ask: Ask<'_>, terms: T
     }
 }
 
-/// Asks about the next run over the bag on standard input. Where the bag is refused or mail was lost, that alone is told.
+/// Asks about the next run over the bag on standard input. If the bag is refused or mail was lost, prints only that.
 fn ask_in_memory(rt: &HostRuntime, setup: Setup, ask: Ask<'_>, terms: TrialOptions) -> u8 {
     match Plain::new(rt.alloc(), &setup) {
         Ok(plain) => {
@@ -135,7 +135,7 @@ fn ask_in_memory(rt: &HostRuntime, setup: Setup, ask: Ask<'_>, terms: TrialOptio
     }
 }
 
-/// Prints what is asked about the next run of an office, and gives the exit status.
+/// Prints what is asked about the next run of an office, and returns the exit status.
 fn tell_next<K: Keeper>(
     rt: &HostRuntime,
     office: &mut Office<K>,
@@ -148,7 +148,7 @@ fn tell_next<K: Keeper>(
     }
 }
 
-/// Prints what hints would change in the next run of an office, and gives the exit status.
+/// Prints what hints would change in the next run of an office, and returns the exit status.
 fn tell_trial<K: Keeper>(
     rt: &HostRuntime,
     office: &mut Office<K>,
@@ -165,7 +165,7 @@ fn tell_trial<K: Keeper>(
     }
 }
 
-/// Prints what a trial was told, and gives the exit status.
+/// Prints the result of a trial, and returns the exit status.
 fn print_tried(
     rt: &HostRuntime,
     setup: &Setup,
@@ -184,7 +184,7 @@ fn print_tried(
     }
 }
 
-/// Says on standard error why a hint is refused, and gives the exit status.
+/// Prints on standard error why a hint is refused, and returns the exit status.
 fn refuse_hint(rt: &HostRuntime, hints: &[Text], refused: RefusedHint) -> u8 {
     let (cause, field) = fault_words(DeliverFault::Mail(refused.fault));
     let hint = hints.get(refused.place).map_or("", |hint| hint.as_str());
@@ -192,7 +192,7 @@ fn refuse_hint(rt: &HostRuntime, hints: &[Text], refused: RefusedHint) -> u8 {
     ExitStatus::Refused.code()
 }
 
-/// Prints the hints that are proposed for the next run of an office, and gives the exit status.
+/// Prints the hints that are proposed for the next run of an office, and returns the exit status.
 fn tell_proposal<K: Keeper>(
     rt: &HostRuntime,
     office: &mut Office<K>,
@@ -206,19 +206,19 @@ fn tell_proposal<K: Keeper>(
     }
 }
 
-/// Says on standard error that a text is no name of a source, and gives the exit status.
+/// Prints on standard error that a text is no name of a source, and returns the exit status.
 fn refuse_name(rt: &HostRuntime, name: &str) -> u8 {
     let _ = eprintln!(rt; "office: '{name}': no name of a source");
     ExitStatus::Usage.code()
 }
 
-/// Says on standard error that the run has no day, and gives the exit status.
+/// Prints on standard error that the run has no day, and returns the exit status.
 fn refuse_dateless(rt: &HostRuntime) -> u8 {
     let _ = eprintln!(rt; "office: no run is finished: name the day of the next one by --day");
     ExitStatus::Refused.code()
 }
 
-/// Says on standard error that a text is no day, and gives the exit status.
+/// Prints on standard error that a text is no day, and returns the exit status.
 pub(crate) fn refuse_day(rt: &HostRuntime, day: &str) -> u8 {
     let _ = eprintln!(rt; "office: '{day}': no day: write it as 2025-03-20");
     ExitStatus::Usage.code()

@@ -15,12 +15,12 @@ use Rattle.office_cli_words.specs.declared.Words.TheVariants.{Compare, Replay, S
 use Rattle.office_cli_words.specs.declared.reports.Report.{Report as ReportName}
 use Rattle.office_cli_words.specs.declared.reports.Report.TheVariants.{Testing, Unstable, Excuses, Update}
 
--- what is asked: to compare two versions by an operator; to replay a bag for the setup in a file, over a store in a file or in memory;
--- to serve so many connections for it on a port; to tell what a run waits for; to tell a report, or one that isn't known; to tell the
--- finished runs; to tell the kept mail, by counts or message by message; to export it; to check the store; to tell what a run said of
--- sources, or of hints by their numbers; to try hints on a day, over the covered mail or over all; to tell which messages of a bag
--- are refused; to tell the next order on a day, or the hints in force; to tell hints that move groups, or free sources, on the same
--- terms as a trial; or the version
+-- what is asked: to compare two versions by an operator; to replay a bag for the setup in a file, over a store in a
+-- file or in memory; to serve that many connections for it on a port; to print what a run waits for, a report, or one
+-- that isn't known, the finished runs, or the kept mail, by counts or message by message; to export it; to check the
+-- store; to print what a run said of sources, or of hints by their numbers; to try hints on a day, over the covered
+-- mail or over all; to print which messages of a bag are refused, the next order on a day, the hints in force, or hints
+-- that move groups or free sources, on the same terms as a trial; or the version
 pub data Asked : Type 0 where
   ToCompare : Text → Text → Text → Asked
   ToReplay : Text → Option Text → Asked
@@ -40,7 +40,7 @@ pub data Asked : Type 0 where
   ToPropose : Bool → Text → Option Text → Option Text → List Text → Asked
   ToTellVersion : Asked
 
--- what the words of a command ask for that came behind the first three
+-- what the words of a command added to the first three ask for
 abbrev pub added_asked : Words → Asked
 added_asked (Waiting conf db) = ToTellWaiting conf.now (option_map (λ text. text.now) db)
 added_asked (Report conf db report) = ToReport conf.now db.now report
@@ -67,7 +67,7 @@ asked added = added_asked added
 abbrev pub is_number : Text → Bool
 is_number digits = nat_lt 0 (length digits) && list_all (λ d. nat_lt (digit_value d) 10) digits && nat_lt (digits_value 10 digits) (2 ^ 32)
 
--- the number of a text of them, which a `+` may stand before
+-- the number in such a text, perhaps after a `+`
 abbrev pub number_in : Text → Option ℕ
 number_in text = if is_number (without_leading_plus text) then Some (digits_value 10 (without_leading_plus text)) else None
 
@@ -190,7 +190,7 @@ command_in name rows =
 abbrev pub asked_by : Option (Text × List Row) → Option Asked
 asked_by entered = option_and_then (λ found. command_in found.0 found.1) entered
 
--- what clap makes of words counts where it finds no fault in them
+-- what clap makes of words counts if it finds no fault in them
 abbrev pub if_faultless : Kinds → Option Asked → Option Asked
 if_faultless [] found = found
 if_faultless (kind ∷ more) found = None
@@ -199,7 +199,7 @@ if_faultless (kind ∷ more) found = None
 unfoldable pub command_words_in : List Text → Option Asked
 command_words_in words = if_faultless (fault_of office words) (asked_by (subcommand_of office words))
 
--- the one word `--version`, behind the program's name
+-- the one word `--version`, after the program's name
 abbrev pub asks_version : List Text → Bool
 asks_version (program ∷ word ∷ []) = bytes_eq word (codes "--version")
 asks_version _ = false
@@ -208,7 +208,7 @@ asks_version _ = false
 unfoldable pub words_in : List Text → Option Asked
 words_in words = if asks_version words then Some ToTellVersion else command_words_in words
 
--- what is told of the words: what they ask for, or that they ask for nothing. Want of memory may come at any place
+-- the result for the words: what they ask for, or that they ask for nothing. Memory may run out at any place
 abbrev pub Gives : Result Words WordsFault → Option Asked → Type 0
 Gives (Ok words) said = said ≡ Some (asked words)
 Gives (Err (Usage error)) said = said ≡ None

@@ -28,12 +28,12 @@ holds_at Same order = is_eq order
 holds_at AtLeast order = is_ge order
 holds_at Above order = is_gt order
 
--- whether a comparison holds of two texts that were compared, or which of them is no version
+-- whether a comparison holds for two compared texts, or which of them is no version
 abbrev pub judged : Comparison → Result Ordering CompareFault → Result Bool Refusal
 judged comparison (Ok order) = Ok (holds_at comparison order)
 judged comparison (Err fault) = Err (Version fault)
 
--- of a comparison that is known
+-- for a known comparison
 abbrev pub known : Option Comparison → Result Ordering CompareFault → Result Bool Refusal
 known None compared = Err UnknownComparison
 known (Some comparison) compared = judged comparison compared

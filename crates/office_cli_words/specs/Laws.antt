@@ -1,4 +1,4 @@
--- What the words of the first three commands ask for, and that it stays.
+-- What the words of the first three commands ask for, which stays.
 use Rattle.std.specs.Prelude.{◌≡◌, codes, List, Option, Some, None, if◌then◌else◌, option_and_then}
 use Rattle.std.specs.Str.{bytes_eq}
 use Rattle.clap.specs.Words.{Row, Text, fault_of, subcommand_of}
@@ -17,6 +17,6 @@ one_of_three name rows =
 abbrev pub old_words_in : List Text → Option Asked
 old_words_in words = if_faultless (fault_of of_three words) (option_and_then (λ found. one_of_three found.0 found.1) (subcommand_of of_three words))
 
--- words that the command of the three takes ask for the same
+-- words that the command of the three accepts ask for the same
 abbrev pub OldWordsStay : Type 0
 OldWordsStay = (words : List Text) (ask : Asked) → old_words_in words ≡ Some ask → words_in words ≡ Some ask

@@ -4,11 +4,11 @@ use Rattle.clap.specs.Words.{App, Rule, Text, new_app, new_rule, with_rule, with
 use Rattle.clap.specs.declared.builder.action.ArgAction.TheVariants.{Append, SetTrue}
 use Rattle.clap.specs.declared.builder.value_parser.ValueParser.TheVariants.{Unsigned}
 
--- a value that has to be given, by its place
+-- a required value, by its place
 abbrev pub place : Text → Rule
 place id = record (new_rule id) { required = true }
 
--- the same, of which more may stand behind it
+-- the same, and more may follow it
 abbrev pub places : Text → Rule
 places id = record (place id) { action = Some Append }
 
@@ -16,7 +16,7 @@ places id = record (place id) { action = Some Append }
 abbrev pub option : Text → Rule
 option id = record (new_rule id) { long = Some id; value_names = 1 }
 
--- the same, which has to be given
+-- the same, but required
 abbrev pub needed : Text → Rule
 needed id = record (option id) { required = true }
 
@@ -31,7 +31,7 @@ db = option (codes "db")
 abbrev pub port : Rule
 port = record (needed (codes "port")) { parser = Some (Unsigned 1 65_535) }
 
--- `--connections C`, from 0 to 1,000,000; as many where it isn't given
+-- `--connections C`, from 0 to 1,000,000; as many if it isn't given
 abbrev pub connections : Rule
 connections = record (option (codes "connections")) {
   parser = Some (Unsigned 0 1_000_000);
@@ -54,7 +54,7 @@ serve = with_rule (with_rule (with_rule (with_rule (new_app (codes "serve")) con
 abbrev pub waiting : App
 waiting = with_rule (with_rule (new_app (codes "waiting")) conf) db
 
--- `report RUN [REPORT] --conf F --db F`: what is told of a run is named by a value that may be left out
+-- `report RUN [REPORT] --conf F --db F`: an optional value names the report of a run
 abbrev pub told : Rule
 told = new_rule (codes "REPORT")
 
@@ -68,7 +68,7 @@ report = with_rule (with_rule (with_rule (with_rule (new_app (codes "report")) (
 abbrev pub looking : Text → App
 looking name = with_rule (with_rule (new_app name) conf) stored
 
--- `runs`, `export` and `check`, which take no more
+-- `runs`, `export` and `check`, which accept no more
 abbrev pub runs : App
 runs = looking (codes "runs")
 
@@ -85,7 +85,7 @@ listed = record (new_rule (codes "list")) { long = Some (codes "list"); action =
 abbrev pub mail : App
 mail = with_rule (looking (codes "mail")) listed
 
--- `why SOURCE.. --conf F [--db F] [--run K]`, where K is the number of a run; with `--hint` numbers of hints stand for the sources
+-- `why SOURCE.. --conf F [--db F] [--run K]`, where K is a run's number; with `--hint` the values are hints' numbers
 abbrev pub run : Rule
 run = record (option (codes "run")) { parser = Some (Unsigned 1 999_999_999) }
 
@@ -116,7 +116,7 @@ dated = needed (codes "day")
 abbrev pub order : App
 order = with_rule (with_rule (with_rule (new_app (codes "order")) dated) conf) stored
 
--- `hints`, which takes a setup and a store
+-- `hints`, which needs a setup and a store
 abbrev pub hints : App
 hints = looking (codes "hints")
 
@@ -127,7 +127,7 @@ sources = record (new_rule (codes "SOURCE")) { action = Some Append }
 abbrev pub propose : App
 propose = with_rule (with_rule (with_rule (with_rule (with_rule (new_app (codes "propose")) sources) conf) db) day) all
 
--- `office COMMAND ..`: a command has to be named, and no words at all are a call for help
+-- `office COMMAND ..`: a command is required, and no words at all are a call for help
 abbrev pub bare : App
 bare = record (new_app (codes "office")) {
   top = record (new_app (codes "office")).top {
@@ -141,18 +141,18 @@ bare = record (new_app (codes "office")) {
 unfoldable pub of_three : App
 of_three = with_subcommand (with_subcommand (with_subcommand bare compare.top) replay.top) serve.top
 
--- the command that tells, besides, what a run waits for and each report
+-- the command that also prints what a run waits for and each report
 unfoldable pub of_five : App
 of_five = with_subcommand (with_subcommand of_three waiting.top) report.top
 
--- the command that also tells runs and mail, exports mail, and checks a store
+-- the command that also prints runs and mail, exports mail, and checks a store
 unfoldable pub of_nine : App
 of_nine = with_subcommand (with_subcommand (with_subcommand (with_subcommand of_five runs.top) mail.top) export.top) check.top
 
--- the command that also tells what a run said of sources, and tries hints
+-- the command that also prints what a run said of sources, and tries hints
 unfoldable pub of_eleven : App
 of_eleven = with_subcommand (with_subcommand of_nine why.top) tries.top
 
--- the program's command, which also tells which messages of a bag are refused, the next order, the hints in force, and hints that move groups
+-- the program's command, which also prints a bag's refused messages, the next order, hints in force, and group hints
 unfoldable pub office : App
 office = with_subcommand (with_subcommand (with_subcommand (with_subcommand of_eleven lint.top) order.top) hints.top) propose.top

@@ -30,13 +30,13 @@ impl<T: Drop> From<AllocFailed<T>> for ArgsFault {
     }
 }
 
-/// The arguments, the program's name being the first.
+/// The arguments, beginning with the program's name.
 pub fn read_args(rt: &HostRuntime) -> Result<Vec<String>, ArgsFault> {
     let args = env::args(rt).map_err(args_fault)?;
     all_args(rt.alloc(), args)
 }
 
-/// What the system's fault is told as: where it isn't want of memory, an argument isn't UTF-8.
+/// The fault for a fault of the system: unless memory ran out, an argument isn't UTF-8.
 fn args_fault(fault: io::Error) -> ArgsFault
     ensures { result ≡ told_as (error_kind fault) }
 {
@@ -66,7 +66,7 @@ pub fn as_texts<'a>(alloc: Global, args: &'a [String]) -> Result<Vec<&'a str>, A
     Ok(texts)
 }
 
-/// The exit status where the arguments can't be read: 4 for want of memory, 2 where one isn't UTF-8.
+/// The exit status if the arguments can't be read: 4 if memory ran out, 2 if one isn't UTF-8.
 pub fn args_status(fault: &ArgsFault) -> u8
     ensures { result ≡ status_of_args fault.now }
 {

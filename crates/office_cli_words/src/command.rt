@@ -189,7 +189,7 @@ const STORE: &str = "The file that keeps mail, reports and testing; it is made w
 
 const LOOKED_AT: &str = "The file of a store that is there";
 
-/// `--conf SETUP`, which is needed.
+/// `--conf SETUP`, required.
 fn conf_option<'a>(alloc: Global) -> Arg<'a>
     ensures rule { rule_of result ≡ program.conf }
     ensures local { result.global ≡ false }
@@ -212,7 +212,7 @@ fn db_option<'a>(alloc: Global, help: &'a str) -> Arg<'a>
         .help(help)
 }
 
-/// `--db FILE`, which is needed.
+/// `--db FILE`, required.
 fn stored_option<'a>(alloc: Global) -> Arg<'a>
     ensures rule { rule_of result ≡ program.stored }
     ensures local { result.global ≡ false }
@@ -257,7 +257,7 @@ fn connections_option<'a>(alloc: Global) -> Arg<'a>
         .default_value("1000000")
 }
 
-/// A value that is needed, by its place.
+/// A required value, by its place.
 fn place<'a>(alloc: Global, id: &'a str, help: &'a str) -> Arg<'a>
     ensures rule { rule_of result ≡ program.place id.entry.now }
     ensures local { result.global ≡ false }
@@ -265,7 +265,7 @@ fn place<'a>(alloc: Global, id: &'a str, help: &'a str) -> Arg<'a>
     Arg::new(alloc, id).help(help).required(true)
 }
 
-/// A value that is needed, by its place, of which more may stand behind it.
+/// A required value, by its place; more may follow it.
 fn places<'a>(alloc: Global, id: &'a str, help: &'a str) -> Arg<'a>
     ensures rule { rule_of result ≡ program.places id.entry.now }
     ensures local { result.global ≡ false }
@@ -296,7 +296,7 @@ fn day_option<'a>(alloc: Global) -> Arg<'a>
         .help(DAY)
 }
 
-/// `--day DAY`, which is needed.
+/// `--day DAY`, required.
 fn dated_option<'a>(alloc: Global) -> Arg<'a>
     ensures rule { rule_of result ≡ program.dated }
     ensures local { result.global ≡ false }
@@ -308,7 +308,7 @@ fn dated_option<'a>(alloc: Global) -> Arg<'a>
         .required(true)
 }
 
-/// Sources by their place, which may be left out.
+/// Optional sources, by their place.
 fn freed_place<'a>(alloc: Global) -> Arg<'a>
     ensures rule { rule_of result ≡ program.sources }
     ensures local { result.global ≡ false }
@@ -340,7 +340,7 @@ fn all_option<'a>(alloc: Global) -> Arg<'a>
         .action(ArgAction::SetTrue)
 }
 
-/// The report of a run, by its place, which may be left out.
+/// The optional report of a run, by its place.
 fn told_place<'a>(alloc: Global) -> Arg<'a>
     ensures rule { rule_of result ≡ program.told }
     ensures local { result.global ≡ false }
@@ -348,7 +348,7 @@ fn told_place<'a>(alloc: Global) -> Arg<'a>
     Arg::new(alloc, "REPORT").help(TOLD)
 }
 
-/// A command with one argument more. If the command couldn't be made, that is passed on.
+/// A command with one more argument. If the command couldn't be made, that is passed on.
 fn with_arg<'a>(
     command: Result<Command<'a>, AllocError>,
     arg: Arg<'a>,
@@ -365,7 +365,7 @@ fn with_arg<'a>(
     }
 }
 
-/// A command with one subcommand more. If the subcommand couldn't be made, that is passed on.
+/// A command with one more subcommand. If the subcommand couldn't be made, that is passed on.
 #[tactic(auto, using(crate::proofs::Plain::adds_part))]
 fn with_part<'a>(
     whole: Command<'a>,
@@ -382,7 +382,7 @@ fn with_part<'a>(
     }
 }
 
-/// A command with one subcommand more, where perhaps the command itself couldn't be made. That is passed on.
+/// A command with one more subcommand. If the command itself couldn't be made, that is passed on.
 fn with_command<'a>(
     whole: Result<Command<'a>, AllocError>,
     part: Result<Command<'a>, AllocError>,
@@ -557,7 +557,7 @@ fn command_of_three<'a>(alloc: Global) -> Result<Command<'a>, AllocError>
     with_command(two, serve_command(alloc))
 }
 
-/// The command that tells, besides, what a run waits for and each report.
+/// The command that also prints what a run waits for and each report.
 fn command_of_five<'a>(alloc: Global) -> Result<Command<'a>, AllocError>
     ensures { IfOk result (λ c. app_of c ≡ program.of_five) }
 {
@@ -565,7 +565,7 @@ fn command_of_five<'a>(alloc: Global) -> Result<Command<'a>, AllocError>
     with_command(four, report_command(alloc))
 }
 
-/// The command that also tells runs and mail, exports mail, and checks a store.
+/// The command that also prints runs and mail, exports mail, and checks a store.
 fn command_of_nine<'a>(alloc: Global) -> Result<Command<'a>, AllocError>
     ensures { IfOk result (λ c. app_of c ≡ program.of_nine) }
 {
@@ -578,7 +578,7 @@ fn command_of_nine<'a>(alloc: Global) -> Result<Command<'a>, AllocError>
     with_command(eight, check)
 }
 
-/// The command that also tells what a run said of sources, and tries hints.
+/// The command that also prints what a run said of sources, and tries hints.
 fn command_of_eleven<'a>(alloc: Global) -> Result<Command<'a>, AllocError>
     ensures { IfOk result (λ c. app_of c ≡ program.of_eleven) }
 {

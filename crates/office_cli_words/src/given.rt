@@ -49,7 +49,7 @@ fn number_of(given: &ArgMatches, name: &str) -> Option<u32>
     }
 }
 
-/// Whether a flag is set, which clap tells as the text `true`.
+/// Whether a flag is set, which clap marks with the text `true`.
 fn is_set(given: &ArgMatches, name: &str) -> bool
     ensures { result ≡ is_set name.now (rows_of (found_of given.now)) }
 {
@@ -102,7 +102,7 @@ fn waiting_words<'a>(given: &ArgMatches<'a>) -> Option<Words<'a>>
     })
 }
 
-/// What two words ask for that name a report of the store in a file.
+/// What two words that name a report of the store in a file ask for.
 fn asked_report<'a>(conf: &'a str, db: &'a str, run: &'a str, word: Option<&'a str>) -> Words<'a>
     ensures { asked result ≡ asked_report conf.now db.now run.now (option_map (λ text. text.now) word.entry) (report_of run.now (option_map (λ text. text.now) word.entry)) }
 {
@@ -217,7 +217,7 @@ fn hints_words<'a>(given: &ArgMatches<'a>) -> Option<Words<'a>>
     Some(Words::Hints { conf, db })
 }
 
-/// The texts given under a name, none where the name isn't given.
+/// The texts given under a name, none if the name isn't given.
 fn listed_texts<'a>(
     alloc: Global,
     given: &ArgMatches<'a>,

@@ -1,7 +1,7 @@
-//! What stays of the words, whatever commands come to the program.
+//! What stays of the words, whatever commands are added to the program.
 ghost use Rattle.office_cli_words.specs.Laws.{OldWordsStay};
 
-/// Words that the command takes that only compares, replays and serves ask for the same as in that command.
+/// The command that only compares, replays and serves accepts certain words. Here these ask for the same.
 pub fn old_words_stay()
     ensures { OldWordsStay }
 {}

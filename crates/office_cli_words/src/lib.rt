@@ -1,5 +1,5 @@
-//! The program's arguments: their texts, the words that clap reads in them, and the comparison of versions that they may
-//! ask for.
+//! The program's arguments: their texts, the words that clap reads in them, and the comparison of versions, which is
+//! one command.
 #![tactic(auto)]
 
 mod arguments;
@@ -40,36 +40,36 @@ pub enum Words<'a> {
         conf: &'a str,
         db: Option<&'a str>,
     },
-    /// Serve so many connections on a port, for the setup in a file, over a store in a file or in memory.
+    /// Serve that many connections on a port, for the setup in a file, over a store in a file or in memory.
     Serve {
         conf: &'a str,
         port: u32,
         db: Option<&'a str>,
         connections: u32,
     },
-    /// Tell what the first run that isn't ready waits for, for the setup in a file: over a store in a file, or over the
-    /// bag on standard input.
+    /// Print what the first run that isn't ready waits for, for the setup in a file: over a store in a file, or over
+    /// the bag on standard input.
     Waiting {
         conf: &'a str,
         db: Option<&'a str>,
     },
-    /// Tell a report, for the setup in a file, from the store in a file.
+    /// Print a report, for the setup in a file, from the store in a file.
     Report {
         conf: &'a str,
         db: &'a str,
         report: Report,
     },
-    /// Tell a report, but the words name none.
+    /// Print a report, but the words name none.
     UnknownReport {
         run: &'a str,
         report: Option<&'a str>,
     },
-    /// Tell each finished run, for the setup in a file, from the store in a file.
+    /// Print each finished run, for the setup in a file, from the store in a file.
     Runs {
         conf: &'a str,
         db: &'a str,
     },
-    /// Tell how much mail the store in a file keeps of each sender, or each message of it.
+    /// Print how much mail the store in a file keeps of each sender, or each message of it.
     Mail {
         conf: &'a str,
         db: &'a str,
@@ -80,13 +80,13 @@ pub enum Words<'a> {
         conf: &'a str,
         db: &'a str,
     },
-    /// Tell whether the store in a file is what its mail gives.
+    /// Check whether the store in a file is what its mail gives.
     Check {
         conf: &'a str,
         db: &'a str,
     },
-    /// Tell what the last finished run, or another one, said of each of these sources, or of the hints of these numbers,
-    /// for the setup in a file: over a store in a file, or over the bag on standard input.
+    /// Print what the last finished run, or another one, said of each of these sources, or of the hints with these
+    /// numbers. The setup is in a file; the store is in a file, or the bag comes on standard input.
     Why {
         conf: &'a str,
         db: Option<&'a str>,
@@ -94,8 +94,8 @@ pub enum Words<'a> {
         hint: bool,
         sources: Vec<&'a str>,
     },
-    /// Tell what the next run would decide with these hints, for the setup in a file: over a store in a file, or over the
-    /// bag on standard input; on a day, and over the covered mail or over all.
+    /// Print what the next run would decide with these hints. The setup is in a file; the store is in a file, or the
+    /// bag comes on standard input. The run is on a day, over the covered mail or over all.
     Try {
         conf: &'a str,
         db: Option<&'a str>,
@@ -103,23 +103,23 @@ pub enum Words<'a> {
         all: bool,
         hints: Vec<&'a str>,
     },
-    /// Tell which messages of the bag on standard input are refused, for the setup in a file.
+    /// Print which messages of the bag on standard input are refused, for the setup in a file.
     Lint {
         conf: &'a str,
     },
-    /// Tell the text of an order on a day over all mail that the store in a file keeps without a gap.
+    /// Print the text of an order on a day over all mail that the store in a file keeps without a gap.
     Order {
         day: &'a str,
         conf: &'a str,
         db: &'a str,
     },
-    /// Tell the hints in force, by the mail that the store in a file keeps.
+    /// Print the hints in force, by the mail that the store in a file keeps.
     Hints {
         conf: &'a str,
         db: &'a str,
     },
-    /// Tell hints that move groups of sources in the next run, or those that free these sources, for the setup in a file:
-    /// over a store in a file, or over the bag on standard input; on a day, and over the covered mail or over all.
+    /// Print hints that move groups of sources in the next run, or that free these sources. The setup is in a file; the
+    /// store is in a file, or the bag comes on standard input. The run is on a day, over the covered mail or over all.
     Propose {
         conf: &'a str,
         db: Option<&'a str>,
@@ -127,7 +127,7 @@ pub enum Words<'a> {
         all: bool,
         sources: Vec<&'a str>,
     },
-    /// Tell the program's version.
+    /// Print the program's version.
     Version,
 }
 
@@ -151,7 +151,7 @@ impl From<AllocError> for WordsFault {
 }
 
 impl WordsFault {
-    /// The fault behind clap's error.
+    /// The fault for clap's error.
     fn of(error: Error) -> WordsFault
         ensures usage { (result ≡ NoMemory) ⊎ ((e : _) × (result ≡ Usage e) × (kind_of error ≢ kind.OutOfMemory)) }
         ensures memory { kind_of error ≡ kind.OutOfMemory → result ≡ NoMemory }
@@ -194,21 +194,20 @@ fn read_command<'a>(alloc: Global, words: &'a [&'a str]) -> Result<Words<'a>, Wo
     }
 }
 
-/// What the words ask for, the program's name being the first. `--version` alone asks for the version. All other words
-/// are read as clap reads them in the command `office` with its subcommands `compare V1 OP V2`, `replay --conf F
-/// [--db F]`, `serve --conf F --port N [--db F] [--connections C]`, `waiting --conf F [--db F]`, `report RUN [REPORT]
-/// --conf F --db F`, `runs --conf F --db F`, `mail --conf F --db F [--list]`, `export --conf F --db F`, `check --conf F
-/// --db F`, `why SOURCE.. --conf F [--db F] [--run K]`, `try HINT.. --conf F [--db F] [--day DAY] [--all]`, `lint --conf
-/// F`, `order --day DAY --conf F --db F`, `hints --conf F --db F` and `propose [SOURCE..] --conf F [--db F] [--day DAY]
-/// [--all]`, where N is from 1 to 65,535, C from 0 to 1,000,000, which it is where it isn't given, and K from 1 to
-/// 999,999,999.
+/// What the words ask for, beginning with the program's name. `--version` alone asks for the version. All other words
+/// are read as clap reads them in the command `office` with its subcommands `compare V1 OP V2`, `replay --conf F [--db
+/// F]`, `serve --conf F --port N [--db F] [--connections C]`, `waiting --conf F [--db F]`, `report RUN [REPORT] --conf
+/// F --db F`, `runs --conf F --db F`, `mail --conf F --db F [--list]`, `export --conf F --db F`, `check --conf F --db
+/// F`, `why SOURCE.. --conf F [--db F] [--run K]`, `try HINT.. --conf F [--db F] [--day DAY] [--all]`, `lint --conf F`,
+/// `order --day DAY --conf F --db F`, `hints --conf F --db F` and `propose [SOURCE..] --conf F [--db F] [--day DAY]
+/// [--all]`. N is from 1 to 65,535, C from 0 to 1,000,000, which is its default, and K from 1 to 999,999,999.
 ///
-/// Refused as `Usage` are words in which clap finds a fault, a request for help among them.
+/// Words are refused as `Usage` if clap finds a fault in them; a request for help counts as one.
 pub fn read_words<'a>(alloc: Global, words: &'a [&'a str]) -> Result<Words<'a>, WordsFault>
     ensures asked { Gives result (words_in (map (λ word. word.now) words.now)) }
     // What they ask for in the command that only compares, replays and serves they ask for here.
     ensures first { (ask : Asked) → old_words_in (map (λ word. word.now) words.now) ≡ Some ask → Gives result (Some ask) }
-    // Words that clap takes are refused for want of memory alone.
+    // Words that clap accepts are refused only if memory runs out.
     ensures taken { IfErr result (λ fault. takes office (map (λ word. word.now) words.now) ≡ true → fault ≡ NoMemory) }
     ensures faultless { IfErr result (λ fault. fault_of office (map (λ word. word.now) words.now) ≡ [] → fault ≡ NoMemory) }
 {
@@ -219,8 +218,7 @@ pub fn read_words<'a>(alloc: Global, words: &'a [&'a str]) -> Result<Words<'a>, 
     }
 }
 
-/// The exit status for words that ask for nothing: 2 for a usage error and for a request for help, 4
-/// for want of memory.
+/// The exit status for words that ask for nothing: 2 for a usage error and for a request for help, 4 if memory ran out.
 pub fn words_status(fault: &WordsFault) -> u8
     ensures { result ≡ status_of_fault fault.now }
 {

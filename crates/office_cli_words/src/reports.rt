@@ -72,7 +72,7 @@ pub(crate) fn report_of(run: &str, word: Option<&str>) -> Option<Report>
     }
 }
 
-/// Says on standard error that words name no report, and gives the exit status, which is 2.
+/// Prints on standard error that words name no report, and returns the exit status 2.
 pub fn refuse_report(rt: &impl Eprint, run: &str, report: Option<&str>) -> u8
     ensures { result ≡ 2 }
 {

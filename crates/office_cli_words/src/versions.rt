@@ -1,4 +1,4 @@
-// `office compare V1 OP V2`: whether the versions stand in the order that OP names.
+// `office compare V1 OP V2`: whether the versions are in the order that OP names.
 ghost use Rattle.std.specs.Prelude.{◌≡◌};
 ghost use Rattle.office_cli_words.specs.Compare.{answer, comparison_of, holds_at, status_of};
 
@@ -25,16 +25,16 @@ pub enum Refusal {
     Version(CompareFault),
 }
 
-/// The exit status for V1 OP V2: 0 where it holds, 1 where it doesn't, 2 for an unknown OP, 3 where a
-/// version is refused. OP is looked at first. No memory is taken.
+/// The exit status for V1 OP V2: 0 if it holds, 1 if it doesn't, 2 for an unknown OP, 3 if a version is refused. OP is
+/// checked first. Nothing is allocated.
 pub fn compare_status(v1: &str, op: &str, v2: &str) -> u8
     ensures { result ≡ status_of (answer v1.now op.now v2.now) }
 {
     status(compared(v1, op, v2))
 }
 
-/// The exit status for V1 OP V2, after a line on standard error that names what is refused, and why. Where that line
-/// can't be written the status stays as it is.
+/// The exit status for V1 OP V2. First prints a line on standard error that names what is refused, and why. If that
+/// can't be printed, the status stays.
 pub fn compare(rt: &impl Eprint, v1: &str, op: &str, v2: &str) -> u8
     ensures { result ≡ status_of (answer v1.now op.now v2.now) }
 {

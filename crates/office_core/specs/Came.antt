@@ -1,4 +1,4 @@
--- What came of what a run needs, text by text, before anything is known of what is kept.
+-- The texts needed by a run that have come, before anything is known of what is kept.
 use Rattle.std.specs.Prelude.{◌≡◌, ℕ, ◌≤◌, List}
 use Rattle.std.specs.FinMap.{empty}
 use Rattle.office_mail.specs.Kept.{Place, kept_from, place_of}
@@ -7,20 +7,20 @@ use Rattle.office_mail.specs.Lists.{Lists}
 use Rattle.office_mail.specs.Runs.{cover, runs}
 use Rattle.office_mail.specs.declared.message.Message.{Message}
 
--- of these texts one is a message of this sender and number
+-- one of these texts is a message of this sender and number
 pub record Came (setup : Lists) (texts : List (List ℕ)) (p : Place) : Type 0 where
   pub text : List ℕ
   pub message : Message
   pub delivers : Delivers setup texts text message
   pub place : place_of message ≡ p
 
--- All came that run k needs: the sender of runs' messages 1 to k, and of each sender each number from 1 to the cover that
--- the first texts of these orders state.
+-- All that run k needs came: messages 1 to k of the runs' sender. Of each sender every number came from 1 to the cover
+-- in the first texts of these orders.
 pub record AllCame (setup : Lists) (texts : List (List ℕ)) (k : ℕ) : Type 0 where
   pub orders : (j : ℕ) → 1 ≤ j → j ≤ k → Came setup texts (runs setup, j)
   pub mail : (sender number : ℕ) → 1 ≤ number → number ≤ cover setup (kept_from setup empty texts) k sender → Came setup texts (sender, number)
 
--- each message that was sent came, and run orders 1 to k came under no other text than was sent; what came beside is any
+-- each message sent came, and run orders 1 to k came with no text but the one sent; anything else may have come
 pub record CameBeside (setup : Lists) (sent texts : List (List ℕ)) (k : ℕ) : Type 0 where
   pub each : (text : List ℕ) (m : Message) → Delivers setup sent text m → IsOneOf text texts
   pub orders : (t u : List ℕ) (m n : Message) → Delivers setup sent t m → Delivers setup texts u n → place_of m ≡ place_of n → m.sender ≡ runs setup → m.number ≤ k → t ≡ u

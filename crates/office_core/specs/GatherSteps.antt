@@ -24,14 +24,14 @@ letter_of held text = record { sender = held.sender; number = held.number; text 
 abbrev pub ArePlaced : Lists → List NewLetter → Type 0
 ArePlaced setup letters = AllByRecursion (λ l. IsPlace setup (l.sender, l.number)) letters
 
--- One text more is answered by what is kept and by the letters before it, and these are the letters with its own.
+-- One more text is answered from what is kept and from the letters before it; these are the letters with its own.
 pub record TakesText (setup : Lists) (kept : Kept) (letters later : List NewLetter) (text : List ℕ) (reply : Result Held DeliverFault) : Type 0 where
   pub free : AreFree kept letters → AreFree kept later
   pub answer : AreFree kept letters → reply ≡ answer_to setup (with_letters kept letters) text
   pub leaves : AreFree kept letters → with_letters kept later ≡ kept_from setup (with_letters kept letters) (text ∷ [])
 
--- A block in the making, which isn't kept yet: these letters are free beside what is kept, leave together what deliveries of
--- these texts do, and these are the answers to them.
+-- A block that isn't kept yet: these letters are free next to what is kept, keeping them does what delivering these
+-- texts does, and these are the answers to them.
 pub record Gathers (setup : Lists) (kept : Kept) (letters : List NewLetter) (replies : List (Result Held DeliverFault)) (texts : List (List ℕ)) : Type 0 where
   pub free : AreFree kept letters
   pub kept_is : with_letters kept letters ≡ kept_from setup kept texts

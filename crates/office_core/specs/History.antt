@@ -20,7 +20,7 @@ use Rattle.office_core_facts.specs.Outcome.{Outcome, covered_items, outcome_on, 
 
 -- one step
 pub data Step : Type 0 where
-  -- a text came: it is kept where it is a message whose number was free
+  -- a text came: it is kept if it is a message with a free number
   Took : List ℕ → Step
   -- a text came, and was refused
   Refused : List ℕ → Step
@@ -41,13 +41,13 @@ pub record Same (old new : Content) : Type 0 where
   pub reports : new.reports ≡ old.reports
   pub testing : new.testing ≡ old.testing
 
--- the text is kept where it is a message whose number was free, and the reports and testing stay
+-- the text is kept if it is a message with a free number; the reports and testing stay
 pub record Takes (setup : Lists) (text : List ℕ) (old new : Content) : Type 0 where
   pub kept : new.kept ≡ kept_from setup old.kept (text ∷ [])
   pub reports : new.reports ≡ old.reports
   pub testing : new.testing ≡ old.testing
 
--- what the promotion rules give for the next run: from its day, its covered messages and the testing that is there
+-- what the promotion rules give for the next run from its day, its covered messages and the current testing
 abbrev pub by_rules : Lists → Content → Outcome
 by_rules setup c = let k : ℕ = length c.reports + 1 in outcome_on setup k (latest_day (orders_to setup c.kept k)) (covered_items setup c.kept k) c.testing
 
@@ -58,7 +58,7 @@ pub record FinishesNext (setup : Lists) (old new : Content) : Type 0 where
   pub reports : new.reports ≡ old.reports ++ reports_from (by_rules setup old) ∷ []
   pub testing : new.testing ≡ (by_rules setup old).testing
 
--- what a step does: of a refused text nothing is to be kept, and where a settle answers Ok exactly the ready runs are finished
+-- what a step does: nothing of a refused text is kept, and if a settle answers Ok just the ready runs are finished
 abbrev pub Does : Lists → Step → Content → Content → Type 0
 Does setup (Took text) old new = Takes setup text old new
 Does setup (Refused text) old new = Takes setup text old new × Same old new
@@ -73,7 +73,7 @@ unfoldable pub Leads : Lists → Content → List Step → Content → Type 0
 Leads setup old [] new = new ≡ old
 Leads setup old (s ∷ ss) new = (between : Content) × Does setup s old between × Leads setup between ss new
 
--- the texts that came and weren't lost, in order: losses leave gaps, repeats stand twice
+-- the texts that came and weren't lost, in order: losses leave gaps, repeats occur twice
 abbrev pub text_in : Step → List (List ℕ)
 text_in (Took text) = text ∷ []
 text_in (Refused text) = text ∷ []
@@ -83,6 +83,7 @@ text_in Settled = []
 text_in Stopped = []
 text_in Looked = []
 
+-- the texts of all steps, in order (this office decides it)
 abbrev pub texts_in : List Step → List (List ℕ)
 texts_in steps = flat_map text_in steps
 
@@ -96,18 +97,20 @@ settled_by was Settled = true
 settled_by was Stopped = was
 settled_by was Looked = was
 
+-- whether the office is settled after these steps, given whether it was before (this office decides it)
 abbrev pub settled_from : Bool → List Step → Bool
 settled_from was [] = was
 settled_from was (s ∷ ss) = settled_from (settled_by was s) ss
 
+-- whether a new office is settled after these steps
 abbrev pub is_settled : List Step → Bool
 is_settled steps = settled_from false steps
 
--- what the headline says of an office to which these texts came
+-- what the headline says of an office that received these texts
 pub record IsByRules (setup : Lists) (texts : List (List ℕ)) (content : Content) : Type 0 where
-  -- kept is, of each sender and number, the first message that came
+  -- of each sender and number, the first message that came is kept
   pub kept : content.kept ≡ kept_from setup empty texts
-  -- and so each message that came, once, where no sender gives one number two texts
+  -- and so is each message that came, once, if no sender gives one number two texts
   pub all : OneText setup texts → (text : List ℕ) (m : Message) → Delivers setup texts text m ↔ ((get content.kept (place_of m) ≡ Some text) × (read setup text ≡ Ok m))
   -- each finished run is ready
   pub ready : IsReady setup content.kept (length content.reports)
@@ -115,11 +118,11 @@ pub record IsByRules (setup : Lists) (texts : List (List ℕ)) (content : Conten
   pub reports : content.reports ≡ reports_to setup content.kept (length content.reports)
   pub testing : content.testing ≡ testing_after setup content.kept (length content.reports)
 
--- what two offices have in common to which the same texts came, in any order and with any repeats
+-- what two offices share if the same texts came to both, in any order and with any repeats
 pub record Agree (xs ys : List Step) (a b : Content) : Type 0 where
   -- the mail is the same
   pub kept : a.kept ≡ b.kept
-  -- what the one has finished is the beginning of what the other has
+  -- the finished runs of the one are the beginning of those of the other
   pub runs : length a.reports ≤ length b.reports → RunsStand a b
   -- settled offices have finished the same
   pub settled : is_settled xs ≡ true → is_settled ys ≡ true → (a.reports ≡ b.reports) × (a.testing ≡ b.testing)
@@ -140,7 +143,7 @@ deliveries [] answers = []
 deliveries (t ∷ ts) [] = []
 deliveries (t ∷ ts) (a ∷ rest) = delivery t a ∷ deliveries ts rest
 
--- a settle that finished so many runs, with its answer, as steps
+-- a settle that finished n runs, with its answer, as steps
 abbrev pub answer_step : Result Progress StoreFault → Step
 answer_step (Ok progress) = Settled
 answer_step (Err fault) = Stopped
@@ -148,6 +151,6 @@ answer_step (Err fault) = Stopped
 abbrev pub settling : ℕ → Result Progress StoreFault → List Step
 settling n answer = replicate n Finished ++ answer_step answer ∷ []
 
--- texts that came, so many runs that finished, and a last step
+-- texts that came, n runs that finished, and a last step
 abbrev pub coming : List (List ℕ) → ℕ → Step → List Step
 coming texts n last = map (λ text. Took text) texts ++ (replicate n Finished ++ last ∷ [])

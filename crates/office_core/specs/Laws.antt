@@ -1,4 +1,4 @@
--- What an office has of the mail that came to it, and what stands of it later.
+-- What an office has kept of the mail that came, and what of it later mail leaves.
 use Rattle.std.specs.Prelude.{◌≡◌, ℕ, List, ◌++◌, length}
 use Rattle.std.specs.FinMap.{empty}
 use Rattle.office_mail.specs.Kept.{kept_from}
@@ -8,13 +8,13 @@ use Rattle.office_store_keeper.specs.Content.{Content}
 use Rattle.office_store_keeper.specs.declared.values.Reports.{Reports}
 use Rattle.office_core_facts.specs.State.{IsOffice}
 
--- an office that kept what these deliveries leave, of which no sender gives one number two texts
+-- an office that kept these deliveries, in which no sender gives one number two texts
 pub record TookTexts (setup : Lists) (texts : List (List ℕ)) (content : Content) : Type 0 where
   pub office : IsOffice setup content
   pub kept : content.kept ≡ kept_from setup empty texts
   pub one_text : OneText setup texts
 
--- The finished runs stand: their reports come first, and testing is as they left it unless one more was finished.
+-- The finished runs stay: their reports come first, and testing is as they left it unless another run finished.
 pub record RunsStand (old new : Content) : Type 0 where
   pub more : List Reports
   pub reports : new.reports ≡ old.reports ++ more

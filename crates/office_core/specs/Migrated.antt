@@ -14,18 +14,18 @@ use Rattle.office_store_keeper.specs.FactSet.{count_in}
 use Rattle.office_store_keeper.specs.Provenance.{AreOwnTexts}
 use Rattle.office_core_facts.specs.Outcome.{covered_items, reports_to, testing_after}
 
--- the facts without the last delays
+-- the facts except the last delays
 abbrev pub without_delays : FactLists → FactLists
 without_delays f = record f { delays = None }
 
--- The kept rows of facts are those of facts that stand for the covered mail of the last finished run beside the testing that it
--- left, with exactly the uploads that count there; but of the last delays there is no row.
+-- The kept rows of facts represent the covered mail of the last finished run over the testing that it left, with
+-- exactly the uploads that count there. The last delays have no row.
 pub record KeepsFactsBefore (setup : Lists) (content : Content) : Type 0 where
   pub facts : FactLists
   pub kept : KeptFacts facts (covered_items setup content.kept (length content.reports)) content.testing
   pub rows : (r : FactRow) → times r (rows_of (without_delays facts)) ≡ count_in content.facts r
 
--- What an office of schema 1 left: all that an office leaves, but for the row of the last delays.
+-- What an office of schema 1 left: all that an office leaves, except the row of the last delays.
 pub record IsOfficeBefore (setup : Lists) (content : Content) : Type 0 where
   pub places : (p : Place) → IsSome (get content.kept p) → IsPlace setup p
   pub texts : AreOwnTexts setup content.kept

@@ -1,4 +1,4 @@
--- What a call on an office leaves of what is known of its store.
+-- What a call on an office preserves of what is known of its store.
 use Rattle.std.specs.Prelude.{◌≡◌, ℕ, ◌≤◌, false, min}
 use Rattle.office_mail.specs.Counts.{HasRisen, most}
 use Rattle.office_store_keeper.specs.declared.keeping.Keeper.{Ghosts}
@@ -13,12 +13,12 @@ HasNotFallen before after = min before most ≤ after
 abbrev pub Holds : {K : Type 0} → Ghosts K → K → K → Type 0
 Holds keeper old new = keeper.is_trusted new × IsSound keeper old
 
--- the store refused in between, and counted it
+-- the store refused in between and counted it
 abbrev pub StoreRefused : {K : Type 0} → Ghosts K → K → K → Type 0
 StoreRefused keeper old new = HasRisen (keeper.refusals old) (keeper.refusals new)
 
--- A store that is trusted after a call was so before it, and holds what an office leaves if it did before; its setup stays,
--- and its count of refusals doesn't fall. Where nobody else writes it, it stays trusted unless its disk failed.
+-- If a store is trusted after a call, it was trusted before, and holds what an office leaves if it did before. Its
+-- setup stays, its count of refusals doesn't fall. If nobody else writes it, it stays trusted unless its disk failed.
 pub record Preserves {K : Type 0} (keeper : Ghosts K) (old new : K) : Type 0 where
   pub before : keeper.is_trusted new → keeper.is_trusted old
   pub sound : keeper.is_trusted new → IsSound keeper old → IsSound keeper new

@@ -12,6 +12,6 @@ abbrev pub answers_to : Lists → Kept → List (List ℕ) → List (Result Held
 answers_to setup kept [] = []
 answers_to setup kept (t ∷ ts) = answer_to setup kept t ∷ answers_to setup (kept_from setup kept (t ∷ [])) ts
 
--- what is held has a sender of the setup
+-- each message held has a sender of the setup
 abbrev pub AreHeldHere : Lists → List (Result Held DeliverFault) → Type 0
 AreHeldHere setup replies = AllByRecursion (λ reply. IfOk reply (λ held. held.sender < length setup.senders)) replies

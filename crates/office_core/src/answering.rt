@@ -14,7 +14,7 @@ use office_mail::{Message, Setup, read_message};
 use office_store_keeper::Keeper;
 use std::alloc::Global;
 
-/// What is answered to a message, by the text that is kept under its sender and number.
+/// The answer to a message, given the text kept under its sender and number.
 fn answer_message<K: Keeper>(
     keeper: &mut K,
     message: &Message,
@@ -39,7 +39,7 @@ fn answer_message<K: Keeper>(
     }
 }
 
-/// What is answered to a text. Nothing is kept.
+/// The answer to a text. Nothing is kept.
 pub fn answer<K: Keeper>(
     alloc: Global,
     setup: &Setup,

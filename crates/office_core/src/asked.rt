@@ -1,5 +1,5 @@
-//! Kept texts that are looked for one after another. A sender is asked once for its next number: where it has none, its
-//! numbers are free from there on, and needn't be looked for.
+//! Finds kept texts one after another. A sender is asked once for its next number: if it has none, its numbers are free
+//! from there on, and needn't be looked for.
 #![tactic(auto, using(office_core_orders::proofs::LastFacts::lasting))]
 
 ghost use Rattle.std.specs.Prelude.{◌≡◌, ℕ, None, IfOk, OnOk, IsTrue};
@@ -12,8 +12,7 @@ ghost use Rattle.office_core.specs.Asked.{AreFreeFrom, IsFreeFrom};
 use office_core_orders::{StoreFault, stored};
 use office_store_keeper::{Keeper, MailText};
 
-/// What a sender answered that was asked for its next number: from which number on its numbers are free, if they are known
-/// to be.
+/// What a sender answered when asked for its next number: the number from which its numbers are free, if any is known.
 #[derive(Clone, Copy)]
 pub struct NextFree {
     pub sender: u32,
@@ -25,7 +24,7 @@ fn is_asked(asked: &[NextFree], sender: u32) -> bool {
     asked.iter().any(|one| one.sender == sender)
 }
 
-/// Whether a number is known to be free by what a sender was asked.
+/// Whether this answer of a sender shows that a number is free.
 fn is_free_by(one: &NextFree, sender: u32, number: u32) -> bool
     ensures { (kept : Kept) → IsFreeFrom kept one.now.sender one.now.free_from → IsTrue result → get kept (sender, number) ≡ None }
 {
@@ -47,7 +46,7 @@ fn is_free(asked: &[NextFree], sender: u32, number: u32) -> bool
     false
 }
 
-/// From which number on numbers are free, if the next one was asked for from there.
+/// The number from which numbers are free, if the next one was asked for from there.
 fn free_from(next: Option<u32>, number: u32) -> Option<u32>
     ensures { (kept : Kept) (sender : ℕ) → IsNextNumber kept sender number next → IsFreeFrom kept sender result }
 {

@@ -1,4 +1,4 @@
-//! Each sender's numbers, counted while its mail comes. So no text is loaded only to be counted.
+//! Counts each sender's numbers as its mail comes. So no text is loaded only to be counted.
 
 ghost use Rattle.std.specs.Prelude.{IfOk, IfSome, IsSome};
 ghost use Rattle.std.specs.FinMap.{get};
@@ -10,7 +10,7 @@ use crate::Reply;
 use office_core_orders::orders::make_room;
 use office_core_orders::{Held, StoreFault};
 
-/// A message that is held raises its sender's count, if it has the next number. If memory for the count is refused, it is
+/// A held message raises its sender's count, if it has the next number. If memory for the count is refused, it is
 /// counted once an order asks for it.
 fn count_held(counts: &mut Vec<u32>, held: Held)
     ensures { (kept : Kept) → IsSome (get kept (held.sender, held.number)) → HasEach kept counts.old.items → HasEach kept counts.new.items }
@@ -24,7 +24,7 @@ fn count_held(counts: &mut Vec<u32>, held: Held)
     }
 }
 
-/// What is held by an answer raises its sender's count.
+/// A message held by an answer raises its sender's count.
 pub fn count_reply(counts: &mut Vec<u32>, reply: &Reply)
     ensures { (kept : Kept) → IsKept kept reply.now → HasEach kept counts.old.items → HasEach kept counts.new.items }
 {
@@ -33,7 +33,7 @@ pub fn count_reply(counts: &mut Vec<u32>, reply: &Reply)
     }
 }
 
-/// What is held by each of the answers raises its sender's count.
+/// Each message held by an answer raises its sender's count.
 fn count_each(counts: &mut Vec<u32>, replies: &[Reply])
     ensures { (kept : Kept) → AreKept kept replies.now → HasEach kept counts.old.items → HasEach kept counts.new.items }
 {
@@ -42,7 +42,7 @@ fn count_each(counts: &mut Vec<u32>, replies: &[Reply])
     }
 }
 
-/// What is held by each answer raises its sender's count, if the texts were kept together.
+/// Each message held by an answer raises its sender's count, if the texts were kept together.
 pub fn count_replies(counts: &mut Vec<u32>, answer: &Result<Option<Vec<Reply>>, StoreFault>)
     ensures { (kept : Kept) → IfOk answer.now (λ replies. IfSome replies (λ rs. AreKept kept rs.items)) → HasEach kept counts.old.items → HasEach kept counts.new.items }
 {

@@ -1,4 +1,4 @@
-//! Texts that are kept together: their letters are gathered first, and then kept all at once.
+//! Keeps texts together: their letters are gathered first, and then kept all at once.
 #![tactic(auto, using(office_core_orders::proofs::LastFacts::lasting))]
 
 ghost use Rattle.std.specs.Prelude.{is_ok, ◌≡◌, ◌≢◌, ◌<◌, ◌++◌, ◌∷◌, [], false, Ok, Err, None, Some, IfOk, OnOk, OnErr, IfSome, bytes_eq, length, if◌then◌else◌};
@@ -21,10 +21,10 @@ use office_mail::{MailFault, Message, Setup, read_message};
 use office_store_keeper::{Keeper, MailText, NewLetter};
 use std::alloc::Global;
 
-/// What a delivery is answered.
+/// The answer to a delivery.
 pub type Reply = Result<Held, DeliverFault>;
 
-/// What is gathered of texts: the letters that are to be kept, and the answer to each text once they are.
+/// What is gathered from texts: the letters to keep, and the answer to each text once they are kept.
 #[derive(Drop)]
 struct Batch {
     letters: Vec<NewLetter>,
@@ -43,7 +43,7 @@ fn own_answer(letters: &[NewLetter], held: Held, text: &[u8]) -> Option<Reply>
     None
 }
 
-/// Adds a letter with this text, which is shared if it can be.
+/// Adds a letter with this text, which is shared if possible.
 fn add_letter(
     alloc: Global,
     letters: &mut Vec<NewLetter>,
@@ -63,7 +63,7 @@ fn add_letter(
     Ok(())
 }
 
-/// Answers a message by the block's own letters, or else by what is kept. Where its number is free, its letter is added.
+/// Answers a message by the block's own letters, or else by what is kept. If its number is free, its letter is added.
 fn answer_message<K: Keeper>(
     alloc: Global,
     setup: &Setup,
@@ -107,7 +107,7 @@ fn is_short(fault: MailFault) -> bool
     }
 }
 
-/// Answers one text more.
+/// Answers one more text.
 fn gather<K: Keeper>(
     alloc: Global,
     setup: &Setup,
@@ -157,7 +157,7 @@ fn gather_all<K: Keeper>(
     Ok(())
 }
 
-/// Keeps letters that are gathered, and answers whether that was done.
+/// Keeps gathered letters, and returns whether the store did so.
 fn keep_letters<K: Keeper>(keeper: &mut K, letters: &[NewLetter]) -> Result<bool, StoreFault>
     requires free { K.is_trusted keeper.old → AreFree (K.content keeper.old).kept letters.now }
     ensures kept { K.is_trusted keeper.new → K.is_legible keeper.old → IfOk result (λ all. K.content keeper.new ≡ (if all then with_mail (K.content keeper.old) letters.now else K.content keeper.old)) }
@@ -177,7 +177,7 @@ fn keep_letters<K: Keeper>(keeper: &mut K, letters: &[NewLetter]) -> Result<bool
     Ok(keeper.keep_all(letters)?)
 }
 
-/// Keeps texts together, and answers them; none where the store keeps them best one by one.
+/// Keeps texts together, and answers them; no answer if the store keeps them best one by one.
 pub fn keep_texts<K: Keeper>(
     alloc: Global,
     setup: &Setup,

@@ -32,63 +32,63 @@ pub fn empty_is_sound<K: Keeper>()
 /// testing. A list of steps is any history: deliveries, settles and questions from an empty office on.
 pub fn headline()
     ensures rules { (setup : Lists) (steps : List Step) (office : Content) → Leads setup no_content steps office → IsByRules setup (texts_in steps) office }
-    // Neither order nor repeats matter: offices to which the same texts came agree.
+    // Neither order nor repeats matter: offices that received the same texts agree.
     ensures order { (setup : Lists) (xs ys : List Step) (a b : Content) → Leads setup no_content xs a → Leads setup no_content ys b → OneText setup (texts_in xs) → SameTexts setup (texts_in xs) (texts_in ys) → Agree xs ys a b }
     ensures settled { (setup : Lists) (steps : List Step) (office : Content) → Leads setup no_content steps office → is_settled steps ≡ true → IsReadyCount setup office.kept (length office.reports) }
     ensures only { (setup : Lists) (steps : List Step) (old new : Content) → Leads setup old steps new → RunsStand old new }
 {}
 
-/// Delivered is finished: a settled office has finished run k exactly if all came that the run needs, from an empty office on,
-/// whatever came beside, in whatever order and with whatever repeats and losses.
+/// Delivered is finished. Starting empty, a settled office has finished run k exactly if all that the run needs came,
+/// whatever else came, in any order and with any repeats and losses.
 pub fn delivered()
     ensures finished { (setup : Lists) (steps : List Step) (office : Content) (k : ℕ) → Leads setup no_content steps office → is_settled steps ≡ true → AllCame setup (texts_in steps) k ↔ (k ≤ length office.reports) }
-    // So where the texts that were sent are all that run k needs, and came, it is finished. No text beside, of whatever sender,
-    // holds it up, unless it gives one of the run's own orders a second text.
+    // So if all that run k needs was sent and came, the run is finished. No other text, from any sender, holds it up,
+    // unless it gives one of the run's own orders a second text.
     ensures beside { (setup : Lists) (sent : List (List ℕ)) (steps : List Step) (office : Content) (k : ℕ) → Leads setup no_content steps office → is_settled steps ≡ true → AllCame setup sent k → CameBeside setup sent (texts_in steps) k → k ≤ length office.reports }
 {}
 
-/// What a call leads to, and then another, the two lead to together; a call that changes nothing is a step too.
+/// If one call leads to an office, and another on from it, both together do; a call that changes nothing is a step too.
 pub fn steps_follow()
     ensures twice { (setup : Lists) (xs ys : List Step) (a b c : Content) → Leads setup a xs b → Leads setup b ys c → Leads setup a (xs ++ ys) c }
     ensures looked { (setup : Lists) (old new : Content) → new ≡ old → Leads setup old (Looked ∷ []) new }
-    // Whatever takes one office to another with these texts more and no run less, as a whole replay does, is such steps.
+    // Whatever takes one office to another with these further texts and no fewer runs, like a replay, is such steps.
     ensures came { (setup : Lists) (texts : List (List ℕ)) (old new : Content) → IsOffice setup old → IsOffice setup new → new.kept ≡ kept_from setup old.kept texts → length old.reports ≤ length new.reports → Leads setup old (coming texts (length new.reports - length old.reports) Looked) new }
     // The last of them is a settle that answered Ok, if exactly the ready runs are finished.
     ensures settled { (setup : Lists) (texts : List (List ℕ)) (old new : Content) → IsOffice setup old → IsOffice setup new → new.kept ≡ kept_from setup old.kept texts → length old.reports ≤ length new.reports → IsReadyCount setup new.kept (length new.reports) → Leads setup old (coming texts (length new.reports - length old.reports) Settled) new }
 {}
 
-/// Of two offices to which the same well-formed texts came, in any order and with any repeats,
-/// and no sender gave one number two texts, each run that both have finished has the same two reports.
+/// If two offices received the same well-formed texts, in any order and with any repeats, and no sender gave one number
+/// two texts, each run finished in both has the same two reports.
 pub fn same_texts()
     ensures each { (setup : Lists) (xs ys : List (List ℕ)) (a b : Content) (k : ℕ) → TookTexts setup xs a → TookTexts setup ys b → SameTexts setup xs ys → k ≤ length a.reports → k ≤ length b.reports → item_from_one k a.reports ≡ item_from_one k b.reports }
-    // Where as many runs are finished in both, all reports are the same, and so is testing.
+    // If both finished the same number of runs, all reports are the same, and so is testing.
     ensures same { (setup : Lists) (xs ys : List (List ℕ)) (a b : Content) → TookTexts setup xs a → TookTexts setup ys b → SameTexts setup xs ys → length a.reports ≡ length b.reports → (a.reports ≡ b.reports) × (a.testing ≡ b.testing) }
-    // Offices that have finished all ready runs, as one does that has settled, have finished as many.
+    // Offices that have finished all ready runs, like a settled one, have finished the same number.
     ensures settled { (setup : Lists) (xs ys : List (List ℕ)) (a b : Content) → TookTexts setup xs a → TookTexts setup ys b → SameTexts setup xs ys → IsReadyCount setup a.kept (length a.reports) → IsReadyCount setup b.kept (length b.reports) → (a.reports ≡ b.reports) × (a.testing ≡ b.testing) }
 {}
 
-/// Later mail changes nothing of a run that is ready: neither its reports nor the testing that it leaves.
+/// Later mail changes nothing of a ready run: neither its reports nor the testing that it leaves.
 pub fn runs_stay()
     ensures outcome { (setup : Lists) (small large : Kept) (k : ℕ) → Within small large → IsReady setup small k → outcome_of setup large k ≡ outcome_of setup small k }
     ensures reports { (setup : Lists) (small large : Kept) (k : ℕ) → Within small large → IsReady setup small k → reports_to setup large k ≡ reports_to setup small k }
-    // So an office that went on, with more mail and more runs, has the reports that it had, and the same testing unless it finished a run.
+    // So an office with more mail and runs has the reports that it had, and the same testing unless it finished a run.
     ensures office { (setup : Lists) (old new : Content) → IsOffice setup old → IsOffice setup new → Within old.kept new.kept → length old.reports ≤ length new.reports → RunsStand old new }
 {}
 
-/// What an office of schema 1 left, once it has the row of the last delays that the finished runs cover, is what an office
-/// leaves: its rows of facts are those of facts that stand for all covered mail.
+/// An office of schema 1 holds what an office leaves, once it has the row of the last delays covered by the finished
+/// runs: its rows represent all covered mail.
 pub fn migrated_is_office()
     ensures { (setup : Lists) (old new : Content) → count_of Release setup.senders ≡ 1 → IsOfficeBefore setup old → GetsLast setup old new → IsOffice setup new }
 {}
 
-/// Behind a ready run the next one, whose order is kept, is ready exactly where no sender lacks anything by that order.
+/// If the order of the next run is kept, that run is ready exactly if no sender has a gap by it.
 pub fn lacks_say_why()
     ensures why { (setup : Lists) (kept : Kept) (n : ℕ) (order : RunOrder) (lacks : List Lack) → IsReady setup kept n → order_at setup kept (n + 1) ≡ Some order → AreLacks kept order (length setup.senders) lacks → (lacks ≡ []) ↔ IsReady setup kept (n + 1) }
-    // What the senders lack is one list, by the kept mail and the order.
+    // The missing mail is one list, given the kept mail and the order.
     ensures one { (kept : Kept) (order : RunOrder) (n : ℕ) (xs ys : List Lack) → AreLacks kept order n xs → AreLacks kept order n ys → xs ≡ ys }
 {}
 
-/// Each number that is lacking must come: no mail that holds all of the kept mail, but lacks that number, makes the run ready.
+/// Each missing number must come: mail with all of the kept mail but not that number doesn't make the run ready.
 pub fn lacks_are_needed()
     ensures mail { (setup : Lists) (small large : Kept) (n : ℕ) (order : RunOrder) (lacks : List Lack) (lack : Lack) → Within small large → order_at setup small (n + 1) ≡ Some order → AreLacks small order (length setup.senders) lacks → Contains lacks lack → get large (lack.sender, lack.number) ≡ None → IsReady setup large (n + 1) → ⊥ }
     // So must an order that isn't kept.

@@ -26,7 +26,7 @@ use office_mail::{RunOrder, Setup, latest_day};
 use office_store_keeper::{Finished, Keeper};
 use std::alloc::Global;
 
-/// What a run leaves, of which and of those before it these are the orders; and what is known for the next one.
+/// What a run leaves, given its order and those before it; and what is known for the next one.
 pub fn next_outcome<K: Keeper>(
     alloc: Global,
     setup: &Setup,
@@ -43,7 +43,7 @@ pub fn next_outcome<K: Keeper>(
     ensures watched { K.is_trusted keeper.new → K.is_legible keeper.old → AllWatchedWork setup.now.archs (K.content keeper.old).testing.rows → IfOk result (λ left. AllWatchedWork setup.now.archs left.0.testing.rows) }
     ensures known { K.is_trusted keeper.new → IfOk result (λ left. KnowsArchs setup.now.archs left.0.testing.rows) }
     ensures given { K.is_trusted keeper.new → K.is_legible keeper.old → AreOwnTexts setup.now (K.content keeper.old).kept → IfOk result (λ left. IsGiven setup.now (K.content keeper.old) left.0.testing) }
-    // The facts that go with the testing that is left: known by trust alone are their rows, and how these changed.
+    // The facts that go with the new testing. Trust alone determines only their rows and how these changed.
     ensures kept { K.is_trusted keeper.new → K.is_legible keeper.old → IsOffice setup.now (K.content keeper.old) → FirstOrders setup.now (K.content keeper.old).kept orders.now → length orders.now ≡ length (K.content keeper.old).reports + 1
         → IfOk result (λ left. KeptFacts left.1.facts (said_within setup.now (K.content keeper.old).kept (cover_of orders.now) (length setup.now.senders)) left.0.testing) }
     ensures way { K.is_trusted keeper.new → IfOk result (λ left. AreUnderWay setup.now (K.content keeper.old) left.1.facts) }
@@ -65,7 +65,7 @@ pub fn next_outcome<K: Keeper>(
     }
 }
 
-/// What a run of a date leaves by what is known, whose facts go with the testing that it leaves.
+/// What a run of a date leaves, from what is known; its facts go with the testing that it leaves.
 fn leave<K: Keeper>(
     alloc: Global,
     setup: &Setup,

@@ -1,5 +1,5 @@
-//! The office: it keeps mail on the sources of unstable, and finishes runs of the migration to testing
-//! (Debian Developer's Reference 5.13) as their mail is there.
+//! The office: it keeps mail on the sources of unstable, and finishes runs of the migration to testing (Debian
+//! Developer's Reference 5.13) once their mail has come.
 #![tactic(auto)]
 
 mod answering;

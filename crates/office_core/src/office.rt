@@ -1,4 +1,4 @@
-//! The office: what it takes, finishes and reports.
+//! The office: what it accepts, finishes and reports.
 #![tactic(auto, using(office_core_orders::proofs::LastFacts::lasting))]
 
 ghost use Rattle.std.specs.Prelude.{is_none, is_ok, ◌≡◌, ◌+◌, ◌-◌, ◌≤◌, ◌<◌, ◌∷◌, [], None, IfOk, IfSome, OnOk, OnErr, length, slice_index};
@@ -44,8 +44,8 @@ use office_store_keeper::{Keeper, MailText, Reports};
 use std::alloc::Global;
 use std::marker::Model;
 
-/// An office over a store, of which its contracts speak. Beside it stand for each sender how many numbers are known to be
-/// kept, the run orders that were read, and the facts of the mail that the last run covered.
+/// An office over a store, which its contracts describe. With it go the number of each sender's numbers known to be
+/// kept, the run orders read so far, and the facts of the mail that the last run covered.
 #[derive(Drop)]
 pub struct Office<K: Keeper> {
     alloc: Global,
@@ -71,7 +71,7 @@ impl<K: Keeper> Model for Office<K> {
 }
 
 impl<K: Keeper> Office<K> {
-    /// An office with this setup, over a store that was made for its lists. It takes no memory.
+    /// An office with this setup, over a store that was made for its lists. It allocates nothing.
     pub fn new(alloc: Global, setup: Setup, keeper: K) -> Office<K>
         requires lists { K.setup keeper ≡ setup }
         ensures { result ≡ keeper }
@@ -115,7 +115,7 @@ impl<K: Keeper> Office<K> {
         self.alloc
     }
 
-    /// How many runs are finished. It fails for want of memory or of the store alone.
+    /// The number of finished runs. It fails only if memory runs out or the store fails.
     pub fn finished(&mut self) -> Result<u32, StoreFault>
         ensures finished { K.is_trusted self.new → IsSound K.Keeper self.old → IfOk result (λ n. n ≡ (state_of K.Keeper self.old).finished) }
         ensures ready { K.is_trusted self.new → IsSound K.Keeper self.old → IsReady (K.setup self.old) (K.content self.old).kept (state_of K.Keeper self.old).finished }
@@ -129,12 +129,12 @@ impl<K: Keeper> Office<K> {
         stored::finished(&mut self.keeper)
     }
 
-    /// Takes a text, and keeps it where it is a message and its sender's number is free. The kept
-    /// text again has the same answer and changes nothing.
+    /// Takes a text, and keeps it if it is a message and its sender's number is free. The kept text again has the same
+    /// answer and changes nothing.
     ///
-    /// Refused is a text that is no message, for the first cause that applies, and with `OtherText` a
-    /// message under whose sender and number another text is kept. Neither takes a number, and nothing
-    /// changes, also where memory runs out or the store fails.
+    /// Refuses a text that is no message, for the first cause that applies, and with `OtherText` a message if another
+    /// text is kept under its sender and number. Neither uses up a number, and nothing changes, also if memory runs out
+    /// or the store fails.
     pub fn deliver(&mut self, text: &[u8]) -> Result<Held, DeliverFault>
         // The answer is a function of the text and of what is kept, unless memory ran out or the store failed.
         ensures step { K.is_trusted self.new → IsSound K.Keeper self.old → Leads (K.setup self.old) (K.content self.old) (delivery text.now result ∷ []) (K.content self.new) }
@@ -176,9 +176,8 @@ impl<K: Keeper> Office<K> {
         self.keeper.keeps_together()
     }
 
-    /// Takes texts in order, as `deliver` takes each, and keeps them together: the answer to each text. There is none where
-    /// the store keeps them best one by one. Then nothing changes, and neither does it where memory runs out or the store
-    /// fails.
+    /// Takes texts in order, like `deliver`, keeps them together, and answers each. There is no answer if the store
+    /// keeps them best one by one. Nothing changes then, nor if memory runs out or the store fails.
     pub fn deliver_together(&mut self, texts: &[MailText]) -> Result<Option<Vec<Reply>>, StoreFault>
         ensures steps { K.is_trusted self.new → IsSound K.Keeper self.old → IfOk result (λ replies. IfSome replies (λ rs. Leads (K.setup self.old) (K.content self.old) (deliveries texts.now rs.items) (K.content self.new))) }
         ensures answers { K.is_trusted self.new → IsSound K.Keeper self.old → IfOk result (λ replies. IfSome replies (λ rs. rs.items ≡ answers_to (K.setup self.old) (K.content self.old).kept texts.now)) }
@@ -201,8 +200,8 @@ impl<K: Keeper> Office<K> {
         replies
     }
 
-    /// Finishes the runs that are ready, in order. `Ok` means that none is left. It fails for want of
-    /// memory or of the store alone.
+    /// Finishes the ready runs, in order. `Ok` means that none is left. It fails only if memory runs out or the store
+    /// fails.
     pub fn settle(&mut self) -> Result<Progress, StoreFault>
         ensures steps { K.is_trusted self.new → IsSound K.Keeper self.old → Leads (K.setup self.old) (K.content self.old) (settling (length (K.content self.new).reports - length (K.content self.old).reports) result) (K.content self.new) }
         ensures ready { K.is_trusted self.new → IsSound K.Keeper self.old → IfOk result (λ progress. IsReadyCount (K.setup self.old) (K.content self.old).kept progress.ready) }
@@ -212,12 +211,12 @@ impl<K: Keeper> Office<K> {
         ensures kept { K.is_trusted self.new → IsSound K.Keeper self.old → (K.content self.new).kept ≡ (K.content self.old).kept }
         ensures grows { K.is_trusted self.new → IsSound K.Keeper self.old → (state_of K.Keeper self.old).finished ≤ (state_of K.Keeper self.new).finished }
         ensures only_ready { K.is_trusted self.new → IsSound K.Keeper self.old → IsReady (K.setup self.old) (K.content self.old).kept (state_of K.Keeper self.new).finished }
-        // The runs that were finished stand, also on a fault: their reports, and testing unless one more was finished.
+        // Finished runs stay, also on a fault: their reports, and testing unless another run finished.
         ensures runs { K.is_trusted self.new → IsSound K.Keeper self.old → RunsStand (K.content self.old) (K.content self.new) }
         // In every state all watched rows of testing are installable.
         ensures watched { K.is_trusted self.new → IsSound K.Keeper self.old → AllWatchedWork (K.setup self.new).archs (testing_after (K.setup self.new) (K.content self.new).kept (state_of K.Keeper self.new).finished).rows }
-        // Also on a fault the kept rows of facts are those of facts that stand for what the last finished run covers, with
-        // exactly the uploads that count beside the testing that it left.
+        // Also on a fault the kept rows of facts represent the cover of the last finished run, with exactly the uploads
+        // that count in the testing left by it.
         ensures facts { K.is_trusted self.new → IsSound K.Keeper self.old → KeepsFacts (K.setup self.new) (K.content self.new) }
         ensures setup { K.setup self.new ≡ K.setup self.old }
         ensures sound { K.is_trusted self.new → IsSound K.Keeper self.old → IsSound K.Keeper self.new }
@@ -239,7 +238,7 @@ impl<K: Keeper> Office<K> {
         })
     }
 
-    /// How many runs are ready, and how many are finished. It fails for want of memory or of the store alone.
+    /// How many runs are ready, and how many are finished. It fails only if memory runs out or the store fails.
     pub fn status(&mut self) -> Result<Progress, StoreFault>
         ensures ready { K.is_trusted self.new → IsSound K.Keeper self.old → IfOk result (λ progress. IsReadyCount (K.setup self.old) (K.content self.old).kept progress.ready) }
         ensures finished { K.is_trusted self.new → IsSound K.Keeper self.old → IfOk result (λ progress. progress.finished ≡ (state_of K.Keeper self.old).finished) }
@@ -261,13 +260,13 @@ impl<K: Keeper> Office<K> {
         Ok(Progress { ready, finished })
     }
 
-    /// How many runs are ready and finished, and what the first run that isn't ready waits for. It fails for want of memory
-    /// or of the store alone.
+    /// How many runs are ready and finished, and what the first run that isn't ready waits for. It fails only if memory
+    /// runs out or the store fails.
     pub fn waiting(&mut self) -> Result<Waiting, StoreFault>
         ensures ready { K.is_trusted self.new → IsSound K.Keeper self.old → IfOk result (λ waiting. IsReadyCount (K.setup self.old) (K.content self.old).kept waiting.progress.ready) }
         ensures finished { K.is_trusted self.new → IsSound K.Keeper self.old → IfOk result (λ waiting. waiting.progress.finished ≡ (state_of K.Keeper self.old).finished) }
         ensures awaited { K.is_trusted self.new → IsSound K.Keeper self.old → IfOk result (λ waiting. Awaits (K.setup self.old) (K.content self.old).kept (waiting.progress.ready + 1) waiting.awaited) }
-        // Where the order is kept, mail of a sender is lacking: a run that waits for nothing is ready.
+        // If the order is kept, some sender's mail is missing: a run that waits for nothing is ready.
         ensures some { K.is_trusted self.new → IsSound K.Keeper self.old → IfOk result (λ waiting. AwaitsSome waiting.awaited) }
         ensures same { K.is_trusted self.new → K.content self.new ≡ K.content self.old }
         ensures setup { K.setup self.new ≡ K.setup self.old }
@@ -279,11 +278,11 @@ impl<K: Keeper> Office<K> {
         waiting(self.alloc, &self.setup, &mut self.keeper, &mut self.counts)
     }
 
-    /// What the run behind the finished ones makes of the hint of this number of the release team, over what is kept of all
-    /// that the run covers: the lines of its update on the hint, or how the hint stands, and lines that show why it is
-    /// refused. There is none exactly if the run's order hasn't come. Nothing is kept, and no run is finished.
+    /// What the next run makes of the release team's hint of this number, over all kept mail that the run covers. The
+    /// text has the lines of its update on the hint, or the hint's state, and the lines on why it is refused. The
+    /// result is none exactly if the run's order hasn't come. Nothing is kept, and no run is finished.
     ///
-    /// It fails for want of memory or of the store alone.
+    /// It fails only if memory runs out or the store fails.
     pub fn hint_told(&mut self, number: u32) -> Result<Option<HintText>, StoreFault>
         ensures told { K.is_trusted self.new → IsSound K.Keeper self.old → IfOk result (λ found. IfSome found (IsHintTold (K.setup self.old) (K.content self.old).kept (state_of K.Keeper self.old).finished number)) }
         ensures ordered { K.is_trusted self.new → IsSound K.Keeper self.old
@@ -299,8 +298,8 @@ impl<K: Keeper> Office<K> {
         hint_told(self.alloc, &self.setup, &mut self.keeper, before, number)
     }
 
-    /// What the next run would decide if these hints were covered too, beside what it would decide without them. Nothing is
-    /// kept, and no run is finished. It fails for want of memory or of the store alone.
+    /// What the next run would decide if these hints were covered too, and what it would decide without them. Nothing
+    /// is kept, and no run is finished. It fails only if memory runs out or the store fails.
     pub fn try_hints(&mut self, hints: &[Text], terms: TrialOptions) -> Result<Trial, StoreFault>
         ensures tried { K.is_trusted self.new → IsSound K.Keeper self.old → IfOk result (IsTrial (K.setup self.old) (K.content self.old).kept (state_of K.Keeper self.old).finished terms hints.now) }
         ensures same { K.is_trusted self.new → K.content self.new ≡ K.content self.old }
@@ -321,8 +320,8 @@ impl<K: Keeper> Office<K> {
     }
 
     /// `easy` hints that the next run would do if they were covered too: those that free these sources, or all that the
-    /// search finds where none is named; there is no proposal where there is no date. An empty list is a proposal too.
-    /// Nothing is kept, and no run is finished. It fails for want of memory or of the store alone.
+    /// search finds if no source is named. Without a date there is no proposal. An empty list is a proposal too.
+    /// Nothing is kept, and no run is finished. It fails only if memory runs out or the store fails.
     pub fn propose(
         &mut self,
         terms: TrialOptions,
@@ -348,7 +347,7 @@ impl<K: Keeper> Office<K> {
         )
     }
 
-    /// The text of testing, as the last finished run left it. It fails for want of memory or of the store alone.
+    /// The text of testing, as the last finished run left it. It fails only if memory runs out or the store fails.
     pub fn testing_text(&mut self) -> Result<Text, StoreFault>
         ensures text { K.is_trusted self.new → IsSound K.Keeper self.old → IfOk result (λ text. text ≡ testing_text (K.setup self.old) (state_of K.Keeper self.old).finished (testing_after (K.setup self.old) (K.content self.old).kept (state_of K.Keeper self.old).finished)) }
         ensures same { K.is_trusted self.new → K.content self.new ≡ K.content self.old }
@@ -362,7 +361,7 @@ impl<K: Keeper> Office<K> {
         kept_testing_text(self.alloc, &self.setup, &mut self.keeper, finished)
     }
 
-    /// The excuses of a run, none of a run that isn't finished. It fails for want of memory or of the store alone.
+    /// The excuses of a run, none if it isn't finished. It fails only if memory runs out or the store fails.
     pub fn excuses_text(&mut self, run: u32) -> Result<Option<Text>, StoreFault>
         ensures text { K.is_trusted self.new → IsSound K.Keeper self.old → IfOk result (λ text. text ≡ option_map (λ reports. reports.excuses) (reports_at (state_of K.Keeper self.old) run)) }
         ensures same { K.is_trusted self.new → K.content self.new ≡ K.content self.old }
@@ -376,7 +375,7 @@ impl<K: Keeper> Office<K> {
         Ok(excuses_in(reports))
     }
 
-    /// The update of a run, none of a run that isn't finished. It fails for want of memory or of the store alone.
+    /// The update of a run, none if it isn't finished. It fails only if memory runs out or the store fails.
     pub fn update_text(&mut self, run: u32) -> Result<Option<Text>, StoreFault>
         ensures text { K.is_trusted self.new → IsSound K.Keeper self.old → IfOk result (λ text. text ≡ option_map (λ reports. reports.updates) (reports_at (state_of K.Keeper self.old) run)) }
         ensures same { K.is_trusted self.new → K.content self.new ≡ K.content self.old }
@@ -390,9 +389,9 @@ impl<K: Keeper> Office<K> {
         Ok(update_in(reports))
     }
 
-    /// The hints in force over all mail without a gap: a line for each thing that a hint names, with the hint's message,
-    /// whether a finished run covers it, and how it stands with what the hint names. Nothing is kept. It fails for want of
-    /// memory or of the store alone.
+    /// The hints in force over all mail without a gap. Each item of a hint has a line, with the number of the hint's
+    /// message, whether a finished run covers it, and the state of the item. Nothing is kept. It fails only if memory
+    /// runs out or the store fails.
     pub fn hints_text(&mut self) -> Result<Text, StoreFault>
         ensures text { K.is_trusted self.new → IsSound K.Keeper self.old → IfOk result (IsHintsText (K.setup self.old) (K.content self.old).kept (state_of K.Keeper self.old).finished) }
         ensures same { K.is_trusted self.new → K.content self.new ≡ K.content self.old }
@@ -405,8 +404,8 @@ impl<K: Keeper> Office<K> {
         hints_text(self.alloc, &self.setup, &mut self.keeper, &mut self.known)
     }
 
-    /// Unstable over all mail without a gap: its sources and its rows, in the lines of the text of testing. Nothing is kept.
-    /// It fails for want of memory or of the store alone.
+    /// Unstable over all mail without a gap: its sources and its rows, in the lines of the text of testing. Nothing is
+    /// kept. It fails only if memory runs out or the store fails.
     pub fn unstable_text(&mut self) -> Result<Text, StoreFault>
         ensures text { K.is_trusted self.new → IsSound K.Keeper self.old → IfOk result (IsUnstableText (K.setup self.old) (K.content self.old).kept (state_of K.Keeper self.old).finished) }
         ensures same { K.is_trusted self.new → K.content self.new ≡ K.content self.old }
@@ -419,8 +418,8 @@ impl<K: Keeper> Office<K> {
         unstable_text(self.alloc, &self.setup, &mut self.keeper, &mut self.known)
     }
 
-    /// Why a source stands where the last finished run left it, and whether unstable has it; none where no run is finished.
-    /// It fails for want of memory or of the store alone.
+    /// Why a source is where the last finished run left it, and whether unstable has it; none if no run is finished. It
+    /// fails only if memory runs out or the store fails.
     pub fn why_text(&mut self, source: &str) -> Result<Option<WhyText>, StoreFault>
         ensures why { K.is_trusted self.new → IsSound K.Keeper self.old → IfOk result (IsWhy (K.setup self.old) (K.content self.old).kept (state_of K.Keeper self.old).finished source.now) }
         ensures same { K.is_trusted self.new → K.content self.new ≡ K.content self.old }
@@ -439,8 +438,8 @@ impl<K: Keeper> Office<K> {
         )
     }
 
-    /// Up to which number each sender's mail is kept without a gap, in the setup's order, 0 where number 1 isn't kept. It fails
-    /// for want of memory or of the store alone.
+    /// The number up to which each sender's mail is kept without a gap, in the setup's order, 0 if number 1 isn't kept.
+    /// It fails only if memory runs out or the store fails.
     pub fn unbroken(&mut self) -> Result<Vec<u32>, StoreFault>
         ensures unbroken { K.is_trusted self.new → IsSound K.Keeper self.old → IfOk result (λ unbroken. AreUnbroken (K.content self.old).kept (slice_index unbroken.items)) }
         ensures same { K.is_trusted self.new → K.content self.new ≡ K.content self.old }
@@ -453,8 +452,8 @@ impl<K: Keeper> Office<K> {
         unbroken_counts(self.alloc, &self.setup, &mut self.keeper, &mut self.counts)
     }
 
-    /// The least kept number of a sender from `from` on, or none. The sender is told by its place in the setup. It fails
-    /// for want of memory or of the store alone.
+    /// The least kept number of a sender from `from` on, or none. `sender` is its place in the setup. It fails only if
+    /// memory runs out or the store fails.
     pub fn next_number(&mut self, sender: u32, from: u32) -> Result<Option<u32>, StoreFault>
         ensures next { K.is_trusted self.new → IfOk result (λ number. IsNextNumber (K.content self.old).kept sender from number) }
         ensures same { K.is_trusted self.new → K.content self.new ≡ K.content self.old }
@@ -467,8 +466,8 @@ impl<K: Keeper> Office<K> {
         stored::next_number(&mut self.keeper, sender, from)
     }
 
-    /// The kept text of a sender's number, or none. The sender is told by its place in the setup. It fails for want of
-    /// memory or of the store alone.
+    /// The kept text of a sender's number, or none. `sender` is its place in the setup. It fails only if memory runs
+    /// out or the store fails.
     pub fn kept_text(&mut self, sender: u32, number: u32) -> Result<Option<MailText>, StoreFault>
         ensures text { K.is_trusted self.new → IfOk result (λ text. text ≡ get (K.content self.old).kept (sender, number)) }
         ensures same { K.is_trusted self.new → K.content self.new ≡ K.content self.old }

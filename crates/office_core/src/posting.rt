@@ -1,4 +1,4 @@
-//! One delivery: a message finds its place free, its own text there, or another.
+//! One delivery: at a message's place there is nothing, its own text, or another.
 #![tactic(auto, using(office_core_orders::proofs::LastFacts::lasting))]
 
 ghost use Rattle.std.specs.Prelude.{is_ok, ◌≡◌, ◌<◌, ◌∷◌, ◌⊎◌, [], Ok, Err, IfOk, IfErr, OnOk, OnErr, bytes_eq, length, if◌then◌else◌};
@@ -14,7 +14,7 @@ use office_mail::{MailFault, Message, Setup, read_message};
 use office_store_keeper::{Keeper, MailText};
 use std::alloc::Global;
 
-/// What is answered where a text is kept already.
+/// The answer if a text is kept already.
 pub fn compare(held: Held, kept: &MailText, text: &[u8]) -> Result<Held, DeliverFault>
     ensures { result ≡ (if bytes_eq kept.now text.now then Ok held else Err DeliverFault.OtherText) }
 {
@@ -25,7 +25,7 @@ pub fn compare(held: Held, kept: &MailText, text: &[u8]) -> Result<Held, Deliver
     }
 }
 
-/// Keeps a message under its sender and number where they are free.
+/// Keeps a message under its sender and number if they are free.
 fn post<K: Keeper>(
     setup: &Setup,
     keeper: &mut K,
@@ -62,7 +62,7 @@ fn post<K: Keeper>(
     }
 }
 
-/// The message that a text is, with a copy of the text that others may share from here on.
+/// Reads the message in a text, and makes a copy of the text for others to share.
 fn read_shared(alloc: Global, setup: &Setup, text: &[u8]) -> Result<(Message, MailText), MailFault>
     ensures message { IfOk result (λ it. read setup.now text.now ≡ Ok it.0) }
     ensures text { IfOk result (λ it. it.1 ≡ text.now) }
@@ -79,7 +79,7 @@ fn read_shared(alloc: Global, setup: &Setup, text: &[u8]) -> Result<(Message, Ma
     }
 }
 
-/// Takes a text: keeps it where it is a message whose sender and number are free.
+/// Takes a text, and keeps it if it is a message with a free number.
 pub fn deliver<K: Keeper>(
     alloc: Global,
     setup: &Setup,

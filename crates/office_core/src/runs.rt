@@ -1,4 +1,4 @@
-//! Runs that are ready, and their finish.
+//! Ready runs, and how they are finished.
 #![tactic(auto, using(office_core_orders::proofs::LastFacts::lasting))]
 
 ghost use Rattle.std.specs.Prelude.{is_ok, ◌≡◌, ℕ, ◌+◌, ◌<◌, ◌≤◌, ◌↔◌, Some, IsTrue, IfOk, IfSome, OnErr, length, slice_index, if◌then◌else◌};
@@ -22,7 +22,7 @@ use office_store_keeper::Keeper;
 use std::alloc::Global;
 use testing_rules_laws::DelaysIn;
 
-/// Whether these delays, if any, are told by the release team, as all are where each text is kept under its own place.
+/// Whether these delays, if any, come from the release team, as they do if each text is kept under its own place.
 fn are_of_release(setup: &Setup, delays: Option<DelaysIn>) -> bool
     ensures { IsTrue result → (d : SomeDelays) → delays ≡ Some d → d.sender ≡ place_of_role TheRelease setup.now.senders }
 {
@@ -32,8 +32,8 @@ fn are_of_release(setup: &Setup, delays: Option<DelaysIn>) -> bool
     }
 }
 
-/// What is known, where a store that is trusted keeps it so: each number that was taken is counted, as are all that a
-/// ready run covers, and the delays are the release team's.
+/// What is known, if a trusted store keeps it so: every number taken is counted, like all that a ready run covers, and
+/// the delays are the release team's.
 fn counted(setup: &Setup, known: KnownFacts, counts: &[u32]) -> Option<KnownFacts>
     ensures same { IfSome result (λ left. left ≡ known) }
     ensures within { IfSome result (λ left. (s : ℕ) → slice_index left.taken.items s ≤ slice_index counts.now s) }
@@ -59,8 +59,7 @@ fn are_counted(numbers: &[u32], counts: &[u32]) -> bool
     true
 }
 
-/// The run behind the finished ones: the allocator that gives it memory, the setup of its office, and how many runs are
-/// finished.
+/// The next run: the allocator that gives it memory, the setup of its office, and the number of finished runs.
 #[derive(Clone, Copy)]
 struct NextRun<'a> {
     alloc: Global,
@@ -68,7 +67,7 @@ struct NextRun<'a> {
     finished: u32,
 }
 
-/// Finishes the next run where it is ready, and says whether it was.
+/// Finishes the next run if it is ready, and returns whether it was.
 fn finish_next<K: Keeper>(
     next: &NextRun<'_>,
     keeper: &mut K,
@@ -113,7 +112,7 @@ fn finish_next<K: Keeper>(
     }
 }
 
-/// Finishes the runs that are ready, in order, and says how many runs are finished then.
+/// Finishes the ready runs in order, and returns the number of finished runs.
 pub fn settle<K: Keeper>(
     alloc: Global,
     setup: &Setup,

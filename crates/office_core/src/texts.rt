@@ -10,7 +10,7 @@ use office_store_keeper::Keeper;
 use std::alloc::Global;
 use testing_rules_laws::Testing;
 
-/// The text of testing after a number of runs. It fails for want of memory alone.
+/// The text of testing after a number of runs. It fails only if memory runs out.
 #[tactic(auto, unfolding(office_core_facts::specs::Outcome::testing_text))]
 fn testing_text(
     alloc: Global,
@@ -25,7 +25,7 @@ fn testing_text(
     Ok(Text::from_string(text))
 }
 
-/// The text of the testing that is kept after a number of runs. Testing is given back with what speeds the next run.
+/// The text of the kept testing after a number of runs. Testing is returned with what speeds the next run.
 pub fn kept_testing_text<K: Keeper>(
     alloc: Global,
     setup: &Setup,

@@ -32,8 +32,8 @@ fn count_sender<K: Keeper>(
     Ok(count)
 }
 
-/// Up to which number each sender's mail is kept without a gap, in the setup's order: from what is counted so far on it is
-/// counted, so that what was counted once isn't again.
+/// The number up to which each sender's mail is kept without a gap, in the setup's order. It counts on from what is
+/// counted so far.
 pub fn unbroken_counts<K: Keeper>(
     alloc: Global,
     setup: &Setup,

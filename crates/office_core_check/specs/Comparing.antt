@@ -1,5 +1,5 @@
 -- Steps: no contract of a call that users make rests on this file.
--- What a store holds, compared with what an office made anew holds.
+-- What a store holds, compared with what a rebuilt office holds.
 use Rattle.std.specs.Prelude.{◌≡◌, ◌≢◌, ℕ, ◌+◌, ◌≤◌, Bool, true, false, length, Option, Some, None, option_map}
 use Rattle.office_mail.specs.Kept.{Kept}
 use Rattle.office_mail.specs.Lists.{Lists}
@@ -18,16 +18,16 @@ use Rattle.office_core_check.specs.declared.Checked.TheVariants.{Whole, Differs}
 use Rattle.office_core_check.specs.declared.Difference.{Difference}
 use Rattle.office_core_check.specs.declared.Difference.TheVariants.{Mail, RunMail, Excuses, Update, Testing, Facts, Tables}
 
--- the store in memory of an office made anew holds what an office leaves
+-- the store in memory of a rebuilt office holds what an office leaves
 abbrev pub IsAnew : Bounded → Type 0
 IsAnew store = IsOffice store.plain.setup (content_of store.plain)
 
--- the mail of a sender is taken, behind that of the earlier ones; or a text of it isn't a message of its place
+-- a sender's mail is taken, after that of earlier senders; or a text of it isn't a message of its place
 abbrev pub IsTaken : Lists → Kept → ℕ → Kept → Option ℕ → Type 0
 IsTaken setup kept sender front None = IsFront kept (sender + 1) 0 front
 IsTaken setup kept sender front (Some number) = IsForeign setup kept (sender, number)
 
--- why no office with so many finished runs is made anew of a store's mail: a text isn't a message of its place, or a run isn't ready
+-- why no office with that many finished runs is rebuilt from a store's mail: a text not of its place, or an unready run
 abbrev pub IsUnmade : Lists → Kept → ℕ → Difference → Type 0
 IsUnmade setup kept runs (Mail sender number) = IsForeign setup kept (sender, number)
 IsUnmade setup kept runs (RunMail run) = (1 ≤ run) × (run ≤ runs) × ((front : Kept) × IsFront kept (length setup.senders) 0 front × (IsReady setup front run → ⊥))
@@ -38,22 +38,22 @@ abbrev pub IsAllTaken : Lists → Kept → Kept → Option Difference → Type 0
 IsAllTaken setup kept front None = IsFront kept (length setup.senders) 0 front
 IsAllTaken setup kept front (Some difference) = (runs : ℕ) → IsUnmade setup kept runs difference
 
--- one of so many runs isn't ready
+-- one of that many runs isn't ready
 abbrev pub IsShort : Lists → Kept → ℕ → Difference → Type 0
 IsShort setup kept runs (RunMail run) = (1 ≤ run) × (run ≤ runs) × (IsReady setup kept run → ⊥)
 IsShort setup kept runs _ = ⊥
 
--- an office made anew took this front of a store's mail, which is all of the setup's senders; or why no office is made of that mail
+-- a rebuilt office took this part of a store's mail, that of all the setup's senders; or why none is built from it
 abbrev pub IsMade : Lists → Kept → ℕ → Kept → Option Difference → Type 0
 IsMade setup kept runs front None = IsFront kept (length setup.senders) 0 front
 IsMade setup kept runs front (Some difference) = IsUnmade setup kept runs difference
 
--- an office made anew took all of a store's mail and finished the runs up to this one; or the store isn't what an office leaves
+-- a rebuilt office took all of a store's mail and finished the runs up to this one; or no office leaves that store
 abbrev pub IsMadeAfter : Lists → Content → ℕ → Bounded → Bool → Type 0
 IsMadeAfter setup content run office true = HoldsAfter setup content.kept run office
 IsMadeAfter setup content run office false = IsOffice setup content → ⊥
 
--- such an office, if one is made; there is none only if the store isn't what an office leaves
+-- such an office, if one is built; there is none only if no office leaves that store
 abbrev pub IsMadeUpTo : Lists → Content → ℕ → Option Bounded → Type 0
 IsMadeUpTo setup content run None = IsOffice setup content → ⊥
 IsMadeUpTo setup content run (Some office) = HoldsAfter setup content.kept run office
@@ -65,7 +65,7 @@ IsRunDifference run these those (Some (Excuses k)) = (k ≡ run) × (option_map 
 IsRunDifference run these those (Some (Update k)) = (k ≡ run) × (option_map (λ r. r.updates) these ≢ option_map (λ r. r.updates) those)
 IsRunDifference run these those (Some _) = ⊥
 
--- a difference between what two stores hold of so many runs
+-- a difference between what two stores hold of that many runs
 abbrev pub IsUnlike : Content → Content → ℕ → Difference → Type 0
 IsUnlike these those runs (Mail sender number) = ⊥
 IsUnlike these those runs (RunMail run) = ⊥
@@ -75,7 +75,7 @@ IsUnlike these those runs Testing = these.testing ≢ those.testing
 IsUnlike these those runs Facts = (these.testing ≡ those.testing) × (rows_in these.facts ≢ rows_in those.facts)
 IsUnlike these those runs Tables = ⊥
 
--- the reports of so many runs are the same, or there is a difference
+-- the reports of that many runs are the same, or there is a difference
 abbrev pub AreRunsCompared : Content → Content → ℕ → Option Difference → Type 0
 AreRunsCompared these those runs None = (k : ℕ) → 1 ≤ k → k ≤ runs → item_from_one k these.reports ≡ item_from_one k those.reports
 AreRunsCompared these those runs (Some difference) = IsUnlike these those runs difference
@@ -86,7 +86,7 @@ IsCompared these those runs None =
     ((k : ℕ) → 1 ≤ k → k ≤ runs → item_from_one k these.reports ≡ item_from_one k those.reports) × (these.testing ≡ those.testing) × (rows_in these.facts ≡ rows_in those.facts)
 IsCompared these those runs (Some difference) = IsUnlike these those runs difference
 
--- what is found of a store of which all else is the same: it is legible and keeps no other mail, or not both
+-- the finding on a store that is the same in all else: it is legible and keeps no other mail, or not both
 abbrev pub IsReadAs : Type 0 → ℕ → Checked → Type 0
 IsReadAs both runs (Whole found) = (found ≡ runs) × both
 IsReadAs both runs (Differs Tables) = both → ⊥

@@ -1,4 +1,4 @@
--- The line that tells what a check of a store found, and the exit status.
+-- The line with the result of a check of a store, and the exit status.
 use Rattle.std.specs.Prelude.{ℕ, List, [], ◌∷◌, ◌++◌, codes, decimal}
 use Rattle.office_mail.specs.Lists.{Lists}
 use Rattle.office_core_orders.specs.Replies.{name_at}
@@ -22,11 +22,11 @@ abbrev pub checked_words : Lists → Checked → List ℕ
 checked_words setup (Whole runs) = codes "whole " ++ decimal runs ++ codes " runs"
 checked_words setup (Differs difference) = difference_words setup difference
 
--- the line that tells it
+-- the line with the result
 unfoldable pub checked_text : Lists → Checked → List ℕ
 checked_text setup checked = checked_words setup checked ++ 10 ∷ []
 
--- the exit status: 0 where the store is whole, 1 where it isn't
+-- the exit status: 0 if the store is whole, 1 if it isn't
 abbrev pub status_of_check : Checked → ℕ
 status_of_check (Whole runs) = 0
 status_of_check (Differs difference) = 1

@@ -1,4 +1,4 @@
--- What a check finds of a store: that it is legible and holds what an office leaves, or where it doesn't. That a store is checked is this office's own.
+-- What this office's check finds of a store: it is legible and holds what an office leaves, or where it doesn't.
 use Rattle.std.specs.Prelude.{◌≡◌, ◌≢◌, ℕ, ◌<◌, ◌≤◌, List, length, Option, Some, IsSome, option_map}
 use Rattle.std.specs.FinMap.{get}
 use Rattle.office_mail.specs.Kept.{Kept, Place, placed}
@@ -17,7 +17,7 @@ use Rattle.office_core_check.specs.declared.Difference.TheVariants.{Mail, RunMai
 abbrev pub AreOfSenders : Lists → Kept → Type 0
 AreOfSenders setup kept = (p : Place) → IsSome (get kept p) → p.0 < length setup.senders
 
--- the text that is kept at a place isn't a message of that place
+-- the text kept at a place isn't a message of that place
 abbrev pub IsForeign : Lists → Kept → Place → Type 0
 IsForeign setup kept p = (text : List ℕ) × (get kept p ≡ Some text) × (placed setup text ≢ Some (p, text))
 
@@ -32,8 +32,8 @@ update_at run reports = option_map (λ r. r.updates) (item_from_one run reports)
 abbrev pub IsFinished : Content → ℕ → Type 0
 IsFinished content run = (1 ≤ run) × (run ≤ length content.reports)
 
--- where a store, which is legible or not, doesn't hold what an office with its mail leaves: by a text, a run that isn't ready, a
--- report, testing, or the facts; or it isn't legible
+-- where a store, legible or not, doesn't hold what an office with its mail leaves: a text, an unready run, a report,
+-- testing, or the facts. Or it isn't legible
 abbrev pub IsDifference : Lists → Content → Type 0 → Difference → Type 0
 IsDifference setup content legible (Mail sender number) = IsForeign setup content.kept (sender, number)
 IsDifference setup content legible (RunMail run) = IsFinished content run × (IsReady setup content.kept run → ⊥)
@@ -43,8 +43,8 @@ IsDifference setup content legible Testing = content.testing ≢ testing_after s
 IsDifference setup content legible Facts = KeepsFacts setup content → ⊥
 IsDifference setup content legible Tables = legible → ⊥
 
--- What is found of a store, which is legible or not: it is legible and holds what an office leaves; or there is a difference,
--- where its mail is of senders of the setup.
+-- The finding on a store, legible or not. It is legible and holds what an office leaves; or there is a difference, if
+-- its mail is of senders of the setup.
 abbrev pub IsFound : Lists → Content → Type 0 → Checked → Type 0
 IsFound setup content legible (Whole runs) = (runs ≡ length content.reports) × legible × IsOffice setup content
 IsFound setup content legible (Differs difference) = AreOfSenders setup content.kept → IsDifference setup content legible difference

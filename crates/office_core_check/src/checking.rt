@@ -23,8 +23,8 @@ use office_mail::Setup;
 use office_store_keeper::Keeper;
 use std::alloc::Global;
 
-/// What is found of a store that holds so many runs, where all that was compared is the same: whether its tables have what no
-/// office leaves, or mail that the office made anew didn't take.
+/// The finding on a store of that many runs with no difference so far: whether its tables have what no office leaves,
+/// or mail that the rebuilt office didn't take.
 fn check_tables<K: Keeper>(keeper: &mut K, made: &Bounded, runs: u32) -> Result<Checked, StoreFault>
     ensures read { K.is_trusted keeper.new → len (content_of made.now.plain).kept ≤ len (K.content keeper.old).kept → IfOk result (IsReadAs (K.is_legible keeper.new × (len (K.content keeper.old).kept ≡ len (content_of made.now.plain).kept)) runs) }
     ensures looks { ReadsStore K.Keeper keeper.old keeper.new result }
@@ -36,8 +36,8 @@ fn check_tables<K: Keeper>(keeper: &mut K, made: &Bounded, runs: u32) -> Result<
     }
 }
 
-/// What is found of a store that holds so many runs, beside an office made anew that took its mail. It wants memory where that
-/// office finished fewer.
+/// The finding on a store of that many runs, compared with a rebuilt office that took its mail. If that office finished
+/// fewer runs, memory ran out.
 fn check_made<K: Keeper>(
     keeper: &mut K,
     made: &mut Bounded,
@@ -57,7 +57,7 @@ fn check_made<K: Keeper>(
     }
 }
 
-/// What is found of a store that holds so many runs, beside what was made anew of its mail, or by why nothing was.
+/// The finding on a store of that many runs, compared with what was rebuilt from its mail, or by why nothing was.
 fn check_beside<K: Keeper>(
     keeper: &mut K,
     made: &mut Bounded,
@@ -74,7 +74,7 @@ fn check_beside<K: Keeper>(
     }
 }
 
-/// What is found of a store that holds so many runs, beside an office made anew of its mail.
+/// The finding on a store of that many runs, compared with an office rebuilt from its mail.
 fn check_anew<K: Keeper>(
     keeper: &mut K,
     office: Office<Bounded>,
@@ -90,17 +90,17 @@ fn check_anew<K: Keeper>(
     check_beside(keeper, &mut made, unmade?, runs)
 }
 
-/// Makes all finished runs of a store anew, in memory, from the mail that it keeps, and finds where it differs first from what
-/// an office leaves that took this mail: a text that isn't a message of its sender and number, a run that isn't ready, the
-/// reports of each run, testing, or the rows of facts; and then whether the store keeps anything beside. The store stays as it
-/// is, but for what it has in memory to speed the next run.
+/// Rebuilds all finished runs of a store in memory, from the mail that it keeps, and finds its first difference from
+/// what an office with this mail leaves: a text not of its sender and number, a run that isn't ready, the reports of
+/// each run, testing, or the rows of facts. Then it checks that the store keeps nothing else. The store stays as it is,
+/// except for what it has in memory to speed the next run.
 ///
-/// It fails for want of memory or of the store alone.
+/// It fails only if memory runs out or the store fails.
 pub fn check<K: Keeper>(alloc: Global, setup: &Setup, keeper: &mut K) -> Result<Checked, StoreFault>
     requires lists { K.setup keeper.old ≡ setup.now }
     // What an office leaves is found whole.
     ensures whole { K.is_trusted keeper.new → K.is_legible keeper.old → IsOffice setup.now (K.content keeper.old) → IfOk result (λ checked. checked ≡ Whole (length (K.content keeper.old).reports)) }
-    // Whole is only what an office leaves. A difference is one where all mail is of senders of the setup.
+    // Whole is only what an office leaves. A difference is one if all mail is of senders of the setup.
     ensures found { K.is_trusted keeper.new → IfOk result (IsFound setup.now (K.content keeper.old) (K.is_legible keeper.new)) }
     ensures same { K.is_trusted keeper.new → K.content keeper.new ≡ K.content keeper.old }
     ensures setup { K.setup keeper.new ≡ K.setup keeper.old }

@@ -1,4 +1,4 @@
-//! What a store holds of its runs, compared with what an office made anew holds.
+//! What a store holds of its runs, compared with what a rebuilt office holds.
 #![tactic(auto, using(office_core_orders::proofs::LastFacts::lasting))]
 
 ghost use Rattle.std.specs.Prelude.{◌≡◌, ◌↔◌, ◌+◌, ◌≤◌, ℕ, IsTrue, Ok, IfOk, IfErr, length};
@@ -17,7 +17,7 @@ use office_store_keeper::{KeepFault, Keeper, Reports};
 use testing_rules_model::{Same, are_same};
 use testing_rules_suites::Testing;
 
-/// What a store in memory answers, whose faults are want of memory.
+/// The answer of a store in memory, which fails only if memory runs out.
 pub(crate) fn in_memory<T>(answer: Result<T, KeepFault>) -> Result<T, StoreFault>
     ensures ok { IfOk result (λ value. answer ≡ Ok value) }
     ensures fault { IfErr result (λ fault. fault ≡ NoMemory) }
@@ -52,7 +52,7 @@ fn run_difference(run: u32, these: &Option<Reports>, those: &Option<Reports>) ->
     }
 }
 
-/// How what a store holds of a run differs from what an office made anew holds, if it does.
+/// How what a store holds of a run differs from what a rebuilt office holds, if it does.
 fn compare_run<K: Keeper>(
     keeper: &mut K,
     made: &mut Bounded,
@@ -67,7 +67,7 @@ fn compare_run<K: Keeper>(
     Ok(run_difference(run, &these, &those))
 }
 
-/// The first difference between the reports of so many runs, if there is one.
+/// The first difference between the reports of that many runs, if there is one.
 fn compare_runs<K: Keeper>(
     keeper: &mut K,
     made: &mut Bounded,
@@ -95,7 +95,7 @@ fn is_same_testing(these: &Testing, those: &Testing) -> bool
     are_same(these.sources(), those.sources()) && are_same(these.rows(), those.rows())
 }
 
-/// Whether a store holds the testing of an office made anew.
+/// Whether a store holds the testing of a rebuilt office.
 fn has_testing<K: Keeper>(keeper: &mut K, made: &mut Bounded) -> Result<bool, StoreFault>
     ensures found { K.is_trusted keeper.new → IfOk result (λ same. IsTrue same ↔ ((K.content keeper.old).testing ≡ (content_of made.old.plain).testing)) }
     ensures same { content_of made.new.plain ≡ content_of made.old.plain }
@@ -106,7 +106,7 @@ fn has_testing<K: Keeper>(keeper: &mut K, made: &mut Bounded) -> Result<bool, St
     Ok(is_same_testing(&these, &those))
 }
 
-/// Whether a store holds the rows of facts of an office made anew.
+/// Whether a store holds the rows of facts of a rebuilt office.
 fn has_facts<K: Keeper>(keeper: &mut K, made: &mut Bounded) -> Result<bool, StoreFault>
     ensures found { K.is_trusted keeper.new → IfOk result (λ same. IsTrue same ↔ (rows_in (K.content keeper.old).facts ≡ rows_in (content_of made.old.plain).facts)) }
     ensures same { content_of made.new.plain ≡ content_of made.old.plain }
@@ -117,7 +117,7 @@ fn has_facts<K: Keeper>(keeper: &mut K, made: &mut Bounded) -> Result<bool, Stor
     Ok(are_same(these.as_slice(), those.as_slice()))
 }
 
-/// The first difference between what a store holds of so many runs and what an office made anew holds, if there is one.
+/// The first difference between what a store holds of that many runs and what a rebuilt office holds, if there is one.
 pub(crate) fn compare<K: Keeper>(
     keeper: &mut K,
     made: &mut Bounded,

@@ -1,4 +1,4 @@
-//! An office that is made anew from the mail of a store.
+//! An office that is rebuilt from the mail of a store.
 #![tactic(auto, using(office_core_orders::proofs::LastFacts::lasting))]
 
 ghost use Rattle.std.specs.Prelude.{◌≡◌, ◌≢◌, ◌≤◌, ℕ, IsTrue, false, Some, None, Ok, IfOk, IfErr, IfSome, OnOk};
@@ -21,8 +21,8 @@ use office_mail::{MAX_NUMBER, MailFault, Setup};
 use office_store_keeper::{Keeper, Letter};
 use std::alloc::Global;
 
-/// Whether an answer is that a message is held under this sender and number. Over a store in memory a fault is want of
-/// memory.
+/// Whether an answer is that a message is held under this sender and number. Over a store in memory a fault means that
+/// memory ran out.
 fn is_held(answer: Result<Held, DeliverFault>, sender: u32, number: u32) -> Result<bool, StoreFault>
     ensures own { IfOk result (λ own. IsTrue own → answer ≡ Ok (record { sender = sender; number = number })) }
     ensures few { IfOk result (λ own. IsTrue own → number ≤ 999_999_999) }
@@ -38,7 +38,7 @@ fn is_held(answer: Result<Held, DeliverFault>, sender: u32, number: u32) -> Resu
     }
 }
 
-/// Delivers a letter of a sender to an office made anew, and gives whether it is a message of that sender and number.
+/// Delivers a letter of a sender to a rebuilt office, and returns whether it is a message of that sender and number.
 fn take_letter(
     office: &mut Office<Bounded>,
     sender: u32,
@@ -57,8 +57,8 @@ fn take_letter(
     is_held(answer, sender, letter.number)
 }
 
-/// Delivers the kept mail of a sender to an office made anew, and gives the number of the first text that isn't a message of
-/// its place.
+/// Delivers the kept mail of a sender to a rebuilt office, and returns the number of the first text that isn't a
+/// message of its place.
 fn take_sender<K: Keeper>(
     keeper: &mut K,
     office: &mut Office<Bounded>,
@@ -80,8 +80,8 @@ fn take_sender<K: Keeper>(
     Ok(None)
 }
 
-/// Delivers the kept mail of all senders to an office made anew, and gives the place of the first text that isn't a message
-/// of its place.
+/// Delivers the kept mail of all senders to a rebuilt office, and returns the place of the first text that isn't a
+/// message of its place.
 fn take_mail<K: Keeper>(
     keeper: &mut K,
     office: &mut Office<Bounded>,
@@ -103,7 +103,7 @@ fn take_mail<K: Keeper>(
     Ok(None)
 }
 
-/// Finishes the ready runs of an office made anew, as far as it has room, and gives the first of so many that isn't ready.
+/// Finishes a rebuilt office's ready runs, as far as it has room, and returns the first of `runs` that isn't ready.
 fn settle_to(office: &mut Office<Bounded>, runs: u32) -> Option<Difference>
     ensures short { IsAnew office.old → IfSome result (IsShort office.old.plain.setup (content_of office.old.plain).kept runs) }
     ensures kept { IsAnew office.old → (content_of office.new.plain).kept ≡ (content_of office.old.plain).kept }
@@ -118,7 +118,7 @@ fn settle_to(office: &mut Office<Bounded>, runs: u32) -> Option<Difference>
     }
 }
 
-/// An office for this setup, over a store in memory that has room for so many runs.
+/// An office for this setup, over a store in memory with room for that many runs.
 pub(crate) fn new_office(
     alloc: Global,
     setup: &Setup,
@@ -131,8 +131,8 @@ pub(crate) fn new_office(
     Ok(Office::new(alloc, setup.copy(alloc)?, store))
 }
 
-/// Delivers the kept mail of a store to an office made anew, which finishes its first runs, as many as it has room for where
-/// memory lasts; and gives why no office takes this mail and finishes so many runs, if none does.
+/// Delivers the kept mail of a store to a rebuilt office, which finishes its first runs, as many as it has room for
+/// while memory lasts. Returns why no office takes this mail and finishes that many runs, if none does.
 pub(crate) fn make_anew<K: Keeper>(
     keeper: &mut K,
     office: &mut Office<Bounded>,

@@ -1,4 +1,4 @@
-//! An office in memory as an earlier run of a store left it, and what offices tell of a run.
+//! An office in memory as an earlier run of a store left it, and what offices report on a run.
 #![tactic(auto, using(office_core_orders::proofs::LastFacts::lasting))]
 
 ghost use Rattle.std.specs.Prelude.{◌≡◌, ◌↔◌, ◌≤◌, ℕ, List, Option, Some, IsTrue, is_ok, IfOk, IfErr, OnOk, length};
@@ -26,14 +26,14 @@ use office_mail::Setup;
 use office_store_keeper::Keeper;
 use std::alloc::Global;
 
-/// Whether a run is one of so many finished ones.
+/// Whether a run is one of that many finished ones.
 fn is_finished(run: u32, finished: u32) -> bool
     ensures { IsTrue result ↔ ((1 ≤ run) × (run ≤ finished)) }
 {
     1 <= run && run <= finished
 }
 
-/// Looks whether an office made anew has finished so many runs. It wants memory where it hasn't.
+/// Checks that a rebuilt office has finished that many runs. If it hasn't, memory ran out.
 fn has_finished(office: &mut Office<Bounded>, runs: u32) -> Result<(), StoreFault>
     ensures all { IsAnew office.old → OnOk result (length (content_of office.new.plain).reports ≡ runs) }
     ensures same { content_of office.new.plain ≡ content_of office.old.plain }
@@ -46,8 +46,8 @@ fn has_finished(office: &mut Office<Bounded>, runs: u32) -> Result<(), StoreFaul
     }
 }
 
-/// Delivers the kept mail of a store to an office made anew, which finishes its first runs up to this one, and gives whether
-/// an office can. It wants memory where fewer are finished.
+/// Delivers the kept mail of a store to a rebuilt office, which finishes its first runs up to this one, and returns
+/// whether an office can. If fewer are finished, memory ran out.
 fn make_after<K: Keeper>(
     keeper: &mut K,
     office: &mut Office<Bounded>,
@@ -65,7 +65,7 @@ fn make_after<K: Keeper>(
     Ok(true)
 }
 
-/// An office made anew, once it took the kept mail of a store and finished its first runs up to this one; none where no
+/// A rebuilt office after it took the kept mail of a store and finished its first runs up to this one; none if no
 /// office does that.
 fn made_after<K: Keeper>(
     keeper: &mut K,
@@ -84,8 +84,8 @@ fn made_after<K: Keeper>(
     }
 }
 
-/// An office in memory with this setup, once it took the kept mail of a store and finished its first runs up to this one; none
-/// where no office does that.
+/// An office in memory with this setup after it took the kept mail of a store and finished its first runs up to this
+/// one; none if no office does so.
 fn made_up_to<K: Keeper>(
     alloc: Global,
     setup: &Setup,
@@ -99,18 +99,18 @@ fn made_up_to<K: Keeper>(
     made_after(keeper, office, run)
 }
 
-/// An office in memory as a finished run of a store left it: with the same setup, it took all mail that the store keeps, and
-/// finished exactly the runs up to this one. There is none where the run isn't finished, nor where the store isn't what an
-/// office with its mail leaves and no office can take that mail and finish so many runs. The store stays as it is.
+/// An office in memory as a finished run of a store left it. With the same setup, it took all mail that the store
+/// keeps, and finished exactly the runs up to this one. There is none if the run isn't finished, nor if the store isn't
+/// what an office with its mail leaves and no office can take that mail and finish that many runs. The store stays.
 ///
-/// It fails for want of memory or of the store alone.
+/// It fails only if memory runs out or the store fails.
 pub fn office_after<K: Keeper>(
     alloc: Global,
     setup: &Setup,
     keeper: &mut K,
     run: u32,
 ) -> Result<Option<Office<Bounded>>, StoreFault>
-    // An office keeps mail of senders of its setup alone.
+    // An office keeps only mail of senders of its setup.
     ensures after { K.is_trusted keeper.new → AreOfSenders setup.now (K.content keeper.old).kept → IfOk result (IsAfter setup.now (K.content keeper.old) run) }
     ensures same { K.is_trusted keeper.new → K.content keeper.new ≡ K.content keeper.old }
     ensures setup { K.setup keeper.new ≡ K.setup keeper.old }
@@ -127,19 +127,19 @@ pub fn office_after<K: Keeper>(
     }
 }
 
-/// An office in memory as it was before a finished run of a store: with the same setup, it took all mail that the store
-/// keeps, and finished exactly the runs before this one. There is none where the run isn't finished, nor where the store
-/// isn't what an office with its mail leaves and no office can take that mail and finish so many runs. The store stays as it
-/// is.
+/// An office in memory as it was before a finished run of a store. With the same setup, it took all mail that the store
+/// keeps, and finished exactly the runs before this one. There is none if the run isn't finished, nor if the store
+/// isn't what an office with its mail leaves and no office can take that mail and finish that many runs. The store
+/// stays as it is.
 ///
-/// It fails for want of memory or of the store alone.
+/// It fails only if memory runs out or the store fails.
 pub fn office_before<K: Keeper>(
     alloc: Global,
     setup: &Setup,
     keeper: &mut K,
     run: u32,
 ) -> Result<Option<Office<Bounded>>, StoreFault>
-    // An office keeps mail of senders of its setup alone.
+    // An office keeps only mail of senders of its setup.
     ensures earlier { K.is_trusted keeper.new → AreOfSenders setup.now (K.content keeper.old).kept → IfOk result (IsBefore setup.now (K.content keeper.old) run) }
     ensures same { K.is_trusted keeper.new → K.content keeper.new ≡ K.content keeper.old }
     ensures setup { K.setup keeper.new ≡ K.setup keeper.old }
@@ -157,11 +157,11 @@ pub fn office_before<K: Keeper>(
     }
 }
 
-/// Why a source stands where a run left it, by an office of which that is the last finished run. Nothing is told by any
-/// other office, nor where no run is finished: so the last run of a store is told over the store, and an earlier one
-/// over what `office_after` gives.
+/// Why a source is where a run left it, from an office with that as its last finished run. Any other office reports
+/// nothing, nor does one without a finished run. So ask the store itself about its last run, and the result of
+/// `office_after` about an earlier one.
 ///
-/// It fails for want of memory or of the store alone.
+/// It fails only if memory runs out or the store fails.
 pub fn why_of_run<K: Keeper>(
     office: &mut Office<K>,
     run: u32,
@@ -183,8 +183,7 @@ pub fn why_of_run<K: Keeper>(
     }
 }
 
-/// What an office that is as a run left it tells of a source for that run is why the source stands where that run left
-/// it.
+/// If an office is as a run left it, its report on a source for that run is why the source is where that run left it.
 pub fn told_after_run()
     ensures { (setup : Lists) (content : Content) (run : ℕ) (office : Bounded) (source : List ℕ) (why : Option WhyText) → IsAfter setup content run (Some office) →
         IsToldOfRun office.plain.setup (content_of office.plain).kept (length (content_of office.plain).reports) run source why → IsToldAfter setup content.kept run source why }

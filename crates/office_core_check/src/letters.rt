@@ -9,7 +9,7 @@ ghost use Rattle.office_core_check.specs.Reading.{IsFrom, IsLetterFrom, IsNextLe
 use office_core_orders::StoreFault;
 use office_store_keeper::{Keeper, Letter};
 
-/// A number, where it isn't below another.
+/// A number, if it isn't below another.
 fn number_from(from: u32, number: Option<u32>) -> Option<u32>
     ensures from { IsFrom from result }
     ensures same { IsFrom from number → result ≡ number }
@@ -20,7 +20,7 @@ fn number_from(from: u32, number: Option<u32>) -> Option<u32>
     }
 }
 
-/// The least kept number of a sender from one on, or none.
+/// The least kept number of a sender from a number on, or none.
 fn next_number<K: Keeper>(keeper: &mut K, sender: u32, from: u32) -> Result<Option<u32>, StoreFault>
     ensures next { K.is_trusted keeper.new → IfOk result (λ number. IsNextNumber (K.content keeper.old).kept sender from number) }
     ensures from { IfOk result (IsFrom from) }

@@ -1,6 +1,6 @@
-//! Whether a store holds what an office leaves, and nothing beside: all its runs are made anew from the mail that it keeps,
-//! and what it holds of them is compared. And an office in memory as an earlier run of a store left it, which is made of the same
-//! mail; and what an office tells of a source for a run.
+//! Whether a store holds what an office leaves, and nothing else: all its runs are rebuilt from the mail that it keeps,
+//! and what it holds of them is compared. Also an office in memory as an earlier run of a store left it, rebuilt from
+//! the same mail; and what an office reports on a source for a run.
 #![tactic(auto)]
 
 mod checking;
@@ -16,29 +16,29 @@ pub use earlier::{office_after, office_before, told_after_run, why_of_run};
 pub use memory::Bounded;
 pub use telling::{check_status, checked_text};
 
-/// Where a store differs first from an office that took the same mail.
+/// The first difference of a store from an office that took the same mail.
 #[derive(Clone, Copy, Debug, PartialEq, Eq)]
 pub enum Difference {
-    /// The text that is kept there isn't a message of that sender and number.
+    /// The text kept there isn't a message of that sender and number.
     Mail { sender: u32, number: u32 },
     /// The run is finished, but it isn't ready: mail that it covers isn't kept.
     RunMail { run: u32 },
-    /// The excuses of the run are others.
+    /// The excuses of the run differ.
     Excuses { run: u32 },
-    /// The update of the run is another.
+    /// The update of the run differs.
     Update { run: u32 },
-    /// Testing is another.
+    /// Testing differs.
     Testing,
-    /// The rows of facts are others.
+    /// The rows of facts differ.
     Facts,
-    /// All this is the same, but beside it the store keeps what no office leaves, or it doesn't read as an office writes it.
+    /// All this is the same, but the store also keeps what no office leaves, or it doesn't read as an office writes it.
     Tables,
 }
 
 /// What a check of a store found.
 #[derive(Clone, Copy, Debug, PartialEq, Eq)]
 pub enum Checked {
-    /// It holds what an office leaves, which finished so many runs.
+    /// It holds what an office with that many finished runs leaves.
     Whole { runs: u32 },
     /// It doesn't.
     Differs(Difference),

@@ -12,7 +12,7 @@ use std::alloc::Global;
 use testing_rules_model::FactRows;
 use testing_rules_suites::Testing;
 
-/// A store in memory with room for so many finished runs: for one more it has no memory. It fails for want of memory alone.
+/// A store in memory with room for that many finished runs: one more exhausts it. It fails only if memory runs out.
 #[derive(Drop)]
 pub struct Bounded {
     plain: Plain,
@@ -20,7 +20,7 @@ pub struct Bounded {
 }
 
 impl Bounded {
-    /// A store for this setup with room for so many runs, with no mail, no run and no facts.
+    /// A store for this setup with room for that many runs, with no mail, no run and no facts.
     pub(crate) fn new(alloc: Global, setup: &Setup, most: u32) -> Result<Bounded, NoMemory>
         ensures setup { IfOk result (λ store. store.plain.setup ≡ setup.now) }
         ensures content { IfOk result (λ store. content_of store.plain ≡ no_content) }

@@ -40,7 +40,7 @@ fn checked_words(alloc: Global, setup: &Setup, checked: Checked) -> Result<Strin
     }
 }
 
-/// The line that tells what a check found: `whole N runs`, or else the difference as `mail SENDER NUMBER`, `run K mail`,
+/// The line with the result of a check: `whole N runs`, or else the difference as `mail SENDER NUMBER`, `run K mail`,
 /// `run K excuses`, `run K update`, `testing`, `facts` or `tables`.
 #[tactic(auto, unfolding(crate::specs::Telling::checked_text))]
 pub fn checked_text(alloc: Global, setup: &Setup, checked: Checked) -> Result<Text, NoMemory>
@@ -51,7 +51,7 @@ pub fn checked_text(alloc: Global, setup: &Setup, checked: Checked) -> Result<Te
     Ok(Text::from_string(text))
 }
 
-/// The exit status of what a check found: 0 where the store is whole, 1 where it isn't.
+/// The exit status of a check: 0 if the store is whole, 1 if it isn't.
 pub fn check_status(checked: Checked) -> u8
     ensures { result ≡ status_of_check checked }
 {

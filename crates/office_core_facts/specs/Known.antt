@@ -21,15 +21,15 @@ use Rattle.office_core_orders.specs.Ready.{HasEach}
 abbrev pub said_all : Lists → Kept → Covered
 said_all setup kept = filter_map (item_at setup) (entries kept)
 
--- Facts on the way from the kept rows: kept mail says them, their lists are in order, and their rows are the kept ones with
--- what came and without what left.
+-- Facts on the way from the kept rows: kept mail says them, and their lists are in order. Their rows are the kept ones
+-- with what came and without what left.
 pub record AreUnderWay (setup : Lists) (content : Content) (f : FactLists) : Type 0 where
   pub tells : Tells f (said_all setup content.kept)
   pub by_message : AreByMessage f.uploads
   pub rows : IsChangedFrom (count_in content.facts) f
 
--- The facts of the last finished run, as they are kept, and the numbers up to which it covered each sender. The orders of all
--- finished runs are kept, so that later mail changes no cover of theirs.
+-- The facts of the last finished run, as they are kept, and the numbers up to which it covered each sender. The orders
+-- of all finished runs are kept, so later mail doesn't change what they cover.
 pub record AreKnown (setup : Lists) (content : Content) (known : KnownFacts) : Type 0 where
   pub numbers : HasEach content.kept known.taken.items
   pub orders : (j : ℕ) → 1 ≤ j → j ≤ length content.reports → IsSome (order_at setup content.kept j)

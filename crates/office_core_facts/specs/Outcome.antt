@@ -42,7 +42,7 @@ item_at setup e = item_in_answer e.0 (read setup e.1)
 unfoldable pub covered_items : Lists → Kept → ℕ → Covered
 covered_items setup kept k = filter_map (item_at setup) (entries (covered setup kept k))
 
--- what a run decides: testing as it leaves it, and the two reports
+-- what a run decides: testing after it, and the two reports
 pub record Outcome : Type 0 where
   pub testing : Testing
   pub excuses : List ℕ
@@ -60,8 +60,8 @@ reported setup run date excuses update = record {
   updates = texts.update_text setup.archs run date update.decisions;
 }
 
--- The rules of a run: from its number, its date, its covered messages and the testing before it. First come the
--- excuses, and then what is decided by them (Debian Developer's Reference 5.13.2).
+-- The rules of a run, from its number, its date, its covered messages and the testing before it. First come the
+-- excuses, then what is decided from them (Debian Developer's Reference 5.13.2).
 unfoldable pub outcome : Lists → ℕ → Date → Covered → Testing → Outcome
 outcome setup run date mail testing =
     let excuses : List Excuse = excuses_of setup.archs mail testing date in
@@ -71,7 +71,7 @@ outcome setup run date mail testing =
 abbrev pub at_start : Outcome
 at_start = record { testing = record { sources = []; rows = [] }; excuses = []; updates = [] }
 
--- where a date is known; there is none where there is no order
+-- the outcome if a date is known; there is none without an order
 abbrev pub outcome_on : Lists → ℕ → Option Date → Covered → Testing → Outcome
 outcome_on setup run None mail testing = at_start
 outcome_on setup run (Some date) mail testing = outcome setup run date mail testing

@@ -20,21 +20,21 @@ pub record IsUnbroken (kept : Kept) (sender number : ℕ) : Type 0 where
   pub each : HasNumbers kept sender number
   pub gap : get kept (sender, number + 1) ≡ None
 
--- what the kept messages say that such numbers cover
+-- what the kept messages covered by such numbers say
 unfoldable pub items_within : Lists → Kept → (ℕ → ℕ) → Covered
 items_within setup kept covers = filter_map (item_at setup) (entries (retain_keys kept (is_covered covers)))
 
--- All that every sender sent without a gap: what a run sees whose order covers all of it.
+-- All that every sender sent without a gap: what a run sees if its order covers all of it.
 pub record IsSeen (setup : Lists) (kept : Kept) (seen : Covered) : Type 0 where
   pub covers : ℕ → ℕ
   pub unbroken : (s : ℕ) → s < length setup.senders → IsUnbroken kept s (covers s)
   pub is : seen ≡ items_within setup kept covers
 
--- A trial covers all that the release team sent without a gap, or that every sender did. It covers no further run order.
+-- A trial covers all that the release team, or every sender, sent without a gap. It covers no further run order.
 abbrev pub covers_all : Lists → Bool → ℕ → Bool
 covers_all setup all sender = (all || (sender == release setup)) && not (sender == runs setup)
 
--- how far a trial behind run k covers a sender: as far as its mail is unbroken, or as far as the runs up to k cover it
+-- how far a trial after run k covers a sender: as far as its mail is unbroken, or as far as the runs up to k cover it
 pub record IsTrialCover (setup : Lists) (kept : Kept) (k : ℕ) (all : Bool) (sender number : ℕ) : Type 0 where
   pub unbroken : covers_all setup all sender ≡ true → IsUnbroken kept sender number
   pub known : covers_all setup all sender ≡ false → number ≡ cover setup kept k sender

@@ -28,15 +28,15 @@ use Rattle.testing_rules_model.specs.Watched.{AllWatchedWork}
 abbrev pub state_of : {K : Type 0} → Ghosts K → K → OfficeState
 state_of keeper store = record { setup = keeper.setup store; kept = (keeper.content store).kept; finished = length (keeper.content store).reports }
 
--- The kept rows of facts are those of facts that stand for the covered mail of the last finished run beside the testing that it
--- left, with exactly the uploads that count there.
+-- The kept rows of facts represent the covered mail of the last finished run over the testing that it left, with
+-- exactly the uploads that count there.
 pub record KeepsFacts (setup : Lists) (content : Content) : Type 0 where
   pub facts : FactLists
   pub kept : KeptFacts facts (covered_items setup content.kept (length content.reports)) content.testing
   pub rows : (r : FactRow) → times r (rows_of facts) ≡ count_in content.facts r
 
--- Each text is kept under a place that a message may have, which is its own; the finished runs are ready, their reports stand,
--- and so do the testing that they left, where all watched rows are installable, and the facts of what they cover.
+-- Each text is kept at its own place, which a message may have. The finished runs are ready. Their reports are as
+-- decided, so is testing, whose watched rows are all installable, and so are the facts of what they cover.
 pub record IsOffice (setup : Lists) (content : Content) : Type 0 where
   pub places : (p : Place) → IsSome (get content.kept p) → IsPlace setup p
   pub texts : AreOwnTexts setup content.kept
@@ -62,7 +62,7 @@ abbrev pub answer_by : Kept → List ℕ → Result Message MailFault → Result
 answer_by kept text (Ok message) = answer_at text message (get kept (place_of message))
 answer_by kept text (Err fault) = Err (Mail fault)
 
--- the answer to a delivery: the sender and the number of a text that is kept now, the refusal of any other
+-- the answer to a delivery: the sender and number of a text that is kept then, the refusal of any other
 unfoldable pub answer_to : Lists → Kept → List ℕ → Result Held DeliverFault
 answer_to setup kept text = answer_by kept text (read setup text)
 

@@ -1,5 +1,5 @@
 -- Steps: no contract of a call that users make rests on this file.
--- Facts that are put back from their rows, and uploads that are taken again.
+-- Facts put back from their rows, and uploads taken again.
 use Rattle.std.specs.Prelude.{◌≡◌, ◌≤◌, ◌<◌, ◌+◌, ◌⊎◌, ℕ, List, Option, Some, None, map, slice_index_or, Contains}
 use Rattle.std.specs.FinMap.{get}
 use Rattle.testing_rules_items.specs.Words.{Text}
@@ -30,7 +30,7 @@ IsItemAt s sender number item = (item ≡ Nothing) ⊎ Contains s (said sender n
 abbrev pub IsSaidItem : Option CoveredItem → ℕ → ℕ → Item → Type 0
 IsSaidItem says sender number item = (says ≡ Some (said sender number item)) ⊎ ((says ≡ None) × (item ≡ Nothing))
 
--- a row is of the same sender as another, and its number is less than so many above the other's
+-- a row is of the same sender as another, and its number is less than `span` above the other's
 pub record IsNear (span : ℕ) (first row : FactRow) : Type 0 where
   pub sender : row.sender ≡ first.sender
   pub low : first.number ≤ row.number
@@ -40,16 +40,16 @@ pub record IsNear (span : ℕ) (first row : FactRow) : Type 0 where
 abbrev pub AreNear : ℕ → FactRow → List FactRow → ℕ → ℕ → Type 0
 AreNear span first rows start end = (k : ℕ) (d : FactRow) → start ≤ k → k < end → IsNear span first (slice_index_or rows k d)
 
--- Facts had these rows put back, each with the item of its message or one that says nothing; so the messages that said the
--- facts say them still.
+-- These rows were put back into the facts, each with the item of its message or one that says nothing; so messages that
+-- said the facts still say them.
 pub record HavePutBack (s : Covered) (rows : List FactRow) (first now : FactLists) : Type 0 where
   pub given : List Given
   pub same : map (λ x. x.0) given ≡ rows
   pub become : now ≡ restored_all given first
   pub tells : Tells first s → Tells now s
 
--- Facts took the uploads of these names among some messages again: they stand for what they stood for where that has one
--- message of each number, and these among them; and these uploads are there.
+-- The facts took the uploads of these names among some messages again. They represent what they did before, if that has
+-- one message of each number, these among them; and these uploads are in the facts.
 pub record TookAgain (names : List Text) (again : Covered) (first now : FactLists) : Type 0 where
   pub stand : (s : Covered) (t : Suite) → HasOneOfEach s → ((m : CoveredItem) → Contains again m → Contains s m) → StandsFor first s t → StandsFor now s t
   pub there : (u : UploadIn) → Contains (uploads_in again) u → Contains names u.source → Contains now.uploads u

@@ -22,7 +22,7 @@ unfoldable pub said_by : Lists → Kept → ℕ → ℕ → Covered
 said_by setup kept sender zero = []
 said_by setup kept sender (suc n) = said_at setup kept (sender, suc n) ++ said_by setup kept sender n
 
--- what letters of a sender say, the last one first, and behind it what was said before
+-- what letters of a sender say, the last one first, and then what was said before
 unfoldable pub said_in : Lists → ℕ → List Letter → Covered → Covered
 said_in setup sender [] before = before
 said_in setup sender (letter ∷ letters) before = said_in setup sender letters (option_to_list (item_at setup ((sender, letter.number), letter.text)) ++ before)

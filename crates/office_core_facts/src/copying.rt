@@ -1,4 +1,4 @@
-//! What is known of the finished runs, in a copy that is taken on as far as covers go: what is known stays as it is.
+//! A copy of what is known of the finished runs, taken on as far as covers reach: the original stays as it is.
 #![tactic(auto, using(office_core_orders::proofs::LastFacts::lasting))]
 
 ghost use Rattle.std.specs.Prelude.{◌≡◌, ◌≤◌, ◌<◌, ℕ, IfOk, IfErr, IfSome, length, slice_index};
@@ -28,8 +28,8 @@ fn copy_known(alloc: Global, known: &KnownFacts) -> Result<KnownFacts, NoMemory>
     Ok(KnownFacts { facts, taken })
 }
 
-/// A copy of what is known of the finished runs, taken on up to these covers. Where what is known goes further than these
-/// orders cover, it is what the store keeps, taken on so.
+/// A copy of what is known of the finished runs, taken on up to these covers. If what is known goes further than these
+/// orders cover, the store's facts are taken on instead.
 fn copied_to<K: Keeper>(
     alloc: Global,
     setup: &Setup,
@@ -52,10 +52,10 @@ fn copied_to<K: Keeper>(
     Ok(copy)
 }
 
-/// The facts up to these covers, which aren't below those of the finished runs, of which these are the orders: by a copy of
-/// what is known of these runs, or else by what the store keeps.
+/// The facts up to these covers, given the orders of the finished runs, which cover no more. They begin with a copy of
+/// what is known of these runs, or else with what the store keeps.
 ///
-/// It fails for want of memory or of the store alone.
+/// It fails only if memory runs out or the store fails.
 pub fn known_to<K: Keeper>(
     alloc: Global,
     setup: &Setup,

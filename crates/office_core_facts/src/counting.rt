@@ -1,4 +1,4 @@
-//! How far a sender's mail goes on without a gap.
+//! How far a sender's mail continues without a gap.
 #![tactic(auto, using(office_core_orders::proofs::LastFacts::lasting))]
 
 ghost use Rattle.std.specs.Prelude.{◌≡◌, ◌≤◌, IfOk};
@@ -13,7 +13,7 @@ use office_core_orders::stored::block_end;
 use office_mail::MAX_NUMBER;
 use office_store_keeper::Keeper;
 
-/// The number up to which a sender's mail goes on without a gap behind another number.
+/// The number up to which a sender's mail continues without a gap after another number.
 fn count_behind<K: Keeper>(keeper: &mut K, sender: u32, known: u32) -> Result<u32, StoreFault>
     ensures goes_on { K.is_trusted keeper.new → IfOk result (λ last. GoesOn (K.content keeper.old).kept sender known last 999_999_999) }
     ensures looks { ReadsStore K.Keeper keeper.old keeper.new result }
@@ -40,8 +40,8 @@ fn at_least(number: u32, least: u32) -> u32
     if number < least { least } else { number }
 }
 
-/// The number up to which a sender's mail goes on without a gap, where it does so up to a number that is known; it isn't
-/// below that.
+/// The number up to which a sender's mail continues without a gap. It does so up to the known number, and the result
+/// isn't below that.
 pub(crate) fn count_on<K: Keeper>(
     keeper: &mut K,
     sender: u32,

@@ -1,4 +1,4 @@
-//! The facts of a run's covered messages: taken from the store, on from those of the run before.
+//! The facts of a run's covered messages: those of the run before, with further messages from the store.
 #![tactic(auto, using(office_core_orders::proofs::LastFacts::lasting))]
 
 ghost use Rattle.std.specs.Prelude.{◌≡◌, ◌≢◌, ℕ, ◌+◌, ◌<◌, ◌≤◌, ◌++◌, [], Contains, Some, IsTrue, IfOk, IfErr, IfSome, OnOk, length, option_to_list, slice_index};
@@ -40,8 +40,8 @@ pub struct KnownFacts {
     pub taken: Vec<u32>,
 }
 
-/// The facts of the messages that these orders cover. What was known before is taken over, or else what the store
-/// keeps, so that each message is taken by the facts once and not at each run.
+/// The facts of the messages that these orders cover. They begin with what was known before, or else with what the
+/// store keeps, so that each message is taken once and not at each run.
 pub fn facts<K: Keeper>(
     alloc: Global,
     setup: &Setup,
@@ -64,8 +64,8 @@ pub fn facts<K: Keeper>(
     Ok(known)
 }
 
-/// What is known of the finished runs: that of the run before, where it goes no further than these orders cover, and
-/// else what the store keeps.
+/// What is known of the finished runs: that of the run before, if it goes no further than these orders cover, and else
+/// what the store keeps.
 fn known_before<K: Keeper>(
     alloc: Global,
     setup: &Setup,
@@ -86,7 +86,7 @@ fn known_before<K: Keeper>(
     }
 }
 
-/// What is known, where it goes no further than these orders cover: so it is from one run to the next, which covers
+/// What is known, if it goes no further than these orders cover. That holds from one run to the next, which covers
 /// more.
 fn known_within(before: Option<KnownFacts>, orders: &[RunOrder]) -> Option<KnownFacts>
     ensures same { IfSome result (λ known. before ≡ Some known) }
@@ -101,8 +101,8 @@ fn known_within(before: Option<KnownFacts>, orders: &[RunOrder]) -> Option<Known
     }
 }
 
-/// What the store keeps of the finished runs, whose orders are all but the last of these. Where its rows aren't what
-/// kept mail says, nothing is known.
+/// What the store keeps of the finished runs, whose orders are all but the last of these. If its rows aren't what kept
+/// mail says, nothing is known.
 fn begin<K: Keeper>(
     alloc: Global,
     setup: &Setup,
@@ -123,8 +123,8 @@ fn begin<K: Keeper>(
     )
 }
 
-/// What is known of the finished runs, of which these are the orders: the facts whose rows the store keeps. Where these
-/// aren't what kept mail says, nothing is known.
+/// What is known of the finished runs, given their orders: the facts whose rows the store keeps. If these aren't what
+/// kept mail says, nothing is known.
 pub(crate) fn finished_facts<K: Keeper>(
     alloc: Global,
     setup: &Setup,
@@ -142,8 +142,8 @@ pub(crate) fn finished_facts<K: Keeper>(
     Ok(known_by(alloc, setup, orders, rows.as_slice(), facts)?)
 }
 
-/// What is known by rows of facts that were put back: the facts, where they have all of these rows, and else nothing,
-/// so that all of the rows have left. It fails for want of memory alone.
+/// What is known from rows of facts that were put back: the facts, if they have all of these rows. Otherwise nothing is
+/// known, and all of the rows have left. It fails only if memory runs out.
 fn known_by(
     alloc: Global,
     setup: &Setup,
@@ -167,7 +167,7 @@ fn known_by(
     }
 }
 
-/// Facts that are known of the runs of these orders. It fails for want of memory alone.
+/// Facts that are known of the runs of these orders. It fails only if memory runs out.
 pub(crate) fn known_at(
     alloc: Global,
     setup: &Setup,
@@ -197,7 +197,7 @@ pub fn has_all(facts: &Facts, rows: &[FactRow]) -> bool
     facts.count() == rows.len() as u128
 }
 
-/// The covers of these orders, sender by sender. It fails for want of memory alone.
+/// The covers of these orders, sender by sender. It fails only if memory runs out.
 pub fn covers(alloc: Global, setup: &Setup, orders: &[RunOrder]) -> Result<Vec<u32>, StoreFault>
     ensures covers { IfOk result (λ taken. (s : ℕ) → s < length setup.now.senders → slice_index taken.items s ≡ cover_of orders.now s) }
     ensures within { IfOk result (λ taken. (s : ℕ) → slice_index taken.items s ≤ cover_of orders.now s) }
@@ -210,7 +210,7 @@ pub fn covers(alloc: Global, setup: &Setup, orders: &[RunOrder]) -> Result<Vec<u
     Ok(taken)
 }
 
-/// Nothing is known, and all of these rows have left. It fails for want of memory alone.
+/// Nothing is known, and all of these rows have left. It fails only if memory runs out.
 pub fn known_without(alloc: Global, rows: &[FactRow]) -> Result<KnownFacts, StoreFault>
     ensures facts { IfOk result (λ known. known.facts ≡ record no_facts { left = rows.now }) }
     ensures none { IfOk result (λ known. StandsForNone known.facts) }
@@ -238,7 +238,7 @@ pub(crate) fn is_covered(taken: &[u32], orders: &[RunOrder]) -> bool
     true
 }
 
-/// What a sender says is known on up to its cover.
+/// Takes what a sender says on up to its cover.
 pub fn take_on<K: Keeper>(
     alloc: Global,
     setup: &Setup,
@@ -268,7 +268,7 @@ pub fn take_on<K: Keeper>(
     Ok(())
 }
 
-/// The facts, which took what a sender says up to the start of a stretch, take what it says on up to its end.
+/// Adds the sender's messages in a stretch to the facts, which have all before it.
 fn take_sender<K: Keeper>(
     alloc: Global,
     setup: &Setup,
@@ -295,7 +295,7 @@ fn take_sender<K: Keeper>(
     Ok(())
 }
 
-/// The facts, which took what a sender says up to a number, take what it says on up to another.
+/// Adds the sender's messages after one number, up to another, to the facts.
 fn take_block<K: Keeper>(
     alloc: Global,
     setup: &Setup,
@@ -313,7 +313,7 @@ fn take_block<K: Keeper>(
     take_letters(alloc, setup, facts, stretch.sender, &letters)
 }
 
-/// The facts take what letters of a sender say. It fails for want of memory alone.
+/// Adds what letters of a sender say to the facts. It fails only if memory runs out.
 pub fn take_letters(
     alloc: Global,
     setup: &Setup,
@@ -332,7 +332,7 @@ pub fn take_letters(
     Ok(())
 }
 
-/// The facts take what a text says under its sender and number. It fails for want of memory alone.
+/// Adds what a text says under its sender and number to the facts. It fails only if memory runs out.
 pub(crate) fn take_text(
     alloc: Global,
     setup: &Setup,
@@ -353,7 +353,7 @@ pub(crate) fn take_text(
     }
 }
 
-/// A refused text says nothing, but for want of memory.
+/// A refused text says nothing, unless memory ran out.
 fn no_message(fault: MailFault) -> Result<(), StoreFault>
     ensures none { OnOk result (fault ≡ MailFault.NoMemory → ⊥) }
     ensures no_store { IfErr result (λ fault. fault ≡ StoreFault.NoMemory) }

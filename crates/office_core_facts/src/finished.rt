@@ -1,4 +1,4 @@
-//! The facts of the finished runs: put back from the store, and taken on as far as covers go.
+//! The facts of the finished runs: put back from the store, and taken on as far as covers reach.
 #![tactic(auto, using(office_core_orders::proofs::LastFacts::lasting))]
 
 ghost use Rattle.std.specs.Prelude.{◌≡◌, ◌≤◌, ◌<◌, ℕ, IsTrue, IfOk, IfSome, OnOk, length, slice_index};
@@ -43,14 +43,14 @@ pub fn finished_orders<K: Keeper>(
     Ok(orders)
 }
 
-/// The number up to which a sender is covered, 0 where there is none.
+/// The number up to which a sender is covered, 0 if it has no cover.
 pub fn cover_at(covers: &[u32], sender: usize) -> u32
     ensures { result ≡ slice_index covers.now sender }
 {
     covers.get(sender).copied().unwrap_or(0)
 }
 
-/// What is known takes what each sender says on up to its cover.
+/// Adds to what is known each sender's messages up to its cover.
 pub(crate) fn take_to<K: Keeper>(
     alloc: Global,
     setup: &Setup,
@@ -70,7 +70,7 @@ pub(crate) fn take_to<K: Keeper>(
     Ok(())
 }
 
-/// What the store keeps of the finished runs, of which these are the orders, up to these covers, which aren't below theirs.
+/// What the store keeps of the finished runs, given their orders, taken up to these covers, which aren't below theirs.
 pub fn facts_within<K: Keeper>(
     alloc: Global,
     setup: &Setup,
@@ -95,7 +95,7 @@ fn are_few(setup: &Setup, numbers: &[u32]) -> bool
     numbers.len() <= setup.senders().len()
 }
 
-/// Whether of each sender the numbers from 1 up to its own of these are kept.
+/// Whether each sender's numbers from 1 up to its own in this list are kept.
 fn are_kept<K: Keeper>(setup: &Setup, keeper: &mut K, numbers: &[u32]) -> Result<bool, StoreFault>
     ensures each { K.is_trusted keeper.new → IfOk result (λ kept. IsTrue kept → HasEach (K.content keeper.old).kept numbers.now) }
     ensures looks { ReadsStore K.Keeper keeper.old keeper.new result }
@@ -113,7 +113,7 @@ fn are_kept<K: Keeper>(setup: &Setup, keeper: &mut K, numbers: &[u32]) -> Result
     Ok(true)
 }
 
-/// What is known, where each number that was taken is kept.
+/// What is known, if each number taken is kept.
 fn if_kept<K: Keeper>(
     setup: &Setup,
     keeper: &mut K,
@@ -136,8 +136,8 @@ fn if_kept<K: Keeper>(
     }
 }
 
-/// What is known by rows of facts that were put back, none where the facts don't have all of these rows, or a number isn't
-/// kept that the orders cover.
+/// What is known from rows of facts that were put back; none if the facts don't have all of these rows, or if a covered
+/// number isn't kept.
 fn recalled<K: Keeper>(
     alloc: Global,
     setup: &Setup,
@@ -159,8 +159,8 @@ fn recalled<K: Keeper>(
     if_kept(setup, keeper, known)
 }
 
-/// What is known of the finished runs, of which these are the orders, by the rows of facts that the store keeps. There is
-/// none where these aren't what kept mail says, or where a number isn't kept that the orders cover: no office leaves that.
+/// What is known of the finished runs, given their orders, from the rows of facts in the store. There is none if these
+/// aren't what kept mail says, or if a covered number isn't kept: no office leaves that.
 pub fn recall<K: Keeper>(
     alloc: Global,
     setup: &Setup,
@@ -176,14 +176,14 @@ pub fn recall<K: Keeper>(
     recalled(alloc, setup, keeper, orders, rows.as_slice(), facts)
 }
 
-/// Whether these are the orders of so many runs.
+/// Whether these are the orders of that many runs.
 fn are_all(orders: &[RunOrder], run: u32) -> bool
     ensures { IsTrue result → length orders.now ≡ run }
 {
     orders.len() == run as usize
 }
 
-/// Recalls what is known of the finished runs, of which these are the orders, where nothing is known yet.
+/// Recalls what is known of the finished runs, given their orders, if nothing is known yet.
 pub fn remember<K: Keeper>(
     alloc: Global,
     setup: &Setup,

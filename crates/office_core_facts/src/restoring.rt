@@ -1,4 +1,4 @@
-//! Facts put back from the rows that a store keeps of them, each with the message that it names.
+//! Facts put back from their rows in the store, each with the message that it names.
 #![tactic(auto, using(office_core_orders::proofs::LastFacts::lasting))]
 
 ghost use Rattle.std.specs.Prelude.{◌≡◌, ◌+◌, ◌<◌, ◌≤◌, ℕ, Some, IsTrue, IfOk, IfErr, IfSome, OnOk, Contains, length, take, slice_index_or};
@@ -22,8 +22,8 @@ use testing_rules_facts::Facts;
 use testing_rules_items::Item;
 use testing_rules_model::FactRow;
 
-/// The facts of these rows, each put back with the message that it names. A row that names no kept message, or one that
-/// doesn't give it, puts nothing back.
+/// The facts of these rows, each put back with the message that it names. A row puts nothing back if it names no kept
+/// message, or one that doesn't give it.
 pub fn put_back<K: Keeper>(
     alloc: Global,
     setup: &Setup,
@@ -63,8 +63,8 @@ fn put_rows<K: Keeper>(
     Ok(())
 }
 
-/// The place behind the rows from a place on that are near the first of them: of its kind and sender, and of numbers
-/// less than so many above its own.
+/// The place after the rows from a place on that are near the first of them: of its kind and sender, and of numbers
+/// less than `span` above its own.
 fn rows_end(rows: &[FactRow], start: usize, end: usize, span: u32) -> usize
     requires some { start < end }
     requires within { end ≤ length rows.now }
@@ -81,7 +81,7 @@ fn rows_end(rows: &[FactRow], start: usize, end: usize, span: u32) -> usize
     place
 }
 
-/// Whether a row is of the kind and sender of another, and its number is less than so many above the other's.
+/// Whether a row is of the kind and sender of another, and its number is less than `span` above the other's.
 fn is_near(first: FactRow, row: FactRow, span: u32) -> bool
     ensures { IsTrue result → IsNear span first row }
 {
@@ -102,7 +102,7 @@ fn last_loaded(first: u32, last: u32) -> u32
     }
 }
 
-/// Puts the rows from a place to another back, which are near the first of them.
+/// Puts back the rows from one place to another, which are near the first of them.
 fn put_block<K: Keeper>(
     alloc: Global,
     setup: &Setup,
@@ -125,7 +125,7 @@ fn put_block<K: Keeper>(
     put_letters(alloc, setup, facts, &letters, rows, start, end)
 }
 
-/// Puts the rows from a place to another back, of which these are the letters. It fails for want of memory alone.
+/// Puts back the rows from one place to another, given their letters. It fails only if memory runs out.
 fn put_letters(
     alloc: Global,
     setup: &Setup,
@@ -152,7 +152,7 @@ fn put_letters(
     Ok(())
 }
 
-/// What the letter of a number says to the rules; nothing where there is none. It fails for want of memory alone.
+/// What the letter of a number says to the rules; nothing if there is none. It fails only if memory runs out.
 fn item_under(
     alloc: Global,
     setup: &Setup,
@@ -181,7 +181,7 @@ fn letter_of(letters: &[Letter], number: u32) -> Option<&Letter>
     }
 }
 
-/// What a text says to the rules, which is nothing where it is refused. It fails for want of memory alone.
+/// What a text says to the rules; nothing if it is refused. It fails only if memory runs out.
 pub fn item_in(alloc: Global, setup: &Setup, text: &[u8]) -> Result<Item, StoreFault>
     ensures item { IfOk result (λ item. (p : Place) → IsSaidItem (item_at setup.now (p, text.now)) p.0 p.1 item) }
     ensures no_store { IfErr result (λ fault. fault ≡ StoreFault.NoMemory) }
@@ -202,7 +202,7 @@ fn item_of(message: Message) -> Item
     }
 }
 
-/// A refused text says nothing, but for want of memory.
+/// A refused text says nothing, unless memory ran out.
 fn no_item(fault: MailFault) -> Result<Item, StoreFault>
     ensures none { IfOk result (λ item. (item ≡ Nothing) × (fault ≡ MailFault.NoMemory → ⊥)) }
     ensures no_store { IfErr result (λ fault. fault ≡ StoreFault.NoMemory) }
@@ -213,7 +213,7 @@ fn no_item(fault: MailFault) -> Result<Item, StoreFault>
     }
 }
 
-/// Puts the rows from a place to another back, which all name the message of this item.
+/// Puts back the rows from one place to another, which all name the message of this item.
 fn put_item(
     facts: &mut Facts,
     item: Item,
@@ -232,7 +232,7 @@ fn put_item(
     done
 }
 
-/// Puts the rows from a place to another back, which all name the message of this item, which is lent.
+/// Puts back the rows from one place to another, which all name the message of this borrowed item.
 fn put_facts(
     facts: &mut Facts,
     item: &Item,

@@ -1,4 +1,4 @@
-//! The facts of a run go with the testing that it leaves: uploads are taken again, since testing lost their source or has
+//! The facts of a run go with the testing that it leaves: uploads are taken again if testing lost their source or has
 //! it in a lower version.
 #![tactic(auto, using(office_core_orders::proofs::LastFacts::lasting))]
 
@@ -38,8 +38,8 @@ use testing_rules_laws::fallen;
 use testing_rules_model::FactChanges;
 use testing_rules_suites::Testing;
 
-/// The facts of a run go with the testing that it leaves: the uploads of the sources that fell are taken again, and none is
-/// kept that doesn't count there. What changed of their rows is told.
+/// Adapts the facts of a run to the testing that it leaves. The uploads of the sources that fell are taken again, and
+/// uploads that don't count there go. The changes of their rows are recorded.
 pub fn follow_testing<K: Keeper>(
     alloc: Global,
     setup: &Setup,
@@ -71,8 +71,8 @@ fn one_release_sender(setup: &Setup)
     let _ = setup.archs();
 }
 
-/// The facts take the uploads of the sources that fell again, of what each sender says up to its number. So they stand
-/// beside the testing after, which lost these sources, or has them in a lower version. Where none fell nothing is read.
+/// Takes the uploads of the sources that fell again, from each sender's messages up to its number. So the facts fit the
+/// testing after, which lost these sources or has lower versions. If none fell, nothing is read.
 fn retake_uploads<K: Keeper>(
     alloc: Global,
     setup: &Setup,
@@ -95,7 +95,7 @@ fn retake_uploads<K: Keeper>(
     retake_all(alloc, setup, keeper, facts, taken, names)
 }
 
-/// The facts take the uploads of these names again, sender by sender.
+/// Takes the uploads of these names again, sender by sender.
 fn retake_all<K: Keeper>(
     alloc: Global,
     setup: &Setup,
@@ -115,14 +115,14 @@ fn retake_all<K: Keeper>(
     Ok(())
 }
 
-/// The number at a place, 0 where there is none.
+/// The number at a place, 0 if there is none.
 fn number_at(numbers: &[u32], place: usize) -> u32
     ensures { result ≡ slice_index numbers.now place }
 {
     numbers.get(place).copied().unwrap_or(0)
 }
 
-/// The facts take the uploads of these names again, of what a sender says up to a number.
+/// Takes the uploads of these names again, from a sender's messages up to a number.
 fn retake_sender<K: Keeper>(
     alloc: Global,
     setup: &Setup,
@@ -146,7 +146,7 @@ fn retake_sender<K: Keeper>(
     Ok(())
 }
 
-/// The facts take the uploads of these names again, of what a sender says in a stretch.
+/// Takes the uploads of these names again, from a sender's messages in a stretch.
 fn retake_block<K: Keeper>(
     alloc: Global,
     setup: &Setup,
@@ -166,7 +166,7 @@ fn retake_block<K: Keeper>(
     retake_letters(alloc, setup, facts, stretch.sender, &letters, names)
 }
 
-/// The facts take the uploads of these names among letters of a sender again. It fails for want of memory alone.
+/// Takes the uploads of these names among letters of a sender again. It fails only if memory runs out.
 fn retake_letters(
     alloc: Global,
     setup: &Setup,
@@ -186,7 +186,7 @@ fn retake_letters(
     Ok(())
 }
 
-/// The facts take a text again, where it is an upload of one of these names. It fails for want of memory alone.
+/// Takes a text again, if it is an upload of one of these names. It fails only if memory runs out.
 fn retake_text(
     alloc: Global,
     setup: &Setup,
@@ -208,7 +208,7 @@ fn retake_text(
     Ok(())
 }
 
-/// Whether a text is an upload of one of these names. It fails for want of memory alone.
+/// Whether a text is an upload of one of these names. It fails only if memory runs out.
 fn is_named(alloc: Global, setup: &Setup, text: &[u8], names: &[Text]) -> Result<bool, StoreFault>
     ensures named { IfOk result (λ named. (p : Place) (m : CoveredItem) (u : UploadIn) → item_at setup.now (p, text.now) ≡ Some m → upload_of m ≡ Some u → Contains names.now u.source → IsTrue named) }
     ensures no_store { IfErr result (λ fault. fault ≡ StoreFault.NoMemory) }

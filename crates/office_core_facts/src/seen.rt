@@ -1,4 +1,4 @@
-//! What a run would see whose order covers all mail that is kept without a gap.
+//! What a run would see if its order covered all mail that is kept without a gap.
 #![tactic(auto, using(office_core_orders::proofs::LastFacts::lasting))]
 
 ghost use Rattle.std.specs.Prelude.{◌≡◌, ◌≤◌, ◌<◌, ℕ, IfOk, IfSome, length, slice_index};
@@ -20,8 +20,8 @@ use office_mail::{RunOrder, Setup};
 use office_store_keeper::Keeper;
 use std::alloc::Global;
 
-/// Up to which number a sender's mail goes on without a gap; it does so up to what the finished runs cover, of which these
-/// are the orders.
+/// The number up to which a sender's mail continues without a gap, given the orders of the finished runs: it does so up
+/// to what they cover.
 fn seen_cover<K: Keeper>(
     keeper: &mut K,
     orders: &[RunOrder],
@@ -36,7 +36,7 @@ fn seen_cover<K: Keeper>(
     count_on(keeper, sender, known)
 }
 
-/// Up to which number each sender's mail goes on without a gap, by the orders of the finished runs.
+/// How far each sender's mail continues without a gap, given the orders of the finished runs.
 fn seen_covers<K: Keeper>(
     alloc: Global,
     setup: &Setup,
@@ -55,10 +55,10 @@ fn seen_covers<K: Keeper>(
     Ok(covers)
 }
 
-/// The facts of all mail that is kept without a gap, by a copy of what is known of the finished runs, of which these are the
-/// orders, or else by what the store keeps.
+/// The facts of all mail that is kept without a gap, given the orders of the finished runs. They begin with a copy of
+/// what is known of these runs, or else with what the store keeps.
 ///
-/// It fails for want of memory or of the store alone.
+/// It fails only if memory runs out or the store fails.
 pub fn seen_facts<K: Keeper>(
     alloc: Global,
     setup: &Setup,

@@ -1,4 +1,4 @@
-//! What the facts take of a message, and how far orders cover a sender.
+//! What the facts take from a message, and how far orders cover a sender.
 ghost use Rattle.std.specs.Prelude.{◌≡◌, ℕ, ◌∷◌, ◌++◌, Some, Contains, IfErr, OnOk, max, option_to_list};
 ghost use Rattle.office_core_facts.specs.Outcome.{item_in_body};
 ghost use Rattle.testing_rules_model.specs.Covered.{Covered, CoveredItem, upload_of};
@@ -17,7 +17,7 @@ use office_mail::{Body, RunOrder};
 use testing_rules_facts::Facts;
 use testing_rules_items::Item;
 
-/// The facts take what a message says to the rules, and its texts with it. It fails for want of memory alone.
+/// Adds to the facts what a message says to the rules, and its texts. It fails only if memory runs out.
 pub fn take_body(facts: &mut Facts, sender: u32, number: u32, body: Body) -> Result<(), StoreFault>
     ensures stand { OnOk result ((s : Covered) (t : Suite) → StandsFor facts.old s t → StandsFor facts.new (option_to_list (item_in_body (sender, number) body) ++ s) t) }
     ensures tells { OnOk result ((s : Covered) → Tells facts.old s → Tells facts.new (option_to_list (item_in_body (sender, number) body) ++ s)) }
@@ -36,7 +36,7 @@ pub fn take_body(facts: &mut Facts, sender: u32, number: u32, body: Body) -> Res
     }
 }
 
-/// The facts take an item that a message says. It fails for want of memory alone.
+/// Adds an item of a message to the facts. It fails only if memory runs out.
 fn take_item(facts: &mut Facts, sender: u32, number: u32, item: Item) -> Result<(), StoreFault>
     ensures stand { OnOk result ((s : Covered) (t : Suite) → let m : CoveredItem = record { sender = sender; number = number; item = item } in StandsFor facts.old s t → StandsFor facts.new (m ∷ s) t) }
     ensures tells { OnOk result ((s : Covered) → let m : CoveredItem = record { sender = sender; number = number; item = item } in Tells facts.old s → Tells facts.new (m ∷ s)) }
@@ -51,7 +51,7 @@ fn take_item(facts: &mut Facts, sender: u32, number: u32, item: Item) -> Result<
     Ok(())
 }
 
-/// The greatest number that the orders state for a sender, 0 where there is none.
+/// The greatest number that the orders state for a sender, 0 if there is none.
 pub fn cover_of(orders: &[RunOrder], sender: usize) -> u32
     ensures { result ≡ cover_of orders.now sender }
 {

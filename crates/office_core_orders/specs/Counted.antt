@@ -10,7 +10,7 @@ use Rattle.office_core_orders.specs.declared.faults.DeliverFault.{DeliverFault}
 use Rattle.office_core_orders.specs.declared.faults.DeliverFault.TheVariants as deliver
 use Rattle.office_core_orders.specs.declared.faults.Held.{Held}
 
--- how a fault of a store is told
+-- the office's name for a store's fault
 abbrev pub told : KeepFault → StoreFault
 told keep.NoMemory = NoMemory
 told (keep.Store cause) = Store
@@ -20,7 +20,7 @@ abbrev pub told_sender : StoreFault → DeliverFault
 told_sender NoMemory = deliver.Mail mail.NoMemory
 told_sender Store = deliver.Store
 
--- the count rose where the store failed, and stays otherwise
+-- the count rose if the store failed, and stays otherwise
 abbrev pub Counted : {T : Type 0} → ℕ → ℕ → Result T StoreFault → Type 0
 Counted before after (Ok value) = after ≡ before
 Counted before after (Err NoMemory) = after ≡ before

@@ -41,7 +41,7 @@ unfoldable pub reply_line : Lists → Result Held DeliverFault → List ℕ
 reply_line setup (Ok held) = codes "held " ++ name_at setup held.sender ++ 32 ∷ decimal held.number ++ 10 ∷ []
 reply_line setup (Err fault) = codes "refused " ++ fault_words fault ++ 10 ∷ []
 
--- the answer by a mark: the one that is due, or what a loss is answered
+-- the answer by a mark: the one that is due, or the answer to a loss
 abbrev pub reply_by : Mark → Result Held DeliverFault → Result Held DeliverFault
 reply_by Taken due = due
 reply_by LostForMemory due = Err (Mail NoMemory)

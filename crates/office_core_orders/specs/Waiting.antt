@@ -18,29 +18,29 @@ pub record IsFirstGap (kept : Kept) (sender number : ℕ) : Type 0 where
   pub before : HasNumbers kept sender (number - 1)
   pub missing : get kept (sender, number) ≡ None
 
--- what a sender lacks by an order: its first gap, where the order states that number for it, or a greater one
+-- a sender's gap by an order: its first gap, if the order states that number for it, or a greater one
 pub record IsLack (kept : Kept) (order : RunOrder) (lack : Lack) : Type 0 where
   pub gap : IsFirstGap kept lack.sender lack.number
   pub cover : lack.cover ≡ slice_index order.covers lack.sender
   pub stated : lack.number ≤ lack.cover
 
--- what the first n senders lack by an order, by sender
+-- the gaps of the first n senders by an order, by sender
 pub record AreLacks (kept : Kept) (order : RunOrder) (n : ℕ) (lacks : List Lack) : Type 0 where
   pub each : (lack : Lack) → Contains lacks lack ↔ ((lack.sender < n) × IsLack kept order lack)
   pub by_sender : IsStrictlySortedBy nat_cmp (map (λ (lack : Lack). lack.sender) lacks)
 
--- A run waits for its order where that isn't kept, and else for mail of exactly the senders that lack some by the order.
+-- A run waits for its order if that isn't kept, and else for mail of exactly the senders with a gap by the order.
 abbrev pub AwaitsBy : Lists → Kept → Option RunOrder → Awaited → Type 0
 AwaitsBy setup kept None Order = ⊤
 AwaitsBy setup kept None (Mail lacks) = ⊥
 AwaitsBy setup kept (Some order) Order = ⊥
 AwaitsBy setup kept (Some order) (Mail lacks) = AreLacks kept order (length setup.senders) lacks.items
 
--- what run k waits for, where the run before it is ready
+-- what run k waits for, if the run before it is ready
 abbrev pub Awaits : Lists → Kept → ℕ → Awaited → Type 0
 Awaits setup kept k awaited = AwaitsBy setup kept (order_at setup kept k) awaited
 
--- there is something that a run waits for
+-- a run waits for something
 abbrev pub AwaitsSome : Awaited → Type 0
 AwaitsSome Order = ⊤
 AwaitsSome (Mail lacks) = 1 ≤ length lacks.items

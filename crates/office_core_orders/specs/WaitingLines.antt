@@ -1,4 +1,4 @@
--- The text that tells what the first run that isn't ready waits for.
+-- The text on what the first run that isn't ready waits for.
 use Rattle.std.specs.Prelude.{ℕ, ◌+◌, List, [], ◌∷◌, ◌++◌, codes, decimal}
 use Rattle.std.specs.List.{flat_map}
 use Rattle.office_mail.specs.Lists.{Lists}
@@ -9,7 +9,7 @@ use Rattle.office_core_orders.specs.declared.waiting_lines.Awaited.{Awaited}
 use Rattle.office_core_orders.specs.declared.waiting_lines.Awaited.TheVariants.{Order, Mail}
 use Rattle.office_core_orders.specs.declared.waiting_lines.Waiting.{Waiting}
 
--- the line on mail that a run lacks of one sender: its first missing number, and the number up to which the run needs it
+-- the line on missing mail of one sender: its first missing number, and the number up to which the run needs it
 abbrev pub lack_line : Lists → ℕ → Lack → List ℕ
 lack_line setup run lack = codes "run " ++ decimal run ++ codes " waits for " ++ name_at setup lack.sender ++ 32 ∷ decimal lack.number ++ codes " of " ++ decimal lack.cover ++ 10 ∷ []
 
@@ -22,6 +22,6 @@ abbrev pub awaited_lines : Lists → ℕ → Awaited → List ℕ
 awaited_lines setup run Order = order_line setup run
 awaited_lines setup run (Mail lacks) = flat_map (lack_line setup run) lacks.items
 
--- the status, and what the run behind the ready ones waits for
+-- the status, and what the run after the ready ones waits for
 unfoldable pub waiting_text : Lists → Waiting → List ℕ
 waiting_text setup waiting = status_line waiting.progress.ready waiting.progress.finished ++ awaited_lines setup (waiting.progress.ready + 1) waiting.awaited

@@ -1,5 +1,5 @@
-//! What is answered to mail, as marks, replies and faults, and run orders in the kept mail of a store: which run is
-//! ready, and what the first that isn't waits for.
+//! The answers to mail, as marks, replies and faults. Also the run orders in a store's mail: which run is ready, and
+//! what the next one waits for.
 #![tactic(auto)]
 
 mod faults;

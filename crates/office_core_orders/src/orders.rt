@@ -16,7 +16,7 @@ use office_mail::{Body, MailFault, Message, RunOrder, Setup, read_message, ready
 use office_store_keeper::{Keeper, Letter};
 use std::alloc::Global;
 
-/// The run order that a kept text is, or none. It fails for want of memory alone.
+/// The run order in a kept text, or none. It fails only if memory runs out.
 fn read_order(alloc: Global, setup: &Setup, text: &[u8]) -> Result<Option<RunOrder>, StoreFault>
     ensures order { IfOk result (λ order. order ≡ order_in setup.now text.now) }
     ensures no_store { IfErr result (λ fault. fault ≡ StoreFault.NoMemory) }
@@ -27,7 +27,7 @@ fn read_order(alloc: Global, setup: &Setup, text: &[u8]) -> Result<Option<RunOrd
     }
 }
 
-/// What a refused text is: no order, but for want of memory.
+/// What a refused text is: no order, unless memory ran out.
 fn no_order(fault: MailFault) -> Result<Option<RunOrder>, StoreFault>
     ensures none { IfOk result (λ order. (order ≡ None) × (fault ≡ MailFault.NoMemory → ⊥)) }
     ensures no_store { IfErr result (λ fault. fault ≡ StoreFault.NoMemory) }
@@ -38,7 +38,7 @@ fn no_order(fault: MailFault) -> Result<Option<RunOrder>, StoreFault>
     }
 }
 
-/// The run order that a message is, or none.
+/// The run order in a message, or none.
 fn order_in(message: Message) -> Option<RunOrder>
     ensures { result ≡ order_in_body message.body }
 {
@@ -51,7 +51,7 @@ fn order_in(message: Message) -> Option<RunOrder>
     }
 }
 
-/// The run order of a number, none where it isn't kept.
+/// The run order of a number, none if it isn't kept.
 pub(crate) fn order<K: Keeper>(
     alloc: Global,
     setup: &Setup,
@@ -91,14 +91,14 @@ pub fn read_orders<K: Keeper>(
     Ok(())
 }
 
-/// Whether all that an order states is within these numbers, 0 for a sender that has no entry.
+/// Whether no number that an order states is above these, 0 for a sender without an entry.
 fn is_within(order: &RunOrder, counts: &[u32]) -> bool
     ensures { IsTrue result ↔ ((sender : ℕ) → slice_index order.now.covers sender ≤ slice_index counts.now sender) }
 {
     ready(std::slice::from_ref(order), counts) == 1
 }
 
-/// The number up to which letters go on without a gap behind another number, at most up to an end.
+/// The number up to which letters continue without a gap after another number, at most up to an end.
 fn last_in_line(number: u32, end: u32, letters: &[Letter]) -> u32
     requires on { number ≤ end }
     ensures within { result ≤ end }
@@ -114,7 +114,7 @@ fn last_in_line(number: u32, end: u32, letters: &[Letter]) -> u32
     last
 }
 
-/// The number up to which a sender's numbers go on without a gap behind another, at most up to the end of a block.
+/// The number up to which a sender's numbers continue without a gap after another, at most up to the end of a block.
 pub fn count_block<K: Keeper>(
     keeper: &mut K,
     sender: u32,
@@ -131,8 +131,8 @@ pub fn count_block<K: Keeper>(
     Ok(last_in_line(number, end, &letters))
 }
 
-/// The size of the next block: twice that of the last one, up to the greatest. So not many more texts are loaded than
-/// are counted.
+/// The size of the next block: twice that of the last one, up to the greatest. So few more texts are loaded than are
+/// counted.
 pub fn next_size(size: u32) -> u32
     requires some { 0 < size }
     ensures some { 0 < result }
@@ -141,7 +141,7 @@ pub fn next_size(size: u32) -> u32
     if size < BLOCK / 2 { 2 * size } else { BLOCK }
 }
 
-/// Counts a sender's numbers on from those that are known to be kept, up to a number: it stops before one that isn't.
+/// Counts a sender's numbers on from those known to be kept, up to a number: it stops before one that isn't.
 pub fn count_on<K: Keeper>(
     keeper: &mut K,
     sender: u32,
@@ -167,7 +167,7 @@ pub fn count_on<K: Keeper>(
     Ok(count)
 }
 
-/// Makes room for a sender's count, 0 at first. It fails for want of memory alone; no count changes.
+/// Makes room for a sender's count, 0 at first. It fails only if memory runs out; no count changes.
 pub fn make_room(counts: &mut Vec<u32>, sender: u32) -> Result<(), StoreFault>
     ensures same { (s : ℕ) → slice_index counts.new.items s ≡ slice_index counts.old.items s }
     ensures room { OnOk result (sender < length counts.new.items) }
@@ -180,7 +180,7 @@ pub fn make_room(counts: &mut Vec<u32>, sender: u32) -> Result<(), StoreFault>
     Ok(())
 }
 
-/// Counts one sender's numbers on, as far as a cover wants it.
+/// Counts one sender's numbers on, as far as a cover needs them.
 fn reach<K: Keeper>(
     keeper: &mut K,
     counts: &mut Vec<u32>,
@@ -200,7 +200,7 @@ fn reach<K: Keeper>(
     Ok(())
 }
 
-/// Counts each sender's numbers on, as far as an order wants it.
+/// Counts each sender's numbers on, as far as an order needs them.
 pub(crate) fn reach_all<K: Keeper>(
     setup: &Setup,
     keeper: &mut K,
@@ -235,7 +235,7 @@ pub(crate) fn is_there<K: Keeper>(
     Ok(is_within(order, counts))
 }
 
-/// The number that an order states for a sender, 0 where it has none.
+/// The number that an order states for a sender, 0 if it has none.
 pub fn stated_for(order: &RunOrder, sender: usize) -> u32
     ensures { result ≡ slice_index order.now.covers sender }
 {

@@ -12,7 +12,7 @@ use office_mail::{MAX_NUMBER, RunOrder, Setup};
 use office_store_keeper::Keeper;
 use std::alloc::Global;
 
-/// Whether a run is of the greatest number, so that none can come behind it.
+/// Whether a run has the greatest number, so that none can come after it.
 fn is_last(run: u32) -> bool
     ensures last { IsTrue result → 999_999_999 ≤ run }
     ensures more { result ≡ false → run < 999_999_999 }
@@ -20,7 +20,7 @@ fn is_last(run: u32) -> bool
     run >= MAX_NUMBER
 }
 
-/// Whether the run behind a ready one is ready too.
+/// Whether the run after a ready one is ready too.
 fn follows<K: Keeper>(
     alloc: Global,
     setup: &Setup,
@@ -63,7 +63,7 @@ pub fn ready_count<K: Keeper>(
     Ok(count)
 }
 
-/// Whether the run behind the finished ones is ready. Its order is read and kept.
+/// Whether the next run is ready. Its order is read and kept.
 pub fn next_is_ready<K: Keeper>(
     alloc: Global,
     setup: &Setup,

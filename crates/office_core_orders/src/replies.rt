@@ -20,7 +20,7 @@ pub enum Mark {
 }
 
 impl Mark {
-    /// Whether the delivery was lost, for want of memory or by the store.
+    /// Whether memory or the store lost the delivery.
     pub fn is_lost(self) -> bool
         ensures { result ≡ is_lost self }
     {
@@ -40,7 +40,7 @@ pub struct Delivery {
 #[error("the output can't be written")]
 pub struct WriteFault;
 
-/// Writes all of the bytes, or a front of them.
+/// Writes all of the bytes, or a prefix of them.
 pub fn write_all<W: Sink>(writer: &mut W, bytes: &[u8]) -> Result<(), WriteFault>
     ensures ok { OnOk result (Appends (W.written writer.old) (W.written writer.new) bytes.now) }
     ensures err { OnErr result (AppendsFront (W.written writer.old) (W.written writer.new) bytes.now) }
@@ -58,7 +58,7 @@ pub fn write_all<W: Sink>(writer: &mut W, bytes: &[u8]) -> Result<(), WriteFault
     Ok(())
 }
 
-/// Writes parts, one after another, or a front of them.
+/// Writes parts, one after another, or a prefix of them.
 pub fn write_parts<W: Sink>(writer: &mut W, parts: &[&[u8]]) -> Result<(), WriteFault>
     ensures ok { OnOk result (Appends (W.written writer.old) (W.written writer.new) (joined parts.now)) }
     ensures err { OnErr result (AppendsFront (W.written writer.old) (W.written writer.new) (joined parts.now)) }
@@ -143,7 +143,7 @@ pub fn fault_words(fault: DeliverFault) -> (&'static str, &'static str)
     }
 }
 
-/// Writes the line that answers a delivery, or a front of it. It takes no memory.
+/// Writes the line that answers a delivery, or a prefix of it. It allocates nothing.
 #[tactic(auto, unfolding(crate::specs::Replies::reply_line))]
 pub fn write_reply<W: Sink>(
     setup: &Setup,

@@ -1,4 +1,4 @@
-//! Calls of a store, whose faults are told as the office tells them.
+//! Calls of a store, with its faults in the office's words.
 #![tactic(auto, using(crate::proofs::LastFacts::lasting))]
 
 ghost use Rattle.std.specs.Prelude.{is_ok, ◌≡◌, ◌+◌, ◌<◌, ◌≤◌, ◌++◌, ◌∷◌, [], None, IfOk, OnOk, OnErr, length};
@@ -15,10 +15,10 @@ use office_store_keeper::{Finished, Keeper, Letter, MailText, Reports};
 use testing_rules_model::FactRows;
 use testing_rules_suites::Testing;
 
-/// How many numbers of a sender are loaded at once, at most. So many texts of the greatest size take 17 MB.
+/// The most numbers of a sender that are loaded at once. That many texts of the greatest size need 17 MB.
 pub const BLOCK: u32 = 256;
 
-/// The end of a block behind a number: so many numbers on, or the last one.
+/// The end of a block of `size` numbers after a number, at most the last one.
 pub fn block_end(number: u32, size: u32, last: u32) -> u32
     requires some { 0 < size }
     requires ahead { number < last }

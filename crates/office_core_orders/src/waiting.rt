@@ -17,14 +17,14 @@ use office_mail::{RunOrder, Setup};
 use office_store_keeper::Keeper;
 use std::alloc::{AllocError, Global};
 
-/// How many numbers of a sender are counted, 0 where it has no count.
+/// How many numbers of a sender are counted, 0 if it has no count.
 fn count_of(counts: &[u32], sender: usize) -> u32
     ensures { result ≡ slice_index counts.now sender }
 {
     counts.get(sender).copied().unwrap_or(0)
 }
 
-/// What each sender lacks by an order, by counts that reach what the order states or stop before a gap.
+/// Each sender's gap by an order, from counts that reach what the order states or stop before a gap.
 fn lacks_behind(
     alloc: Global,
     setup: &Setup,
@@ -49,7 +49,7 @@ fn lacks_behind(
     Ok(lacks)
 }
 
-/// What each sender lacks by an order.
+/// Each sender's gap by an order.
 fn lacks_by<K: Keeper>(
     alloc: Global,
     setup: &Setup,
@@ -66,7 +66,7 @@ fn lacks_by<K: Keeper>(
     Ok(lacks_behind(alloc, setup, order, counts)?)
 }
 
-/// What the run behind a ready one waits for.
+/// What the run after a ready one waits for.
 fn awaited_behind<K: Keeper>(
     alloc: Global,
     setup: &Setup,
@@ -79,7 +79,7 @@ fn awaited_behind<K: Keeper>(
     ensures awaited { K.is_trusted keeper.new → HasPlaces setup.now (K.content keeper.old).kept → IsReady setup.now (K.content keeper.old).kept ready → IfOk result (λ awaited. Awaits setup.now (K.content keeper.old).kept (ready + 1) awaited) }
     ensures looks { ReadsStore K.Keeper keeper.old keeper.new result }
 {
-    // No run behind 999,999,999 is ready, so the sum is exact.
+    // No run after 999,999,999 is ready, so the sum is exact.
     match order(alloc, setup, keeper, ready.saturating_add(1))? {
         Some(order) => {
             let lacks = lacks_by(alloc, setup, keeper, counts, &order)?;

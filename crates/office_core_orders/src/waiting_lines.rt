@@ -1,4 +1,4 @@
-//! What a run waits for, and the text that tells it.
+//! What a run waits for, and the text on it.
 ghost use Rattle.std.specs.Prelude.{◌≡◌, ◌++◌, IfOk, OnOk, string_bytes};
 ghost use Rattle.std.specs.List.{flat_map};
 ghost use Rattle.office_core_orders.specs.Replies.{name_at};
@@ -9,7 +9,7 @@ use deb_control::{NoMemory, Text};
 use office_mail::Setup;
 use std::alloc::{AllocError, Global};
 
-/// What a run lacks of one sender: its first missing number, and the number up to which the run needs its mail.
+/// What a run needs of one sender: its first missing number, and the number up to which the run needs its mail.
 #[derive(Clone, Copy, Debug, PartialEq, Eq)]
 pub struct Lack {
     pub sender: u32,
@@ -33,7 +33,7 @@ pub struct Waiting {
     pub awaited: Awaited,
 }
 
-/// The text that tells how far the runs are, and what the first run that isn't ready waits for.
+/// The text on how far the runs are, and what the first run that isn't ready waits for.
 #[tactic(auto, unfolding(crate::specs::WaitingLines::waiting_text))]
 pub fn waiting_text(alloc: Global, setup: &Setup, waiting: &Waiting) -> Result<Text, NoMemory>
     ensures { IfOk result (λ text. text ≡ waiting_text setup.now waiting.now) }
@@ -82,7 +82,7 @@ fn push_lack(text: &mut String, setup: &Setup, run: u64, lack: Lack) -> Result<(
     writeln!(text, "run {run} waits for {sender} {number} of {cover}")
 }
 
-/// The name of the sender at a place, empty where there is none.
+/// The name of the sender at a place, empty if there is none.
 pub fn name_at(setup: &Setup, place: u32) -> &str
     ensures { result.now ≡ name_at setup.now place }
 {

@@ -1,4 +1,4 @@
--- What a run made of one hint. That a hint is told by itself, and in which words, is this office's own.
+-- What a run made of one hint. That this is reported, and in which words, is this office's own.
 use Rattle.std.specs.Prelude.{◌≡◌, ℕ, ◌+◌, ◌==◌, Bool, false, ◌||◌, if◌then◌else◌, List, [], ◌∷◌, ◌++◌, codes, decimal, filter, length, is_some, nat_eq, Option, Some, None}
 use Rattle.std.specs.List.{flat_map, starts_with}
 use Rattle.std.specs.Str.Lines.{lines}
@@ -22,7 +22,7 @@ use Rattle.office_core_outcome.specs.Proposal.{decisions_by}
 use Rattle.office_core_outcome.specs.Trial.{judged_by}
 use Rattle.office_core_outcome.specs.WhyRefused.{AreToldOf, hint_at}
 
--- what the lines of an update on the hint with the number begin with, behind one of two words
+-- the beginning of the lines of an update on the hint with the number, after one of two words
 abbrev pub front : List ℕ → ℕ → List ℕ
 front word number = word ++ (32 ∷ decimal number ++ 32 ∷ [])
 
@@ -46,28 +46,28 @@ is_of_hint number d = elim d [
   | Wait name v offender ↦ false
 ]
 
--- how it stands with a hint of which a run decides nothing: the run doesn't cover it, or an unhint took it back, or there was nothing to do
+-- the state of a hint on which a run decides nothing: not covered by the run, taken back by an unhint, or nothing to do
 abbrev pub standing_of : List UnhintIn → Option HintIn → List ℕ
 standing_of unhints None = codes "unknown"
 standing_of unhints (Some hint) = if is_in_force unhints hint then codes "nothing decided" else codes "cancelled"
 
--- the lines of an update on a hint, or how the hint stands where there is none
+-- the lines of an update on a hint, or the hint's state if there is none
 abbrev pub lines_or_standing : List ℕ → List ℕ → List ℕ
 lines_or_standing lines standing = if length lines == 0 then standing ++ 10 ∷ [] else lines
 
--- what is told of a hint of a sender, by the update of a run, how the hint stands, and why it is refused
+-- the text on a hint of a sender, from the update of a run, the hint's state, and why it is refused
 abbrev pub hint_text : List ℕ → ℕ → ℕ → List ℕ → List ℕ → List ℕ → List ℕ
 hint_text sender run number update standing reasons =
     codes "why " ++ (decimal run ++ (32 ∷ sender ++ (32 ∷ decimal number ++ (10 ∷ lines_or_standing (lines_on_hint number update) standing ++ reasons))))
 
--- what is told of the hint with the number for a run over covered messages: its lines of the update, or how it stands, and why it is refused
+-- the text on the hint with the number for a run over covered messages: its lines of the update, or its state, and why
 pub record IsHintText (setup : Lists) (run : ℕ) (date : Date) (s : Covered) (t : Suite) (number : ℕ) (told : HintText) : Type 0 where
   pub reasons : List ℕ
   pub reasons_are : AreToldOf (judged_by setup 0 date s t) (filter (is_of_hint number) (decisions_by setup date s t)) reasons
   pub is : told.text ≡ hint_text (name_at setup (release setup)) run number (outcome setup run date s t).updates (standing_of (unhints_by_number s) (hint_at (hints_by_number s) number)) reasons
   pub known : told.is_known ≡ is_some (hint_at (hints_by_number s) number)
 
--- the same of run k + 1, over what is kept of all that it covers and the testing that run k left
+-- the same for run k + 1, over all kept mail covered by it and the testing that run k left
 pub record IsHintTold (setup : Lists) (kept : Kept) (k number : ℕ) (told : HintText) : Type 0 where
   pub date : Date
   pub dated : latest_day (orders_to setup kept (k + 1)) ≡ Some date

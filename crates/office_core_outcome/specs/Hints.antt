@@ -21,7 +21,7 @@ hint_text setup number hint =
 abbrev pub hint_letter : Lists → ℕ → List ℕ → Letter
 hint_letter setup number hint = record { number = number; text = hint_text setup number hint }
 
--- the messages of hints, whose numbers go on behind this one
+-- the messages of hints, numbered from the one after this number
 abbrev pub hint_letters : Lists → ℕ → List (List ℕ) → List Letter
 hint_letters setup number [] = []
 hint_letters setup number (hint ∷ rest) = hint_letter setup (number + 1) hint ∷ hint_letters setup (number + 1) rest
@@ -40,12 +40,12 @@ abbrev pub or_refused : ℕ → Option MailFault → Option RefusedHint → Opti
 or_refused place (Some fault) rest = Some (record { place = place; fault = fault })
 or_refused place None rest = rest
 
--- the first refusal of hints whose numbers go on behind this one, and whose places go on from that one
+-- the first refusal of hints, numbered from the one after this number, with places from that one on
 abbrev pub first_refused : Lists → ℕ → ℕ → List (List ℕ) → Option RefusedHint
 first_refused setup number place [] = None
 first_refused setup number place (hint ∷ rest) = or_refused place (hint_refusal setup (number + 1) hint) (first_refused setup (number + 1) (place + 1) rest)
 
--- what messages of a sender say, the last one first, and behind it what other mail says
+-- what messages of a sender say, the last one first, and then what other mail says
 unfoldable pub with_letters : Lists → ℕ → List Letter → Covered → Covered
 with_letters setup sender [] mail = mail
 with_letters setup sender (letter ∷ rest) mail = with_letters setup sender rest (option_to_list (item_at setup ((sender, letter.number), letter.text)) ++ mail)

@@ -1,5 +1,5 @@
--- Steps: no contract of a call that users make rests on this file.
--- The run that a trial of hints tells of, once the hints and the run's order have come.
+-- The run that a trial of hints predicts: the hints and the run's order as later mail.
+-- The claim on more calls of the office rests on these definitions, through the law `try_is_next_run`.
 use Rattle.std.specs.Prelude.{◌≡◌, ℕ, ◌+◌, ◌<◌, ◌==◌, if◌then◌else◌, List, length, slice_index, Contains, Some}
 use Rattle.std.specs.FinMap.{get}
 use Rattle.jiff_core.specs.declared.civil.date.Date.{Date}
@@ -15,12 +15,12 @@ use Rattle.office_core_outcome.specs.Hints.{hint_letters}
 abbrev pub AreKeptLetters : Kept → ℕ → List Letter → Type 0
 AreKeptLetters kept sender letters = (letter : Letter) → Contains letters letter → get kept (sender, letter.number) ≡ Some letter.text
 
--- the covers of a trial with so many hints
+-- the covers of a trial with that many hints
 abbrev pub covers_with : Lists → (ℕ → ℕ) → ℕ → ℕ → ℕ
 covers_with setup covers count sender = if sender == release setup then covers sender + count else covers sender
 
--- Later mail holds what is kept, the messages of the hints, and the order of run k + 1, which has the date of a trial and covers what
--- the trial did, and the hints.
+-- Later mail contains what is kept, the messages of the hints, and the order of run k + 1. This order has the date of a
+-- trial, and covers what the trial did, and the hints.
 pub record HasCome (setup : Lists) (kept late : Kept) (k : ℕ) (date : Date) (covers : ℕ → ℕ) (hints : List (List ℕ)) : Type 0 where
   pub within : Within kept late
   pub letters : AreKeptLetters late (release setup) (hint_letters setup (covers (release setup)) hints)

@@ -1,4 +1,4 @@
--- Hints that are proposed: a trial takes them, and its run does each. And what shows that no group frees a source.
+-- Hints that are proposed: a trial accepts them, and its run does each. And what shows that no group frees a source.
 use Rattle.std.specs.Prelude.{◌≡◌, ℕ, ◌+◌, ◌==◌, Bool, true, false, List, [], ◌∷◌, ◌++◌, filter, length, Option, Some, None, unwrap_or, IfSome}
 use Rattle.std.specs.List.{AllZip, flat_map, list_all, list_any, range_with_len}
 use Rattle.std.specs.Str.{bytes_eq}
@@ -23,11 +23,11 @@ use Rattle.office_core_outcome.specs.declared.proposal.Proposal.{Proposal}
 use Rattle.office_core_outcome.specs.Hints.{first_refused, hint_letters, with_letters}
 use Rattle.office_core_outcome.specs.Trial.{trial_date}
 
--- what a run decides, before it is told in texts
+-- what a run decides, before it is written as texts
 abbrev pub decisions_by : Lists → Date → Covered → Suite → List Decision
 decisions_by setup date mail t = (update_of setup.archs mail (excuses_of setup.archs mail t date) t).decisions
 
--- what the run of a trial with these hints decides: over what the covers cover, and the messages of the hints behind it
+-- what the run of a trial with these hints decides: over what the covers cover, and the messages of the hints after it
 abbrev pub tried_decisions : Lists → Kept → ℕ → Date → (ℕ → ℕ) → List (List ℕ) → List Decision
 tried_decisions setup kept k date covers hints =
     decisions_by setup date (with_letters setup (release setup) (hint_letters setup (covers (release setup)) hints) (items_within setup kept covers)) (testing_after setup kept k)
@@ -56,7 +56,7 @@ is_moved source d = elim d [
   | Wait name v offender ↦ false
 ]
 
--- of so many hints, whose numbers go on behind this one, each has a group that moved
+-- n hints, numbered from the one after this number, each have a group that moved
 abbrev pub are_done : ℕ → ℕ → List Decision → Bool
 are_done behind count ds = list_all (λ number. list_any (is_done number) ds) (range_with_len (behind + 1) count)
 
@@ -64,12 +64,12 @@ are_done behind count ds = list_all (λ number. list_any (is_done number) ds) (r
 abbrev pub freed_by : List Decision → List Text → List Text
 freed_by ds sources = filter (λ source. list_any (is_moved source) ds) sources
 
--- testing behind the removals and the groups of the hints that stand, before any source moves alone
+-- testing after the removals and groups of the hints in force, before any source moves alone
 abbrev pub behind_standing : List Text → Covered → List Excuse → Suite → Suite
 behind_standing archs mail excuses t =
     (in_turn (move_easy archs (unstable_sources mail) (unstable_rows archs mail) excuses) (in_force mail) (in_turn (remove_item archs) (flat_map removals_of (in_force mail)) t).suite).suite
 
--- a text shows that no group frees the source behind the hints that stand, over these messages and by the excuses of a run of this date
+-- a text shows that no group frees the source after the hints in force, over these messages and by this date's excuses
 abbrev pub IsShownStuck : List Text → Date → Covered → Suite → Text → Text → Type 0
 IsShownStuck archs date mail t source text =
     let excuses : List Excuse = excuses_of archs mail t date in
@@ -80,8 +80,8 @@ abbrev pub AreShownStuck : List Text → Date → Covered → Suite → List Dec
 AreShownStuck archs date mail t ds sources texts =
     AllZip (λ source text. IfSome text (λ shown. (list_any (is_moved source) ds ≡ false) × IsShownStuck archs date mail t source shown)) sources texts
 
--- Proposed behind k finished runs: a trial on these terms takes the hints, its run does the group of each, and those of the sources that
--- are said to be freed are those that it moves. What is said to show that no group frees another of them shows it.
+-- Proposed after k finished runs: a trial on these terms accepts the hints, and its run does the group of each. The
+-- sources said to be freed are those that it moves. A text on why no group frees another source shows just that.
 pub record IsProposed (setup : Lists) (kept : Kept) (k : ℕ) (terms : TrialOptions) (sources : List Text) (p : Proposal) : Type 0 where
   pub covers : ℕ → ℕ
   pub are : AreTrialCovers setup kept k terms.all covers
@@ -93,6 +93,6 @@ pub record IsProposed (setup : Lists) (kept : Kept) (k : ℕ) (terms : TrialOpti
   pub freed : p.freed.items ≡ freed_by (tried_decisions setup kept k p.date covers p.hints.items) sources
   pub stuck : AreShownStuck setup.archs p.date (items_within setup kept covers) (testing_after setup kept k) (tried_decisions setup kept k p.date covers p.hints.items) sources p.stuck.items
 
--- what is printed: a line for each hint, and the texts behind them
+-- what is printed: a line for each hint, and then the texts
 abbrev pub proposal_text : List (List ℕ) → List (Option (List ℕ)) → List ℕ
 proposal_text hints stuck = flat_map (λ hint. hint ++ 10 ∷ []) hints ++ flat_map (λ text. unwrap_or text []) stuck

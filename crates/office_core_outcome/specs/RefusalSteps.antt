@@ -19,7 +19,7 @@ judged_in j = record {
   testing = j.testing.now;
 }
 
--- what is told of a decision, where it is asked about
+-- the text on a decision, if that is asked for
 abbrev pub IsToldWhere : Bool → Judged → Decision → List ℕ → Type 0
 IsToldWhere true j d text = IsToldOf j d text
 IsToldWhere false j d text = text ≡ []

@@ -23,7 +23,7 @@ pub record IsRuled (setup : Lists) (date : Date) (s : Covered) (old : Suite) (r 
   pub excuses : r.excuses ≡ excuses_of setup.archs s old date
   pub update : IsUpdate setup.archs s r.excuses old r.update new
 
--- what a run decides over covered messages, in texts, and why it refuses hints behind a number
+-- what a run decides over covered messages, as texts, and why it refuses hints after a number
 pub record IsToldRun (setup : Lists) (run : ℕ) (date : Date) (behind : ℕ) (s : Covered) (t : Suite) (told : ToldRun) : Type 0 where
   pub decided_is : told.decided ≡ decided setup run (outcome setup run date s t)
   pub reasons_are : AreReasons (judged_by setup behind date s t) told.reasons

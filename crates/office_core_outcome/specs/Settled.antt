@@ -1,5 +1,5 @@
 -- Steps: no contract of a call that users make rests on this file.
--- Hints of which the run does each, and what shows of sources that no group frees them.
+-- Hints that the run does, each of them, and proofs that no group frees a source.
 use Rattle.std.specs.Prelude.{◌≡◌, ℕ, ◌+◌, true, false, List, Option, None, IfSome, length}
 use Rattle.std.specs.List.{AllZip, list_any}
 use Rattle.jiff_core.specs.declared.civil.date.Date.{Date}
@@ -20,13 +20,13 @@ use Rattle.office_core_outcome.specs.Hints.{first_refused, hint_letters, with_le
 use Rattle.office_core_outcome.specs.Proposal.{AreShownStuck, are_done, decisions_by, freed_by, is_moved, tried_decisions}
 use Rattle.office_core_outcome.specs.declared.proposal.Proposal.{Proposal}
 
--- hints behind a number are taken, and these are the decisions of the run with them, over all that the facts stand for, which does each
+-- the hints after a number are accepted; these are the run's decisions over all that the facts represent, doing each
 pub record IsSettled (setup : Lists) (date : Date) (number : ℕ) (facts : FactLists) (t : Suite) (hints : List (List ℕ)) (ds : List Decision) : Type 0 where
   pub taken : first_refused setup number 0 hints ≡ None
   pub done : are_done number (length hints) ds ≡ true
   pub decided : (s : Covered) → StandsFor facts s t → ds ≡ decisions_by setup date (with_letters setup (release setup) (hint_letters setup number hints) s) t
 
--- by facts, excuses, and testing behind the hints that stand, a text shows that no group frees the source, which these decisions don't move
+-- by facts, excuses, and testing after the hints in force, a text shows that no group frees this unmoved source
 abbrev pub IsStuckBehind : List Text → FactLists → List Excuse → Suite → List Decision → Text → Text → Type 0
 IsStuckBehind archs facts excuses behind ds source text =
     (list_any (is_moved source) ds ≡ false) × IsStuckText archs facts.sources (built_rows archs facts.rows) excuses behind source text
@@ -36,11 +36,11 @@ abbrev pub AreStuckBehind : List Text → FactLists → List Excuse → Suite �
 AreStuckBehind archs facts excuses behind ds sources texts =
     AllZip (λ source text. IfSome text (IsStuckBehind archs facts excuses behind ds source)) sources texts
 
--- the same over all messages that the facts stand for
+-- the same over all messages that the facts represent
 abbrev pub AreStuckOver : List Text → Date → FactLists → Suite → List Decision → List Text → List (Option Text) → Type 0
 AreStuckOver archs date facts t ds sources texts = (s : Covered) → StandsFor facts s t → AreShownStuck archs date s t ds sources texts
 
--- a proposal over these covers, whose date is given
+-- a proposal over these covers, with a given date
 pub record IsProposedOver (setup : Lists) (kept : Kept) (k : ℕ) (date : Date) (covers : ℕ → ℕ) (sources : List Text) (p : Proposal) : Type 0 where
   pub dated : p.date ≡ date
   pub run : p.run ≡ k + 1

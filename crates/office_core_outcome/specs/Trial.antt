@@ -1,4 +1,4 @@
--- What a trial of hints covers, and what it is told.
+-- What a trial of hints covers, and what it reports.
 use Rattle.std.specs.Prelude.{◌≡◌, ⊤, ℕ, ◌+◌, List, [], ◌++◌, Option, Some, None}
 use Rattle.jiff_core.specs.declared.civil.date.Date.{Date}
 use Rattle.testing_rules_model.specs.Covered.{Covered}
@@ -21,13 +21,13 @@ use Rattle.office_core_outcome.specs.declared.Trial.TheVariants.{Told, NoDate, R
 use Rattle.office_core_outcome.specs.Hints.{hint_letters, first_refused, with_letters}
 use Rattle.office_core_outcome.specs.WhyRefused.{AreReasons, Judged}
 
--- the date of a trial: the later of that of the last run and a day that is given
+-- the date of a trial: the later of the last run's date and a given day
 abbrev pub trial_date : Option Date → Option Date → Option Date
 trial_date None day = day
 trial_date (Some last) None = Some last
 trial_date (Some last) (Some day) = Some (later last day)
 
--- what a run decides, in texts
+-- what a run decides, as texts
 abbrev pub decided : Lists → ℕ → Outcome → Decided
 decided setup run o = record { excuses = o.excuses; updates = o.updates; testing = testing_text setup run o.testing }
 
@@ -44,7 +44,7 @@ tried setup kept k date covers hints =
       with = decided setup (k + 1) (outcome setup (k + 1) date (with_letters setup (release setup) (hint_letters setup (covers (release setup)) hints) mail) before);
     }
 
--- a run over covered messages, of whose hints those of the release team behind a number are told
+-- a run over covered messages that reports on the release team's hints after a number
 unfoldable pub judged_by : Lists → ℕ → Date → Covered → Suite → Judged
 judged_by setup behind date mail t = record {
   sender = name_at setup (release setup);
@@ -68,18 +68,18 @@ abbrev pub unless_refused : Option RefusedHint → TrialReport → List ℕ → 
 unless_refused (Some refused) t reasons = Refused refused
 unless_refused None t reasons = Told t reasons
 
--- what a trial is told; there is no date where no run is finished and no day is given
+-- what a trial reports; there is no date if no run is finished and no day is given
 abbrev pub told_on : Lists → Kept → ℕ → Option Date → (ℕ → ℕ) → List (List ℕ) → List ℕ → Trial
 told_on setup kept k None covers hints reasons = NoDate
 told_on setup kept k (Some date) covers hints reasons = unless_refused (first_refused setup (covers (release setup)) 0 hints) (tried setup kept k date covers hints) reasons
 
--- what it is told of why hints are refused is so
+-- its lines on why hints are refused are right
 abbrev pub IsReasoned : Lists → Kept → ℕ → (ℕ → ℕ) → List (List ℕ) → Trial → Type 0
 IsReasoned setup kept k covers hints (Told t reasons) = AreReasons (judged setup kept k t.date covers hints) reasons
 IsReasoned setup kept k covers hints NoDate = ⊤
 IsReasoned setup kept k covers hints (Refused refused) = ⊤
 
--- A trial of hints behind k finished runs.
+-- A trial of hints after k finished runs.
 pub record IsTrial (setup : Lists) (kept : Kept) (k : ℕ) (terms : TrialOptions) (hints : List (List ℕ)) (trial : Trial) : Type 0 where
   pub covers : ℕ → ℕ
   pub are : AreTrialCovers setup kept k terms.all covers
@@ -87,12 +87,12 @@ pub record IsTrial (setup : Lists) (kept : Kept) (k : ℕ) (terms : TrialOptions
   pub told : trial ≡ told_on setup kept k (trial_date (latest_day (orders_to setup kept k)) terms.day) covers hints reasons
   pub reasoned : IsReasoned setup kept k covers hints trial
 
--- a trial but for the lines on why hints are refused
+-- a trial without the lines on why hints are refused
 abbrev pub without_reasons : Trial → Trial
 without_reasons (Told t reasons) = Told t []
 without_reasons NoDate = NoDate
 without_reasons (Refused refused) = Refused refused
 
--- the text of a trial: what hints of a sender would change, and behind it why some of them are refused
+-- the text of a trial: what hints of a sender would change, and then why some of them are refused
 abbrev pub trial_text : List ℕ → List (List ℕ) → TrialReport → List ℕ → List ℕ
 trial_text sender hints report reasons = tried_text sender hints report ++ reasons

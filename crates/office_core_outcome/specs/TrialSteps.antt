@@ -14,7 +14,7 @@ pub record IsTried (setup : Lists) (kept : Kept) (k : ℕ) (date : Date) (covers
   pub report_is : report ≡ tried setup kept k date covers hints
   pub reasons_are : AreReasons (judged setup kept k date covers hints) reasons
 
--- what a trial over these covers is told
+-- what a trial over these covers reports
 pub record IsTrialOver (setup : Lists) (kept : Kept) (k : ℕ) (date : Option Date) (covers : ℕ → ℕ) (hints : List (List ℕ)) (trial : Trial) : Type 0 where
   pub reasons : List ℕ
   pub told : trial ≡ told_on setup kept k date covers hints reasons

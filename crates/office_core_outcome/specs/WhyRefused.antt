@@ -1,5 +1,5 @@
--- Why a run refuses hints, in lines (Debian Developer's Reference 5.13.2.3; removals as britney2's `remove`). That this is told, and in
--- which form, is decided by this office.
+-- Why a run refuses hints, in lines (Debian Developer's Reference 5.13.2.3; removals as britney2's `remove`). That they
+-- are printed, and in which form, is decided by this office.
 use Rattle.std.specs.Prelude.{◌≡◌, ◌⊎◌, ℕ, Bool, true, false, ◌==◌, ◌&&◌, not, nat_lt, if◌then◌else◌, List, [], ◌∷◌, ◌++◌, codes, decimal, map, filter, find, Option, None}
 use Rattle.std.specs.List.{flat_map}
 use Rattle.std.specs.Option.{option_map_or}
@@ -23,8 +23,8 @@ use Rattle.testing_rules_model.specs.Updates.{in_turn, is_in_testing, move_easy,
 use Rattle.testing_rules_refusals.specs.ToldChange.{IsToldMove, IsToldRemoval}
 use Rattle.testing_rules_reports.specs.Reports.{offender_text, words}
 
--- A run whose hints are judged: unstable's sources and rows, the excuses, the hints and the unhints, and the testing before the run. It is
--- told of the hints of this sender behind this number.
+-- A run whose hints are judged: unstable's sources and rows, the excuses, the hints and the unhints, and the testing
+-- before the run. It reports on the hints of this sender after this number.
 pub record Judged : Type 0 where
   pub sender : Text
   pub behind : ℕ
@@ -83,11 +83,11 @@ is_item name version i = bytes_eq i.name name && is_same_version version i.versi
 abbrev pub hints_before : Judged → ℕ → List HintIn
 hints_before j number = filter (λ h. nat_lt h.number number) j.hints
 
--- testing once the removals of those of the hints that are in force had their turns (this office decides the order of turns)
+-- testing after the removals by those of the hints that are in force (this office decides the order of turns)
 abbrev pub behind_removals : Judged → List HintIn → Suite
 behind_removals j hints = (in_turn (remove_item j.archs) (flat_map removals_of (filter (is_in_force j.unhints) hints)) j.testing).suite
 
--- testing at the turn of the group of the hint with the number, behind all removals and the groups of the hints before it; and the group
+-- testing at the turn of the numbered hint's group, after all removals and the groups of earlier hints; and the group
 abbrev pub turn_of_group : Judged → ℕ → Suite
 turn_of_group j number =
     (in_turn (move_easy j.archs j.sources j.rows j.excuses) (filter (is_in_force j.unhints) (hints_before j number)) (behind_removals j j.hints)).suite
@@ -95,13 +95,13 @@ turn_of_group j number =
 abbrev pub group_at : Judged → ℕ → List Text
 group_at j number = group_left (turn_of_group j number) (items_at grouped_items j.hints number)
 
--- testing at the turn of the removal of a source's version that the hint with the number asks for, behind the removals of the hints before
--- it, and the items before it in its own
+-- testing at the turn of the removal of a source's version by the hint with the number: after the removals of the hints
+-- before it, and the items before it in its own
 abbrev pub turn_of_item : Judged → ℕ → Text → Text → Suite
 turn_of_item j number name version =
     (in_turn (remove_item j.archs) (map (λ i. (number, i)) (items_until (is_item name version) (items_at removed_items j.hints number))) (behind_removals j (hints_before j number))).suite
 
--- the lines on why a group can't move as one over a testing, none where that breaks nothing
+-- the lines on why a group can't move as one over a testing, none if that breaks nothing
 abbrev pub AreGroupLines : Judged → Suite → List Text → Text → Type 0
 AreGroupLines j t group text =
     IsToldMove j.archs j.sources j.rows j.excuses t group text
@@ -117,18 +117,18 @@ AreRemovalLines j t name text =
 abbrev pub refused_line : Judged → ℕ → Offender → Text
 refused_line j number o = words (codes "refused" ∷ j.sender ∷ decimal number ∷ []) ++ offender_text j.archs o ++ 10 ∷ []
 
--- this text tells that a hint is refused, and behind that the lines on why, by what these have to be
+-- this text reports that a hint is refused, and then has the lines on why, by what these have to be
 pub record IsRefusal (j : Judged) (number : ℕ) (o : Offender) (AreLines : Text → Type 0) (text : Text) : Type 0 where
   pub lines : Text
   pub why : AreLines lines
   pub is : text ≡ refused_line j number o ++ lines
 
--- it is told of such a hint, and of no other
+-- it reports on such a hint, and on no other
 abbrev pub IsRefusalWhere : Bool → Judged → ℕ → Offender → (Text → Type 0) → Text → Type 0
 IsRefusalWhere true j number o AreLines text = IsRefusal j number o AreLines text
 IsRefusalWhere false j number o AreLines text = text ≡ []
 
--- what is told of a decision: of a group or a removal that is refused for what it would break
+-- the text on a decision: on a group or a removal that is refused for what it would break
 abbrev pub IsToldOf : Judged → Decision → Text → Type 0
 IsToldOf j d text = elim d [
   | RemoveDone n name v ↦ text ≡ []
@@ -148,11 +148,11 @@ pub record IsJoined (IsFirst IsRest : Text → Type 0) (text : Text) : Type 0 wh
   pub rest_is : IsRest rest
   pub is : text ≡ first ++ rest
 
--- what is told of decisions, one after another
+-- the text on decisions, one after another
 abbrev pub AreToldOf : Judged → List Decision → Text → Type 0
 AreToldOf j [] text = text ≡ []
 AreToldOf j (d ∷ ds) text = IsJoined (IsToldOf j d) (AreToldOf j ds) text
 
--- the reasons of a run: what is told of all that it decides
+-- the reasons of a run: the text on all that it decides
 abbrev pub AreReasons : Judged → Text → Type 0
 AreReasons j text = AreToldOf j (update_by j.archs j.sources j.rows j.hints j.unhints j.excuses j.testing).decisions text

@@ -27,7 +27,7 @@ use std::alloc::Global;
 use testing_rules_laws::{Facts, Testing};
 use testing_rules_reports::Decided;
 
-/// A run in which messages of the release team are tried: its number and date, the number behind which theirs go on, and
+/// A run that tries messages of the release team: its number and date, the number after which theirs continue, and
 /// these messages.
 #[derive(Clone, Copy)]
 pub(crate) struct TriedRun<'a> {
@@ -37,14 +37,14 @@ pub(crate) struct TriedRun<'a> {
     pub letters: &'a [Letter],
 }
 
-/// What a run decides, in texts, and in lines why it refuses hints.
+/// What a run decides, as texts, and lines on why it refuses hints.
 #[derive(Drop)]
 pub(crate) struct ToldRun {
     pub decided: Decided,
     pub reasons: Text,
 }
 
-/// The text of testing behind a run.
+/// The text of testing after a run.
 #[tactic(auto, unfolding(office_core_facts::specs::Outcome::testing_text))]
 fn testing_text(alloc: Global, setup: &Setup, run: u32, testing: &Testing) -> Result<Text, NoMemory>
     ensures { IfOk result (λ text. text ≡ testing_text setup.now run testing.now) }
@@ -53,7 +53,7 @@ fn testing_text(alloc: Global, setup: &Setup, run: u32, testing: &Testing) -> Re
     Ok(Text::from_string(text))
 }
 
-/// What a run decides, in texts.
+/// What a run decides, as texts.
 fn decided(alloc: Global, setup: &Setup, run: u32, left: RunOutcome) -> Result<Decided, NoMemory>
     ensures { IfOk result (λ d. d ≡ decided setup.now run (outcome_left left)) }
 {
@@ -78,7 +78,7 @@ fn decided(alloc: Global, setup: &Setup, run: u32, left: RunOutcome) -> Result<D
     }
 }
 
-/// The testing before a run keeps the suites that the run left: its own rows stand in them again.
+/// The testing before a run keeps the suites that the run left, with its own rows restored in them.
 fn set_back(before: &mut Testing, left: &mut RunOutcome) -> Result<(), NoMemory>
     ensures before { before.new ≡ before.old }
     ensures left { outcome_left left.new ≡ outcome_left left.old }
@@ -89,7 +89,7 @@ fn set_back(before: &mut Testing, left: &mut RunOutcome) -> Result<(), NoMemory>
     }
 }
 
-/// What a run decides over the messages that the facts stand for, and with it a copy of the testing before.
+/// What a run decides over the messages that the facts represent, and a copy of the testing before it.
 fn decide(
     alloc: Global,
     setup: &Setup,
@@ -116,7 +116,7 @@ fn decide(
     }
 }
 
-/// The facts take what messages of the release team say. It fails for want of memory alone.
+/// Adds what messages of the release team say to the facts. It fails only if memory runs out.
 pub(crate) fn take_all(
     alloc: Global,
     setup: &Setup,
@@ -130,7 +130,7 @@ pub(crate) fn take_all(
     take_letters(alloc, setup, facts, place, letters)
 }
 
-/// Why a run refuses hints: by what it decides, over the facts and the testing before it.
+/// Why a run refuses hints: from what it decides, over the facts and the testing before it.
 fn reasons_of(
     alloc: Global,
     setup: &Setup,
@@ -157,7 +157,7 @@ fn reasons_of(
     told_of_all(alloc, &judging, decisions)
 }
 
-/// What a run decides, in texts, where this is the testing that it leaves.
+/// What a run decides, as texts, given the testing that it leaves.
 fn decided_by(
     alloc: Global,
     setup: &Setup,
@@ -183,8 +183,8 @@ fn decided_by(
     }
 }
 
-/// What a run decides over the messages that the facts stand for, why it refuses hints, and with it the testing before, which
-/// keeps the suites of the one that the run leaves.
+/// What a run decides over the messages that the facts represent, and why it refuses hints. Also the testing before it,
+/// which keeps the suites of the testing after it.
 fn tell_run(
     alloc: Global,
     setup: &Setup,
@@ -204,8 +204,8 @@ fn tell_run(
     Ok((before, ToldRun { decided, reasons }))
 }
 
-/// What a run decides once the facts have taken what messages of the release team say, why it refuses hints, and with it a
-/// copy of the testing before. It fails for want of memory alone.
+/// What a run decides once the facts have what messages of the release team say, why it refuses hints, and a copy of
+/// the testing before it. It fails only if memory runs out.
 fn decide_with(
     alloc: Global,
     setup: &Setup,
@@ -222,8 +222,8 @@ fn decide_with(
     Ok((before, told))
 }
 
-/// What a run decides without these messages of the release team, and with them; and with it a copy of the testing before. It
-/// fails for want of memory alone.
+/// What a run decides without these messages of the release team, and with them; and a copy of the testing before it.
+/// It fails only if memory runs out.
 pub(crate) fn decide_both(
     alloc: Global,
     setup: &Setup,

@@ -46,7 +46,7 @@ struct AskedHint {
     number: u32,
 }
 
-/// What the lines of an update on a hint begin with, behind this word.
+/// The beginning of the lines of an update on a hint, after this word.
 fn front(alloc: Global, word: &str, number: u32) -> Result<String, AllocError>
     ensures { IfOk result (λ text. string_bytes text ≡ front word.now number) }
 {
@@ -84,8 +84,8 @@ fn lines_on_hint(alloc: Global, update: &str, number: u32) -> Result<String, All
     Ok(text)
 }
 
-/// How a hint stands of which a run decides nothing: the run covers none of its number, or an unhint took it back, or there
-/// was nothing to decide.
+/// The state of a hint on which a run decides nothing: the run doesn't cover its number, an unhint took it back, or
+/// nothing was to be decided.
 fn standing_of(
     alloc: Global,
     facts: &Facts,
@@ -106,7 +106,7 @@ fn standing_of(
     }
 }
 
-/// The lines of an update on the hint with this number, or a line on how it stands where there is none.
+/// The lines of an update on the hint with this number, or a line on its state if there is none.
 fn lines_or_standing(
     alloc: Global,
     update: &str,
@@ -124,7 +124,7 @@ fn lines_or_standing(
     }
 }
 
-/// The text on a hint of this sender: the lines of the update on it, or how it stands, and behind them why it is refused.
+/// The text on a hint of this sender: the lines of the update on it, or its state, and then why it is refused.
 fn hint_text(
     alloc: Global,
     sender: &str,
@@ -141,7 +141,7 @@ fn hint_text(
     Ok(Text::from_string(text))
 }
 
-/// What a run made of a hint, by what it decided over these facts and the testing before it.
+/// What a run made of a hint, from its decisions over these facts and the testing before it.
 fn told_by(
     alloc: Global,
     setup: &Setup,
@@ -176,7 +176,7 @@ fn told_by(
     })
 }
 
-/// The same, where the run is made from this testing, which stays and keeps the suites.
+/// The same for a run made from this testing, which stays and keeps the suites.
 fn told_over(
     alloc: Global,
     setup: &Setup,
@@ -193,7 +193,7 @@ fn told_over(
     told_by(alloc, setup, facts, asked, testing, &ruled)
 }
 
-/// The same over the store's testing, by facts that go with it.
+/// The same over the store's testing, with facts that go with it.
 fn told_kept<K: Keeper>(
     alloc: Global,
     setup: &Setup,
@@ -211,7 +211,7 @@ fn told_kept<K: Keeper>(
     Ok(told)
 }
 
-/// What a run makes of a hint, where these are the orders of that run and of those before it.
+/// What a run makes of a hint, given the orders of that run and of those before it.
 fn told_next<K: Keeper>(
     alloc: Global,
     setup: &Setup,
@@ -229,11 +229,11 @@ fn told_next<K: Keeper>(
     told_kept(alloc, setup, keeper, &known.facts, asked)
 }
 
-/// What the run behind the finished ones of an office with this store makes of the hint of this number, over what is kept of
-/// all that the run covers: the lines of its update on the hint, or how the hint stands, and lines that show why it is
-/// refused. There is none exactly if the run's order hasn't come. What is known of the mail is used.
+/// What the next run of an office with this store makes of the hint of this number, over all kept mail that the run
+/// covers. The text has the lines of its update on the hint, or the hint's state, and the lines on why it is refused.
+/// The result is none exactly if the run's order hasn't come. It uses what is known of the mail.
 ///
-/// It fails for want of memory or of the store alone.
+/// It fails only if memory runs out or the store fails.
 pub fn hint_told<K: Keeper>(
     alloc: Global,
     setup: &Setup,

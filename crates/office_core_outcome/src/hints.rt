@@ -26,7 +26,7 @@ fn hint_letter(alloc: Global, setup: &Setup, number: u32, hint: &str) -> Result<
     })
 }
 
-/// Why a text is refused, if it is. It fails for want of memory alone.
+/// Why a text is refused, if it is. It fails only if memory runs out.
 fn refusal_in(alloc: Global, setup: &Setup, text: &[u8]) -> Result<Option<MailFault>, StoreFault>
     ensures refusal { IfOk result (λ refusal. refusal ≡ refusal_in (read setup.now text.now)) }
     ensures no_store { IfErr result (λ fault. fault ≡ StoreFault.NoMemory) }
@@ -40,7 +40,7 @@ fn refusal_in(alloc: Global, setup: &Setup, text: &[u8]) -> Result<Option<MailFa
     }
 }
 
-/// A refusal, but for want of memory.
+/// A refusal, unless memory ran out.
 fn refused_for(fault: MailFault) -> Result<Option<MailFault>, StoreFault>
     ensures refusal { IfOk result (λ refusal. (refusal ≡ Some fault) × (fault ≡ MailFault.NoMemory → ⊥)) }
     ensures no_store { IfErr result (λ fault. fault ≡ StoreFault.NoMemory) }
@@ -51,8 +51,8 @@ fn refused_for(fault: MailFault) -> Result<Option<MailFault>, StoreFault>
     }
 }
 
-/// Takes the message of a hint, whose number comes behind this one, or tells why it is refused. It fails for want of
-/// memory alone.
+/// Adds the message of a hint under the number after this one, or returns why it is refused. It fails only if memory
+/// runs out.
 #[tactic(auto, unfolding(crate::specs::Hints::hint_refusal))]
 fn take_hint(
     alloc: Global,
@@ -75,8 +75,8 @@ fn take_hint(
     Ok(refusal)
 }
 
-/// Takes the messages of hints, whose numbers go on behind this one, up to the first that is refused. It fails for want of
-/// memory alone.
+/// Adds the messages of hints, numbered from the one after this number, up to the first refused one. It fails only if
+/// memory runs out.
 pub(crate) fn take_hints(
     alloc: Global,
     setup: &Setup,

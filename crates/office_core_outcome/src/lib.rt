@@ -1,5 +1,5 @@
-//! A run by the rules over facts: testing as it leaves it, and its two reports; and what the next run would decide if some
-//! hints were covered too, which hints it would do, and what shows that none frees a source. Nothing is kept.
+//! A run by the rules over facts: testing after it, and its two reports. Also what the next run would decide if some
+//! hints were covered too, which hints it would do, and proofs that none frees a source. Nothing is kept.
 #![tactic(auto)]
 
 mod asked;
@@ -29,25 +29,25 @@ pub use testing_rules_groups::{DeadSource, LongGroup};
 pub use testing_rules_reports::{Decided, TrialReport, has_changes};
 pub use trying::{trial_text, try_hints};
 
-/// What a trial takes beside the hints: a day, if one is given, and whether all mail of all senders is covered that is
-/// kept without a gap.
+/// The terms of a trial: a day, if one is given, and whether it covers all mail of all senders that is kept without a
+/// gap.
 #[derive(Clone, Copy, Debug, PartialEq, Eq)]
 pub struct TrialOptions {
     pub day: Option<Date>,
     pub all: bool,
 }
 
-/// A hint that is refused, by its place among the hints, and why.
+/// A refused hint, by its place among the hints, and why.
 #[derive(Clone, Copy, Debug, PartialEq, Eq)]
 pub struct RefusedHint {
     pub place: usize,
     pub fault: MailFault,
 }
 
-/// What a trial of hints is told.
+/// What a trial of hints reports.
 #[derive(Drop)]
 pub enum Trial {
-    /// What the next run would decide, and in lines why it refuses some of the hints.
+    /// What the next run would decide, and lines on why it refuses some of the hints.
     Told(TrialReport, Text),
     /// No run is finished, and no day is given.
     NoDate,
@@ -55,7 +55,7 @@ pub enum Trial {
     Refused(RefusedHint),
 }
 
-/// What is told of a hint for a run, and whether the run covers it.
+/// The text on a hint for a run, and whether the run covers it.
 #[derive(Drop)]
 pub struct HintText {
     pub text: Text,

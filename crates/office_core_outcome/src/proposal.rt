@@ -12,11 +12,11 @@ use testing_rules_groups::{DeadSource, LongGroup};
 /// How the search ended for a source that was asked for.
 #[derive(Clone, Copy, Debug, PartialEq, Eq)]
 pub enum SourceEnd {
-    /// It is no candidate that hasn't moved behind the standing hints.
+    /// It isn't a candidate still waiting after the hints in force.
     NoCandidate,
     /// The run moves it in the group of a proposed hint.
     Grouped,
-    /// The run moves it alone, or by a hint that stands already.
+    /// The run moves it alone, or by a hint in force.
     Alone,
     /// No group frees it, as its blocks show.
     Stuck,
@@ -31,10 +31,10 @@ pub struct AskedSource {
     pub end: SourceEnd,
 }
 
-/// What is told beside a proposal. No promise speaks of it.
+/// Notes on a proposal. No promise speaks of them.
 #[derive(Drop)]
 pub struct SearchNotes {
-    /// How many candidates haven't moved behind the standing hints.
+    /// How many candidates haven't moved after the hints in force.
     pub waiting: usize,
 
     /// How many of those the run with the proposed hints moves.
@@ -46,16 +46,16 @@ pub struct SearchNotes {
     /// The groups whose hints would be too long.
     pub long: Vec<LongGroup>,
 
-    /// How many of the groups that the search found the run refused.
+    /// How many of the groups found by the search the run refused.
     pub refused: usize,
 
-    /// Each source that was asked for, in that order.
+    /// Each requested source, in the order of the request.
     pub asked: Vec<AskedSource>,
 }
 
-/// The hints that are proposed for the next run: their numbers go on from `first`. `freed` are those of the sources asked
-/// for that the run with the hints moves. `stuck` has for each source asked for the blocks of lines that show that no group
-/// frees it, if there are any.
+/// The hints proposed for the next run, numbered from `first`. `freed` are the requested sources that the run with the
+/// hints moves. `stuck` has for each requested source the blocks of lines which show that no group frees it, if there
+/// are any.
 #[derive(Drop)]
 pub struct Proposal {
     pub run: u32,
@@ -104,7 +104,7 @@ fn push_stuck(text: &mut String, stuck: &[Option<Text>]) -> Result<(), AllocErro
     Ok(())
 }
 
-/// A proposal as text: a line for each hint, and behind them the blocks of the sources that no group frees.
+/// A proposal as text: a line for each hint, and then the blocks of the sources that no group frees.
 pub fn proposal_text(alloc: Global, proposal: &Proposal) -> Result<Text, NoMemory>
     ensures { IfOk result (λ text. text ≡ proposal_text proposal.now.hints.items proposal.now.stuck.items) }
 {

@@ -36,7 +36,7 @@ use testing_rules_excuses::excuses;
 use testing_rules_groups::{Found, find_groups};
 use testing_rules_laws::{Facts, Testing, Update};
 
-/// Hints of which the run does each, what it decides then, what shows that sources are stuck, and what is told beside.
+/// Hints that the run does, each of them, its decisions then, the proofs that sources are stuck, and notes.
 #[derive(Drop)]
 struct SettledHints {
     hints: Vec<Text>,
@@ -46,14 +46,14 @@ struct SettledHints {
     notes: SearchNotes,
 }
 
-/// The sources that a proposal is asked for, and on which terms.
+/// The sources that a proposal is to free, and its terms.
 #[derive(Clone, Copy)]
 struct AskedProposal<'a> {
     sources: &'a [Text],
     terms: TrialOptions,
 }
 
-/// The decisions of the run with the hints that stand, unless none stands. It fails for want of memory alone.
+/// The decisions of the run with the hints in force, unless there is none. It fails only if memory runs out.
 fn standing_decisions(
     alloc: Global,
     setup: &Setup,
@@ -69,7 +69,7 @@ fn standing_decisions(
     decisions_beside(alloc, setup, date, facts, testing)
 }
 
-/// The groups that a search over the facts and testing finds. Testing stays. It fails for want of memory alone.
+/// The groups that a search over the facts and testing finds. Testing stays. It fails only if memory runs out.
 fn groups_found(alloc: Global, asked: &Asked<'_>, testing: &mut Testing) -> Result<Found, NoMemory>
     ensures { testing.new ≡ testing.old }
 {
@@ -84,8 +84,8 @@ fn groups_found(alloc: Global, asked: &Asked<'_>, testing: &mut Testing) -> Resu
     Ok(found)
 }
 
-/// Hints whose numbers go on behind the one asked for, and of which the run does each; and what shows of the sources that
-/// no group frees them. Testing and the facts stay. It fails for want of memory alone.
+/// Hints, numbered from the one after the given number, that the run does, each of them. Also proofs that no group
+/// frees a source. Testing and the facts stay. It fails only if memory runs out.
 fn settled_hints(
     alloc: Global,
     asked: &Asked<'_>,
@@ -114,8 +114,8 @@ fn settled_hints(
     })
 }
 
-/// Hints of which the run over the testing that is kept does each, and what shows of the sources that no group frees them.
-/// Testing is given back with what speeds the next run.
+/// Hints that the run over the kept testing does, each of them, and proofs that no group frees a source. Testing is
+/// returned with what speeds the next run.
 fn settled_kept<K: Keeper>(
     alloc: Global,
     keeper: &mut K,
@@ -132,7 +132,7 @@ fn settled_kept<K: Keeper>(
     Ok(settled)
 }
 
-/// What is proposed for the run behind the finished ones.
+/// What is proposed for the next run.
 fn proposed_over_covers<K: Keeper>(
     alloc: Global,
     setup: &Setup,
@@ -180,7 +180,7 @@ fn proposed_over_covers<K: Keeper>(
     })
 }
 
-/// What is proposed behind the finished runs, unless there is no date.
+/// What is proposed after the finished runs, unless there is no date.
 fn proposed_after_orders<K: Keeper>(
     alloc: Global,
     setup: &Setup,
@@ -213,7 +213,7 @@ fn proposed_after_orders<K: Keeper>(
     }
 }
 
-/// What is proposed for the next run, where what is known is recalled first, if nothing is known yet.
+/// What is proposed for the next run. Recalls what is known first, if nothing is known yet.
 fn proposed_for_next_run<K: Keeper>(
     alloc: Global,
     setup: &Setup,
@@ -235,12 +235,12 @@ fn proposed_for_next_run<K: Keeper>(
     proposed_after_orders(alloc, setup, keeper, known, finished, asked)
 }
 
-/// `easy` hints that the next run of an office with this store would do if they were covered too: those that free these
-/// sources, or all that the search finds where none is named. The run covers what a trial's does, and has its date; there
-/// is no proposal where there is no date. Nothing is kept. What is known of the mail is used, or else recalled from the store
-/// and known from then on. It isn't promised that all hints are found that there are: an empty list is a proposal too.
+/// `easy` hints that the next run of an office with this store would do if they were covered too. They free these
+/// sources, or are all that the search finds if no source is named. The run covers what a trial's does, and has its
+/// date; without a date there is no proposal. Nothing is kept. What is known of the mail is used, or else recalled from
+/// the store and known from then on. The search may miss hints: an empty list is a proposal too.
 ///
-/// It fails for want of memory or of the store alone.
+/// It fails only if memory runs out or the store fails.
 pub fn propose<K: Keeper>(
     alloc: Global,
     setup: &Setup,

@@ -16,8 +16,8 @@ use testing_rules_moves::{at_group, at_removal};
 use testing_rules_refusals::{group_refusal, removal_refusal};
 use testing_rules_suites::Testing;
 
-/// A run whose hints are judged: its facts, its excuses, and the testing before it. It is told of the hints of the sender
-/// of this name, behind this number.
+/// A run whose hints are judged: its facts, its excuses, and the testing before it. It reports on the hints of the
+/// sender of this name, after this number.
 #[derive(Clone, Copy)]
 pub(crate) struct Judging<'a> {
     pub sender: &'a str,
@@ -35,7 +35,7 @@ fn no_lines(alloc: Global) -> Text
     Text::from_string(String::new(alloc))
 }
 
-/// The lines on why a group can't move as one over a testing, none where that breaks nothing. Testing is let go.
+/// The lines on why a group can't move as one over a testing, none if that breaks nothing. Testing is dropped.
 fn group_lines_over(
     alloc: Global,
     judging: &Judging<'_>,
@@ -70,7 +70,7 @@ fn group_lines(alloc: Global, judging: &Judging<'_>, number: u32) -> Result<Text
     }
 }
 
-/// The lines on why a source can't be removed from a testing, none where that breaks nothing. Testing is let go.
+/// The lines on why a source can't be removed from a testing, none if that breaks nothing. Testing is dropped.
 fn removal_lines_over(
     alloc: Global,
     judging: &Judging<'_>,
@@ -89,7 +89,7 @@ fn removal_lines_over(
     }
 }
 
-/// Testing at the turn of a removal that the hint with this number asks for.
+/// Testing at the turn of a removal by the hint with this number.
 fn turn_of_item(
     alloc: Global,
     judging: &Judging<'_>,
@@ -112,7 +112,7 @@ fn turn_of_item(
     )
 }
 
-/// The lines on why a removal that the hint with this number asks for is refused at its turn.
+/// The lines on why a removal by the hint with this number is refused at its turn.
 fn removal_lines(
     alloc: Global,
     judging: &Judging<'_>,
@@ -126,7 +126,7 @@ fn removal_lines(
     removal_lines_over(alloc, judging, turn, name)
 }
 
-/// The line on a hint that is refused, and behind it the lines on why.
+/// The line on a refused hint, and then the lines on why.
 fn refusal_text(
     alloc: Global,
     judging: &Judging<'_>,
@@ -145,7 +145,7 @@ fn refusal_text(
     Ok(Text::from_string(text))
 }
 
-/// Why the group of a hint is refused; nothing is told where its number isn't behind the one that is known.
+/// Why the group of a hint is refused; an empty text if its number isn't above the known one.
 fn told_of_group(
     alloc: Global,
     judging: &Judging<'_>,
@@ -162,7 +162,7 @@ fn told_of_group(
     }
 }
 
-/// Why a removal is refused; nothing is told where its hint's number isn't behind the one that is known.
+/// Why a removal is refused; an empty text if its hint's number isn't above the known one.
 fn told_of_removal(
     alloc: Global,
     judging: &Judging<'_>,
@@ -181,7 +181,7 @@ fn told_of_removal(
     }
 }
 
-/// What is told of a decision: of a group or a removal that is refused for what it would break.
+/// The text on a decision: on a group or a removal that is refused for what it would break.
 fn told_of(alloc: Global, judging: &Judging<'_>, decision: &Decision) -> Result<Text, NoMemory>
     ensures { IfOk result (IsToldOf (judged_in judging.now) decision.now) }
 {
@@ -201,7 +201,7 @@ fn told_of(alloc: Global, judging: &Judging<'_>, decision: &Decision) -> Result<
     }
 }
 
-/// What is told of decisions, one after another.
+/// The text on decisions, one after another.
 pub(crate) fn told_of_all(
     alloc: Global,
     judging: &Judging<'_>,
@@ -231,7 +231,7 @@ fn is_of_hint(number: u32, decision: &Decision) -> bool
     }
 }
 
-/// What is told of a decision, if it is on the hint with this number.
+/// The text on a decision, if it is on the hint with this number.
 fn told_where(
     alloc: Global,
     judging: &Judging<'_>,
@@ -247,7 +247,7 @@ fn told_where(
     }
 }
 
-/// What is told of the decisions on the hint with this number.
+/// The text on the decisions on the hint with this number.
 pub(crate) fn told_of_hint(
     alloc: Global,
     judging: &Judging<'_>,

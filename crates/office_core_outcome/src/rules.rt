@@ -19,7 +19,7 @@ use testing_rules_excuses::excuses;
 use testing_rules_laws::{Archs, Excuses, Facts, Testing, Update, migrate};
 use testing_rules_reports::{excuses_text, update_text};
 
-/// What a run decides: testing as it leaves it, and the two reports.
+/// What a run decides: testing after it, and the two reports.
 #[derive(Drop)]
 pub struct RunOutcome {
     pub testing: Testing,
@@ -27,15 +27,15 @@ pub struct RunOutcome {
     pub updates: Text,
 }
 
-/// What a run decides, and by which excuses, before it is told in texts.
+/// What a run decides, and by which excuses, before it is written as texts.
 #[derive(Drop)]
 pub(crate) struct Ruled {
     pub excuses: Excuses,
     pub update: Update,
 }
 
-/// A run by the rules from this testing, over the messages that the facts stand for. What it brings into testing is given by
-/// any messages that say the facts.
+/// A run by the rules from this testing, over the messages that the facts represent. Any messages that say the facts
+/// give what it brings into testing.
 fn run_rules(
     alloc: Global,
     setup: &Setup,
@@ -62,7 +62,7 @@ fn run_rules(
     }
 }
 
-/// A run by the rules from this testing, and with it a copy of the testing before.
+/// A run by the rules from this testing, and a copy of the testing before it.
 pub fn run_beside(
     alloc: Global,
     setup: &Setup,
@@ -86,7 +86,7 @@ pub fn run_beside(
     }
 }
 
-/// A run over a testing that is lent: its two reports.
+/// A run over a borrowed testing: its two reports.
 fn run_over(
     alloc: Global,
     setup: &Setup,
@@ -109,7 +109,7 @@ fn run_over(
     reports
 }
 
-/// What a run over a testing that is lent decides, and by which excuses, before it is told in texts.
+/// What a run over a borrowed testing decides, and by which excuses, before it is written as texts.
 pub(crate) fn judge_run(
     alloc: Global,
     setup: &Setup,
@@ -150,7 +150,7 @@ pub(crate) fn reports(
     })
 }
 
-/// What a run over a testing that is lent decides, before it is told in texts.
+/// What a run over a borrowed testing decides, before it is written as texts.
 pub fn decisions_over(
     alloc: Global,
     setup: &Setup,

@@ -1,4 +1,4 @@
-//! What is told beside a proposal.
+//! Notes on a proposal.
 
 use crate::asked::Asked;
 use crate::proposal::{AskedSource, SearchNotes, SourceEnd};
@@ -17,7 +17,7 @@ pub(crate) struct FoundBeside {
     pub groups: usize,
 }
 
-/// The hints that the search found, and what is told beside them.
+/// The hints that the search found, and the notes on them.
 pub(crate) fn parts_of(found: Found) -> (Vec<Text>, FoundBeside) {
     let Found {
         hints,
@@ -101,7 +101,7 @@ fn end_moved(decisions: &[Decision], source: &str, number: u32) -> Option<Source
     None
 }
 
-/// How the search ended for each of the sources, of which these are shown to be stuck.
+/// How the search ended for each of the sources, given those shown to be stuck.
 fn asked_sources(
     alloc: Global,
     beside: &FoundBeside,
@@ -121,7 +121,7 @@ fn asked_sources(
     Ok(ends)
 }
 
-/// What is told beside so many hints, by the decisions of the run with them and by what shows that sources are stuck.
+/// The notes on n hints, from the decisions of the run with them and from the proofs that sources are stuck.
 pub(crate) fn notes_on(
     alloc: Global,
     beside: FoundBeside,

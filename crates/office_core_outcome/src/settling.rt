@@ -21,7 +21,7 @@ use office_store_keeper::Letter;
 use std::alloc::Global;
 use testing_rules_laws::{Decision, Facts, Moved, Testing, Update};
 
-/// The most times that hints are tried: each time those are left out whose groups the run doesn't move.
+/// The most times that hints are tried: each time those whose groups the run doesn't move are left out.
 const ROUNDS: u32 = 8;
 
 /// The group of the hint with this number moved.
@@ -159,7 +159,7 @@ pub(crate) fn keep_suites(before: &mut Testing, after: Testing) -> Result<(), No
     }
 }
 
-/// What a run decides, before it is told in texts. Testing stays.
+/// What a run decides, before it is written as texts. Testing stays.
 pub(crate) fn decisions_beside(
     alloc: Global,
     setup: &Setup,
@@ -176,8 +176,8 @@ pub(crate) fn decisions_beside(
     Ok(update)
 }
 
-/// What a run decides once the facts have taken what messages of the release team say. Testing and the facts stay. It fails
-/// for want of memory alone.
+/// What a run decides once the facts have what messages of the release team say. Testing and the facts stay. It fails
+/// only if memory runs out.
 fn decisions_with(
     alloc: Global,
     setup: &Setup,
@@ -197,8 +197,8 @@ fn decisions_with(
     Ok(update)
 }
 
-/// The hints, and what the run decides with them, if they are taken and it does the group of each; or else those that are
-/// to be tried in their place, with no decisions. Testing and the facts stay. It fails for want of memory alone.
+/// The hints, and what the run decides with them, if they are accepted and it does the group of each; or else the hints
+/// to try instead, with no decisions. Testing and the facts stay. It fails only if memory runs out.
 fn try_once(
     alloc: Global,
     setup: &Setup,
@@ -226,7 +226,7 @@ fn try_once(
     Ok((left, None))
 }
 
-/// What the run decides with no hint. It fails for want of memory alone.
+/// What the run decides with no hint. It fails only if memory runs out.
 fn settle_none(
     alloc: Global,
     setup: &Setup,
@@ -243,8 +243,8 @@ fn settle_none(
     Ok((Vec::new(alloc), update))
 }
 
-/// Those of the hints that are taken one after another and whose groups the run moves with no others, and what it decides
-/// then: none, where that isn't found after so many times. Testing and the facts stay. It fails for want of memory alone.
+/// Of the hints those that are accepted one after another, if the run moves the groups of them all, and its decisions
+/// then; none if `ROUNDS` tries find none. Testing and the facts stay. It fails only if memory runs out.
 pub(crate) fn settle(
     alloc: Global,
     setup: &Setup,

@@ -1,4 +1,4 @@
-//! What shows of sources that no group frees them.
+//! Proofs that no group frees a source.
 
 ghost use Rattle.std.specs.Prelude.{IfOk, IfSome};
 ghost use Rattle.office_core_outcome.specs.Settled.{AreStuckBehind, AreStuckOver, IsStuckBehind};
@@ -13,8 +13,8 @@ use testing_rules_laws::{Archs, Decision, Excuse, Facts, Testing};
 use testing_rules_moves::hinted;
 use testing_rules_refusals::{Suspect, stuck_text};
 
-/// What blocks of lines go by: the facts and the excuses of a run, testing behind the hints that stand, what a search holds
-/// for dead, and what the run decides with the proposed hints.
+/// The basis of blocks of lines: the facts and excuses of a run, and testing after the hints in force. Also what a
+/// search considers dead, and what the run decides with the proposed hints.
 #[derive(Clone, Copy)]
 struct Ground<'g> {
     archs: &'g Archs,
@@ -25,7 +25,7 @@ struct Ground<'g> {
     decisions: &'g [Decision],
 }
 
-/// What a search holds for dead, for the blocks of lines that are to show it.
+/// What a search considers dead, for the blocks of lines that are to show it.
 fn suspects_of(alloc: Global, dead: &[DeadSource]) -> Result<Vec<Suspect>, NoMemory> {
     let mut suspects = Vec::with_capacity(alloc, dead.len())?;
     for source in dead {
@@ -39,7 +39,7 @@ fn suspects_of(alloc: Global, dead: &[DeadSource]) -> Result<Vec<Suspect>, NoMem
     Ok(suspects)
 }
 
-/// What shows that no group frees a source; none of one that the run moves.
+/// The proof that no group frees a source; none if the run moves it.
 fn shown_stuck(alloc: Global, ground: &Ground<'_>, source: &str) -> Result<Option<Text>, NoMemory>
     ensures { IfOk result (λ text. IfSome text (IsStuckBehind ground.now.archs.now ground.now.facts.now ground.now.excuses.now ground.now.behind.now ground.now.decisions.now source.now)) }
 {
@@ -73,9 +73,9 @@ fn each_stuck(
     Ok(texts)
 }
 
-/// For each of the sources that are asked for what shows that no group frees it, if the search found it dead, the run
-/// doesn't move it, and the lines show it. The decisions are those of the run with the proposed hints. The one error is want
-/// of memory.
+/// For each requested source the proof that no group frees it, if the search found it dead, the run doesn't move it,
+/// and the lines show it. The decisions are those of the run with the proposed hints. The one error is exhausted
+/// memory.
 pub(crate) fn stuck_texts(
     alloc: Global,
     asked: &Asked<'_>,

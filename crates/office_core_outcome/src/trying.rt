@@ -42,7 +42,7 @@ fn later(a: Date, b: Date) -> Date
     if a < b { b } else { a }
 }
 
-/// The date of a trial: the later of that of the last run and a day that is given.
+/// The date of a trial: the later of the last run's date and a given day.
 pub(crate) fn trial_date(last: Option<Date>, day: Option<Date>) -> Option<Date>
     ensures { result ≡ trial_date last day }
 {
@@ -53,7 +53,7 @@ pub(crate) fn trial_date(last: Option<Date>, day: Option<Date>) -> Option<Date>
     }
 }
 
-/// The text of a trial: what hints of a sender would change, and behind it why some of them are refused.
+/// The text of a trial: what hints of a sender would change, and then why some of them are refused.
 pub fn trial_text(
     alloc: Global,
     sender: &str,
@@ -75,7 +75,7 @@ pub(crate) struct FinishedRuns<'a> {
     pub orders: &'a [RunOrder],
 }
 
-/// The run behind the finished ones, of which these are the orders: its date, and what it covers of each sender.
+/// The next run, given the orders of the finished ones: its date, and what it covers of each sender.
 #[derive(Clone, Copy)]
 pub(crate) struct NextRun<'a> {
     pub finished: u32,
@@ -91,8 +91,8 @@ struct AskedTrial<'a> {
     terms: TrialOptions,
 }
 
-/// What a run decides over the messages that the facts stand for and the testing that is kept, without letters of the
-/// release team, and with them. Testing is given back with what speeds the next run.
+/// What a run decides over the messages that the facts represent and the kept testing, without letters of the release
+/// team, and with them. Testing is returned with what speeds the next run.
 fn decide_kept<K: Keeper>(
     alloc: Global,
     setup: &Setup,
@@ -112,7 +112,7 @@ fn decide_kept<K: Keeper>(
     Ok((without, with))
 }
 
-/// What the run behind the finished ones decides over these covers, without letters of the release team, and with them.
+/// What the next run decides over these covers, without letters of the release team, and with them.
 fn decide_within<K: Keeper>(
     alloc: Global,
     setup: &Setup,
@@ -136,8 +136,7 @@ fn decide_within<K: Keeper>(
     told
 }
 
-/// What these letters of the release team would change in the run behind the finished ones, and why it refuses hints of
-/// theirs.
+/// What these letters of the release team would change in the next run, and why it refuses hints in them.
 fn trial_of_letters<K: Keeper>(
     alloc: Global,
     setup: &Setup,
@@ -178,7 +177,7 @@ fn trial_of_letters<K: Keeper>(
     Ok((report, reasons))
 }
 
-/// What hints would change in the run behind the finished ones, unless one is refused.
+/// What hints would change in the next run, unless one is refused.
 fn trial_over_covers<K: Keeper>(
     alloc: Global,
     setup: &Setup,
@@ -203,7 +202,7 @@ fn trial_over_covers<K: Keeper>(
     Ok(Trial::Told(report, reasons))
 }
 
-/// What hints would change in the run behind the finished ones, unless there is no date or one of them is refused.
+/// What hints would change in the next run, unless there is no date or one of them is refused.
 fn trial_after_orders<K: Keeper>(
     alloc: Global,
     setup: &Setup,
@@ -233,8 +232,7 @@ fn trial_after_orders<K: Keeper>(
     }
 }
 
-/// What hints would change in the run behind the finished ones, where what is known is recalled first, if nothing is
-/// known yet.
+/// What hints would change in the next run. Recalls what is known first, if nothing is known yet.
 fn trial_of_next_run<K: Keeper>(
     alloc: Global,
     setup: &Setup,
@@ -255,13 +253,13 @@ fn trial_of_next_run<K: Keeper>(
     trial_after_orders(alloc, setup, keeper, known, finished, asked)
 }
 
-/// What the next run of an office with this store would decide if these hints were covered too, beside what it would decide
-/// without them. It covers all that the finished runs cover, and all that the release team sent without a gap, or that
-/// every sender did; its date is that of the last run, or a later day that is given. Of each of these hints that the run
-/// refuses for what it would break, lines tell why. Nothing is kept. What is known of the
-/// mail is used, or else recalled from the store and known from then on.
+/// What the next run of an office with this store would decide if these hints were covered too, and what it would
+/// decide without them. It covers all that the finished runs cover, and the gapless mail of the release team, or of
+/// every sender. Its date is that of the last run, or a later given day. If the run refuses a hint for what it would
+/// break, lines say why. Nothing is kept. What is known of the mail is used, or else recalled from the store and known
+/// from then on.
 ///
-/// It fails for want of memory or of the store alone.
+/// It fails only if memory runs out or the store fails.
 pub fn try_hints<K: Keeper>(
     alloc: Global,
     setup: &Setup,

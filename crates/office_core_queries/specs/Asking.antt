@@ -9,18 +9,18 @@ use Rattle.office_core_orders.specs.StaysTrusted.{StaysTrusted}
 use Rattle.office_core_queries.specs.declared.faults.AskFault.{AskFault}
 use Rattle.office_core_queries.specs.declared.faults.AskFault.TheVariants.{NoMemory, Store, Write}
 
--- What is kept stays, and the store counts what it refuses. Where nobody else writes it, it stays trusted unless the disk failed.
+-- What is kept stays; the store counts its refusals. If nobody else writes it, it stays trusted unless the disk failed.
 pub record AsksOffice {K T : Type 0} (keeper : Ghosts K) (old new : K) (result : Result T StoreFault) : Type 0 where
   pub asks : Asks keeper old new
   pub lasts : StaysTrusted keeper old new (is_ok result)
   pub counted : Counted (keeper.refusals old) (keeper.refusals new) result
 
--- how a fault of the store is told beside those of a writer
+-- the name of a fault of the store among those of a writer
 abbrev pub told : StoreFault → AskFault
 told StoreFault.NoMemory = NoMemory
 told StoreFault.Store = Store
 
--- the store counts what it refuses and the writer what it fails, and neither counts anything else
+-- the store counts its refusals and the writer its failures, and neither counts anything else
 abbrev pub CountsBoth : {T : Type 0} → ℕ → ℕ → ℕ → ℕ → Result T AskFault → Type 0
 CountsBoth before after failed fails (Ok value) = (after ≡ before) × (fails ≡ failed)
 CountsBoth before after failed fails (Err NoMemory) = (after ≡ before) × (fails ≡ failed)
@@ -34,8 +34,8 @@ CountsWrites failed fails (Err NoMemory) = fails ≡ failed
 CountsWrites failed fails (Err Store) = ⊥
 CountsWrites failed fails (Err Write) = HasRisen failed fails
 
--- What is kept stays, and each fault is counted where it was met. Where nobody else writes the store, it stays trusted unless its
--- disk failed.
+-- What is kept stays, and each fault is counted where it occurred. If nobody else writes the store, it stays trusted
+-- unless its disk failed.
 pub record AsksBoth {K T : Type 0} (keeper : Ghosts K) (old new : K) (failed fails : ℕ) (result : Result T AskFault) : Type 0 where
   pub asks : Asks keeper old new
   pub lasts : StaysTrusted keeper old new (is_ok result)

@@ -1,4 +1,4 @@
--- A part of the bag of all kept mail: some of a sender's messages. How large a part is, is decided by this office.
+-- A part of the bag of all kept mail: some of a sender's messages. This office decides how large a part is.
 use Rattle.std.specs.Prelude.{ℕ, ◌+◌, ◌==◌, ◌||◌, nat_le, if◌then◌else◌, List, [], ◌∷◌, length, map, flat_map}
 use Rattle.office_mail.specs.Bag.{framed}
 use Rattle.office_mail.specs.Kept.{Kept}
@@ -9,14 +9,14 @@ use Rattle.office_store_keeper.specs.Content.{letters_within}
 abbrev pub letters_from : Kept → ℕ → ℕ → List Letter
 letters_from kept sender from = letters_within kept sender from 999_999_999
 
--- the letters that come into a part behind so many bytes: the first one in any case, and then as many as fit into 65,536 bytes
+-- the letters that fit into a part after that many bytes: the first in any case, then as many as fit into 65,536 bytes
 abbrev pub fitting : ℕ → List Letter → List Letter
 fitting bytes [] = []
 fitting bytes (l ∷ ls) =
     let more : ℕ = bytes + length (framed l.text) in
     if (bytes == 0) || nat_le more 65_536 then l ∷ fitting more ls else []
 
--- the part that begins with a sender's number, or behind it
+-- the part that begins with a sender's number, or after it
 abbrev pub letters_of_part : Kept → ℕ → ℕ → List Letter
 letters_of_part kept sender from = fitting 0 (letters_from kept sender from)
 

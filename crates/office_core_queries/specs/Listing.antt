@@ -1,4 +1,4 @@
--- The line that tells a kept message: its sender, its number, its kind, and what it is about.
+-- The line on a kept message: its sender, its number, its kind, and what it is about.
 use Rattle.std.specs.Prelude.{ℕ, ◌==◌, List, [], ◌∷◌, ◌++◌, length, codes, decimal, flat_map, filter_map, slice_index, if◌then◌else◌, Option, Some, None, Result, Ok, Err}
 use Rattle.std.specs.List.{range_with_len}
 use Rattle.jiff.specs.Words.{date_text}
@@ -19,11 +19,11 @@ use Rattle.office_core_orders.specs.Replies.{name_at}
 use Rattle.office_core_queries.specs.declared.covers.Stated.{Stated}
 use Rattle.office_core_queries.specs.Export.{kept_texts}
 
--- a name behind a space
+-- a name after a space
 abbrev pub spaced : List ℕ → List ℕ
 spaced name = 32 ∷ name
 
--- a source at a version, as a hint names it, behind a space
+-- a source at a version, as a hint names it, after a space
 abbrev pub item_words : HintItem → List ℕ
 item_words i = 32 ∷ i.name ++ 47 ∷ i.version
 
@@ -58,7 +58,7 @@ stated_to covers n = filter_map (stated_at covers) (range_with_len 0 n)
 abbrev pub stated_words : Lists → Stated → List ℕ
 stated_words setup s = name_at setup s.sender ++ 32 ∷ decimal s.number
 
--- the first behind a space, and each other one behind a comma
+-- the first after a space, and each other one after a comma
 abbrev pub listed_words : Lists → List Stated → List ℕ
 listed_words setup [] = []
 listed_words setup (s ∷ ss) = 32 ∷ stated_words setup s ++ flat_map (λ t. codes ", " ++ stated_words setup t) ss

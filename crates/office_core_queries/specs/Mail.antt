@@ -1,4 +1,4 @@
--- How much mail is kept of each sender, and the text that tells it.
+-- How much mail is kept of each sender, and the text on it.
 use Rattle.std.specs.Prelude.{◌≡◌, ℕ, ◌+◌, ◌==◌, List, [], ◌∷◌, ◌++◌, length, map, codes, decimal, flat_map, if◌then◌else◌, None}
 use Rattle.std.specs.List.{AllByRecursion, range_with_len}
 use Rattle.std.specs.FinMap.{get}
@@ -15,7 +15,7 @@ use Rattle.office_core_queries.specs.declared.mail.MailCount.{MailCount}
 abbrev pub letters_of : Kept → ℕ → List Letter
 letters_of kept sender = letters_within kept sender 1 999_999_999
 
--- What is counted of a sender's kept mail: how much it is, up to which number there is no gap, and the greatest number, 0 of none.
+-- The counts of a sender's mail: how many messages, the number up to which it has no gap, and the greatest or 0.
 pub record IsMailCount (kept : Kept) (c : MailCount) : Type 0 where
   pub all : c.count ≡ length (letters_of kept c.sender)
   pub each : HasNumbers kept c.sender c.unbroken
@@ -27,11 +27,11 @@ pub record AreMailCounts (kept : Kept) (n : ℕ) (counts : List MailCount) : Typ
   pub senders : map (λ (c : MailCount). c.sender) counts ≡ range_with_len 0 n
   pub each : AllByRecursion (IsMailCount kept) counts
 
--- up to which number there is no gap; nothing where number 1 isn't kept
+-- the number up to which there is no gap; nothing if number 1 isn't kept
 abbrev pub unbroken_words : ℕ → List ℕ
 unbroken_words n = if n == 0 then [] else codes ", 1 to " ++ decimal n
 
--- the greatest number of so many that are kept; nothing where none is
+-- the greatest number of those that are kept; nothing if none is
 abbrev pub greatest_words : ℕ → ℕ → List ℕ
 greatest_words count n = if count == 0 then [] else codes ", greatest " ++ decimal n
 

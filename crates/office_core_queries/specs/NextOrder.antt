@@ -1,4 +1,4 @@
--- The message of the next order to run, over all mail that is kept without a gap. That an office writes it is this office's own.
+-- The message of the next order to run, over all mail kept without a gap. This office decided to write it.
 use Rattle.std.specs.Prelude.{ℕ, ◌+◌, ◌==◌, if◌then◌else◌, List, [], ◌∷◌, ◌++◌, length, codes, decimal}
 use Rattle.jiff_core.specs.declared.civil.date.Date.{Date}
 use Rattle.jiff.specs.Words.{date_text}
@@ -7,11 +7,11 @@ use Rattle.office_mail.specs.Runs.{runs}
 use Rattle.office_core_orders.specs.Replies.{name_at}
 use Rattle.office_core_queries.specs.Listing.{listed_words, stated_to}
 
--- up to which number the order covers a sender: all that has no gap; it covers no order
+-- how far the order covers a sender: all that has no gap; it covers no order
 abbrev pub order_cover : Lists → (ℕ → ℕ) → ℕ → ℕ
 order_cover setup unbroken sender = if sender == runs setup then 0 else unbroken sender
 
--- the message of the order behind those that are kept without a gap, for this day, by how far each sender's mail has no gap
+-- the message of the order after those kept without a gap, for this day, from how far each sender's mail has no gap
 unfoldable pub order_text : Lists → (ℕ → ℕ) → Date → List ℕ
 order_text setup unbroken day =
     codes "From: " ++ name_at setup (runs setup) ++ 10 ∷ codes "Number: " ++ decimal (unbroken (runs setup) + 1) ++ 10 ∷ codes "Kind: run" ++ 10 ∷ codes "Day: " ++ date_text day

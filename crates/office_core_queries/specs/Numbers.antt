@@ -32,12 +32,12 @@ NoneBetween kept sender last n = (m : ℕ) → last < m → m < n → get kept (
 abbrev pub NoneAbove : Kept → ℕ → ℕ → Type 0
 NoneAbove kept sender last = (m : ℕ) → last < m → get kept (sender, m) ≡ None
 
--- the first kept letter of a sender above a number; none where there is none
+-- the first kept letter of a sender above a number; none if no such letter is kept
 abbrev pub IsNextLetter : Kept → ℕ → ℕ → Option Letter → Type 0
 IsNextLetter kept sender last None = NoneAbove kept sender last
 IsNextLetter kept sender last (Some letter) = (last < letter.number) × (get kept (sender, letter.number) ≡ Some letter.text) × NoneBetween kept sender last letter.number
 
--- the counts with one number more, which is above all that were counted
+-- the counts with one more number, which is above all that were counted
 abbrev pub with_number : MailCount → ℕ → MailCount
 with_number c n = record { sender = c.sender; count = c.count + 1; unbroken = if n == c.unbroken + 1 then n else c.unbroken; greatest = n }
 

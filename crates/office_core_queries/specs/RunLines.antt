@@ -1,4 +1,4 @@
--- The line on a finished run: its number and its date, and how many lines of its two reports tell what.
+-- The line on a finished run: its number, its date, and how many lines of each kind its two reports have.
 use Rattle.std.specs.Prelude.{ℕ, zero, suc, Bool, not, ◌&&◌, List, [], ◌∷◌, ◌++◌, codes, decimal, length, drop, ◌==◌, nat_eq, bytes_eq, slice_get, unwrap_or}
 use Rattle.std.specs.List.{filter, slice_split, starts_with}
 use Rattle.std.specs.Str.Lines.{lines}
@@ -9,7 +9,7 @@ use Rattle.office_core_facts.specs.Outcome.{reports_of}
 use Rattle.office_core_queries.specs.declared.run_lines.LineKind.{LineKind}
 use Rattle.office_core_queries.specs.declared.run_lines.LineKind.TheVariants.{Excuse, Candidate, Accept, Easy, Remove, Wait}
 
--- the word at a place of a line, counted from 0, where each space ends a word; empty where there is none
+-- the word at a place of a line, counted from 0; each space ends a word; empty if there is none
 abbrev pub word_at : ℕ → List ℕ → List ℕ
 word_at place line = unwrap_or (slice_get (slice_split (λ b. b == 32) line) place) []
 
@@ -17,8 +17,8 @@ word_at place line = unwrap_or (slice_get (slice_split (λ b. b == 32) line) pla
 abbrev pub has_word : ℕ → List ℕ → List ℕ → Bool
 has_word place word line = bytes_eq (word_at place line) word
 
--- whether a line is the first of an excuse, the last of a candidate's, or tells a single move, a group that moved, a removal
--- that was done, or a candidate that waits
+-- whether a line is the first of an excuse, the last of a candidate's, or reports a single move, a moved group, a
+-- removal, or a waiting candidate
 abbrev pub is_line : LineKind → List ℕ → Bool
 is_line Excuse line = not (starts_with nat_eq line (codes " "))
 is_line Candidate line = bytes_eq line (codes " candidate")
@@ -27,7 +27,7 @@ is_line Easy line = has_word 0 (codes "easy") line && has_word 2 (codes "accept"
 is_line Remove line = has_word 0 (codes "remove") line && has_word 2 (codes "accept") line
 is_line Wait line = has_word 0 (codes "wait") line
 
--- how many lines of a report behind its heading are of a kind
+-- how many lines of a report after its heading are of a kind
 abbrev pub count_of : LineKind → List ℕ → ℕ
 count_of kind report = length (filter (is_line kind) (drop 1 (lines report)))
 

@@ -13,22 +13,22 @@ ghost use Rattle.office_core.specs.Together.{answers_to};
 ghost use Rattle.office_core_queries.specs.BagPart.{letters_from, letters_of_part};
 ghost use Rattle.office_core_queries.specs.Export.{kept_bag, kept_texts};
 
-/// The bag of all kept mail is a backup: its messages, delivered where nothing is kept, leave what is kept.
+/// The bag of all kept mail is a backup: its messages, delivered to an empty office, leave what is kept.
 pub fn export_gives_back()
     ensures bag { (setup : Lists) (content : Content) → IsOffice setup content → IsBag (kept_bag setup content.kept) (kept_texts setup content.kept) None }
     ensures gives { (setup : Lists) (content : Content) → IsOffice setup content → kept_from setup empty (kept_texts setup content.kept) ≡ content.kept }
 {}
 
-/// The parts of a sender's mail are all of it, if each one begins behind the last message of the one before, and the first
-/// one with number 1: nothing is left out between two of them, and an empty part comes behind the last message alone.
+/// The parts of a sender's mail are all of it, if the first begins with number 1 and each other one after the last
+/// message of the one before. Nothing between two of them is left out, and a part is empty only after the last message.
 pub fn parts_are_the_bag()
     ensures next { (kept : Kept) (sender from : ℕ) (front : List Letter) (last : Letter) → letters_of_part kept sender from ≡ front ++ last ∷ [] → letters_from kept sender from ≡ letters_of_part kept sender from ++ letters_from kept sender (last.number + 1) }
     ensures end { (kept : Kept) (sender from : ℕ) → letters_of_part kept sender from ≡ [] → letters_from kept sender from ≡ [] }
 {}
 
-/// An office that held all mail that another keeps has it, byte for byte. So offices of one setup whose mail reached each
-/// other, and that finished all ready runs, tell the same: their mail, reports and testing are equal. Which way the mail took,
-/// and in which order it came, doesn't matter.
+/// If an office held all mail that another keeps, it has that mail, byte for byte. So offices of one setup that got
+/// each other's mail and finished all ready runs give the same answers: their mail, reports and testing are equal. The
+/// mail's path and order don't matter.
 pub fn mirrored()
     ensures within { (setup : Lists) (a b : Content) → IsOffice setup a → IsOffice setup b → AllByRecursion (λ answer. is_ok answer ≡ true) (answers_to setup b.kept (kept_texts setup a.kept))
         → Within a.kept (kept_from setup b.kept (kept_texts setup a.kept)) }

@@ -7,14 +7,14 @@ use office_core_orders::name_at;
 use office_mail::Setup;
 use std::alloc::{AllocError, Global};
 
-/// The number that an order states for a sender, which is told by its place in the setup.
+/// The number that an order states for a sender, given by its place in the setup.
 #[derive(Clone, Copy, Debug, PartialEq, Eq)]
 pub(crate) struct Stated {
     pub(crate) sender: u32,
     pub(crate) number: u32,
 }
 
-/// The number that covers state for a sender, 0 where they have none.
+/// The number that covers state for a sender, 0 if they have none.
 pub(crate) fn number_at(covers: &[u32], sender: usize) -> u32
     ensures { result ≡ slice_index covers.now sender }
 {
@@ -43,7 +43,7 @@ pub(crate) fn stated_covers(
     Ok(stated)
 }
 
-/// What is stated for some senders: the first behind a space, and each other one behind a comma.
+/// What is stated for some senders: the first after a space, and each other one after a comma.
 pub(crate) fn push_listed(
     text: &mut String,
     setup: &Setup,
@@ -69,7 +69,7 @@ fn push_rest(text: &mut String, setup: &Setup, rest: &[Stated]) -> Result<(), Al
     Ok(())
 }
 
-/// A sender's name and the number that is stated for it, behind a separator.
+/// A sender's name and the number stated for it, after a separator.
 fn push_stated(
     text: &mut String,
     setup: &Setup,

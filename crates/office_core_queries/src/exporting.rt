@@ -12,8 +12,8 @@ use office_core::Office;
 use office_mail::Sink;
 use office_store_keeper::Keeper;
 
-/// Writes all kept mail as a bag, by sender and number. It fails for want of memory, of the store or of the writer
-/// alone; what was written then is a front of the bag.
+/// Writes all kept mail as a bag, by sender and number. It fails only if memory runs out, or the store or the writer
+/// fails; then it has written a prefix of the bag.
 pub fn export<K: Keeper, W: Sink>(office: &mut Office<K>, writer: &mut W) -> Result<(), AskFault>
     ensures ok { Holds K.Keeper office.old office.new → OnOk result (Appends (W.written writer.old) (W.written writer.new) (kept_bag (K.setup office.old) (K.content office.old).kept)) }
     ensures front { Holds K.Keeper office.old office.new → OnErr result (AppendsFront (W.written writer.old) (W.written writer.new) (kept_bag (K.setup office.old) (K.content office.old).kept)) }

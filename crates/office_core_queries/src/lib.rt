@@ -1,5 +1,5 @@
-//! What is told of an office's kept mail: the mail as a bag or in parts of it, a list of it, how much it is, and the order
-//! that would cover it; and a line for each finished run.
+//! Reports on an office's kept mail: the mail as a bag or in parts of it, a list of it, how much it is, and the order
+//! to cover it. Also a line for each finished run.
 #![tactic(auto)]
 
 pub mod backup_laws;

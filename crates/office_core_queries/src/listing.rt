@@ -12,8 +12,8 @@ use office_core::Office;
 use office_mail::Sink;
 use office_store_keeper::Keeper;
 
-/// Writes a line for each kept message, by sender and number. It fails for want of memory, of the store or of the
-/// writer alone; what was written then is a front of the list.
+/// Writes a line for each kept message, by sender and number. It fails only if memory runs out, or the store or the
+/// writer fails; then it has written a prefix of the list.
 pub fn write_list<K: Keeper, W: Sink>(
     office: &mut Office<K>,
     writer: &mut W,

@@ -13,19 +13,19 @@ use office_mail::Setup;
 use office_store_keeper::Keeper;
 use std::alloc::{AllocError, Global};
 
-/// How much mail is kept of a sender, which is told by its place in the setup.
+/// How much mail is kept of a sender, given by its place in the setup.
 #[derive(Clone, Copy, Debug, PartialEq, Eq)]
 pub struct MailCount {
     pub sender: u32,
     /// How many messages are kept.
     pub count: u32,
-    /// Up to which number, from 1 on, they are kept without a gap.
+    /// The number up to which, from 1 on, they are kept without a gap.
     pub unbroken: u32,
-    /// The greatest number, 0 where none is kept.
+    /// The greatest number, 0 if none is kept.
     pub greatest: u32,
 }
 
-/// The counts with one number more, which is above all that were counted.
+/// The counts with one more number, which is above all that were counted.
 fn with_number(counted: MailCount, number: u32) -> MailCount
     requires few { counted.count < number }
     requires on { counted.unbroken < number }
@@ -62,7 +62,7 @@ fn count_mail<K: Keeper>(office: &mut Office<K>, sender: u32) -> Result<MailCoun
     Ok(counted)
 }
 
-/// How much mail is kept of each sender, in the setup's order. It fails for want of memory or of the store alone.
+/// How much mail is kept of each sender, in the setup's order. It fails only if memory runs out or the store fails.
 pub fn mail_counts<K: Keeper>(office: &mut Office<K>) -> Result<Vec<MailCount>, StoreFault>
     ensures counts { Holds K.Keeper office.old office.new → IfOk result (λ counts. AreMailCounts (K.content office.old).kept (length (K.setup office.old).senders) counts.items) }
     // Nothing that is kept changes, and no run is finished.
@@ -75,7 +75,7 @@ pub fn mail_counts<K: Keeper>(office: &mut Office<K>) -> Result<Vec<MailCount>, 
     Ok(counts)
 }
 
-/// The text that tells how much mail is kept of each sender.
+/// The text on how much mail is kept of each sender.
 #[tactic(auto, unfolding(crate::specs::Mail::mail_text))]
 pub fn mail_text(alloc: Global, setup: &Setup, counts: &[MailCount]) -> Result<Text, NoMemory>
     ensures { IfOk result (λ text. text ≡ mail_text setup.now counts.now) }

@@ -1,4 +1,4 @@
-//! The line that tells a message.
+//! The line on a message.
 ghost use Rattle.std.specs.Prelude.{◌≡◌, ◌++◌, [], IfOk, OnOk, string_bytes};
 ghost use Rattle.office_core_queries.specs.Listing.{body_words, line_of, message_line, order_words, saying_words, text_line};
 
@@ -10,7 +10,7 @@ use office_mail::{Body, MailFault, Message, RunOrder, Setup, read_message};
 use std::alloc::{AllocError, Global};
 use testing_rules_items::Item;
 
-/// The line of a text that is a message; nothing of any other text. It fails for want of memory alone.
+/// The line of a text that is a message; nothing of any other text. It fails only if memory runs out.
 #[tactic(auto, unfolding(crate::specs::Listing::text_line))]
 pub(crate) fn text_line(alloc: Global, setup: &Setup, text: &[u8]) -> Result<String, AllocError>
     ensures { IfOk result (λ line. string_bytes line ≡ text_line setup.now text.now) }

@@ -14,7 +14,7 @@ use office_core_orders::name_at;
 use office_mail::Setup;
 use std::alloc::{AllocError, Global};
 
-/// Up to which number the order covers a sender, by these numbers without a gap: it covers no order.
+/// The number up to which the order covers a sender, given these numbers without a gap: it covers no order.
 fn order_cover(setup: &Setup, unbroken: &[u32], sender: usize) -> u32
     ensures { result ≡ order_cover setup.now (slice_index unbroken.now) sender }
 {
@@ -43,7 +43,7 @@ fn stated_order(alloc: Global, setup: &Setup, unbroken: &[u32]) -> Result<Vec<St
     Ok(stated)
 }
 
-/// The number of the next order, behind those that are kept without a gap.
+/// The number of the next order, after those kept without a gap.
 fn next_number(setup: &Setup, unbroken: &[u32]) -> u64
     ensures { result ≡ slice_index unbroken.now (runs setup.now) + 1 }
 {
@@ -81,11 +81,11 @@ fn push_covers(
     text.push('\n')
 }
 
-/// The text of a message that orders the next run, by up to which number each sender's mail is kept without a gap: it covers
-/// all of that, its number comes behind the orders that are so kept, and its day is this one. A sender of whom number 1
-/// isn't kept isn't named.
+/// The text of a message that orders the next run, given how far each sender's mail is kept without a gap. It covers
+/// all of that, has the number after the orders so kept, and this day. If number 1 of a sender isn't kept, the text
+/// doesn't name that sender.
 ///
-/// It fails for want of memory alone.
+/// It fails only if memory runs out.
 #[tactic(auto, unfolding(crate::specs::NextOrder::order_text))]
 pub fn order_text(
     alloc: Global,

@@ -10,7 +10,7 @@ use office_core_orders::StoreFault;
 use office_mail::MAX_NUMBER;
 use office_store_keeper::{Keeper, Letter};
 
-/// A number, where it is above another and a message may have it.
+/// A number, if it is above another and a message may have it.
 fn number_above(last: u32, number: Option<u32>) -> Option<u32>
     ensures above { IsAbove last result }
     ensures same { IsAbove last number → result ≡ number }

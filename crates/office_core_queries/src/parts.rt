@@ -36,14 +36,14 @@ fn framed_len(text: &[u8]) -> u64
     text.len() as u64 + digits.len() as u64 + 6
 }
 
-/// Whether a text comes into a part that has so many bytes: the first one does in any case, and another one if it fits.
+/// Whether a text fits into a part that has that many bytes: the first one does in any case.
 fn fits(bytes: usize, text: &[u8]) -> bool
     ensures { result ≡ ((bytes == 0) || nat_le (bytes + length (framed text.now)) 65_536) }
 {
     bytes == 0 || bytes as u128 + framed_len(text) as u128 <= ROOM
 }
 
-/// Adds to a part the kept messages of a sender behind a number that come into it.
+/// Adds to a part those kept messages of a sender after a number that fit into it.
 fn push_part<K: Keeper>(
     office: &mut Office<K>,
     sender: u32,
@@ -66,7 +66,7 @@ fn push_part<K: Keeper>(
     Ok(())
 }
 
-/// Adds to an empty part the kept messages of a sender from a number on that come into it.
+/// Adds to an empty part those kept messages of a sender from a number on that fit into it.
 fn push_from<K: Keeper>(
     office: &mut Office<K>,
     sender: u32,
@@ -83,10 +83,10 @@ fn push_from<K: Keeper>(
 }
 
 /// Some kept messages of a sender from a number on, as a bag: as many as fit into 65,536 bytes, and at least one. It is
-/// empty where none is kept from that number on. The next part begins behind the number of the last of these messages; the
-/// sender is told by its place in the setup.
+/// empty if none is kept from that number on. The next part begins after the number of the last of these messages.
+/// `sender` is its place in the setup.
 ///
-/// It fails for want of memory or of the store alone.
+/// It fails only if memory runs out or the store fails.
 pub fn bag_part<K: Keeper>(
     office: &mut Office<K>,
     sender: u32,

@@ -1,4 +1,4 @@
-//! The lines that tell of the finished runs.
+//! The lines on the finished runs.
 
 ghost use Rattle.std.specs.Prelude.{◌≡◌, ◌++◌, ◌≤◌, [], IfOk, OnOk, string_bytes, unwrap_or};
 ghost use Rattle.std.specs.Option.{option_map};
@@ -13,7 +13,7 @@ use office_core_orders::StoreFault;
 use office_store_keeper::Keeper;
 use std::alloc::AllocError;
 
-/// What a line of a run's reports tells.
+/// What a line of a run's reports is about.
 #[derive(Clone, Copy, Debug, PartialEq, Eq)]
 enum LineKind {
     /// The first line of an excuse.
@@ -30,8 +30,8 @@ enum LineKind {
     Wait,
 }
 
-/// A line for each finished run, in order: its date, and how many lines of its reports tell what. It fails for want of
-/// memory or of the store alone.
+/// A line for each finished run, in order: its date, and how many lines of each kind its reports have. It fails only if
+/// memory runs out or the store fails.
 pub fn runs_text<K: Keeper>(office: &mut Office<K>) -> Result<Text, StoreFault>
     ensures text { Holds K.Keeper office.old office.new → IfOk result (λ text. text ≡ runs_text (state_of K.Keeper office.old)) }
     ensures asks { Asks K.Keeper office.old office.new }
@@ -105,7 +105,7 @@ fn push_run_line<K: Keeper>(
     Ok(())
 }
 
-/// The text of a report, empty where there is none.
+/// The text of a report, empty if there is none.
 fn text_in(report: &Option<Text>) -> &str
     ensures { result.now ≡ unwrap_or report.now [] }
 {
@@ -154,7 +154,7 @@ fn date_of(report: &str) -> &str
     word_at(2, report.lines().next().unwrap_or(""))
 }
 
-/// How many lines of a report behind its heading are of a kind.
+/// How many lines of a report after its heading are of a kind.
 fn count_of(kind: LineKind, report: &str) -> usize
     ensures { result ≡ count_of kind report.now }
 {
@@ -186,7 +186,7 @@ fn has_word(place: usize, word: &str, line: &str) -> bool
     word_at(place, line) == word
 }
 
-/// The word at a place of a line, counted from 0, empty where there is none. Each space ends a word.
+/// The word at a place of a line, counted from 0, empty if there is none. Each space ends a word.
 fn word_at(place: usize, line: &str) -> &str
     ensures { result.now ≡ word_at place line.now }
 {

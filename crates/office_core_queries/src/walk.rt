@@ -1,4 +1,4 @@
-//! All kept mail, told text by text.
+//! All kept mail, written text by text.
 ghost use Rattle.std.specs.Prelude.{◌≡◌, ◌++◌, OnOk, OnErr, IfOk, length};
 ghost use Rattle.std.specs.List.{flat_map};
 ghost use Rattle.std.specs.Io.KnownBytes.{Appends};
@@ -19,7 +19,7 @@ use office_mail::{Setup, Sink};
 use office_store_keeper::Keeper;
 use std::alloc::Global;
 
-/// How a kept text is told.
+/// How a kept text is written.
 #[derive(Clone, Copy, Debug, PartialEq, Eq)]
 pub(crate) enum Form {
     /// As a message of a bag.
@@ -28,7 +28,7 @@ pub(crate) enum Form {
     Line,
 }
 
-/// Writes a text as a message of a bag, or a front of it. It takes no memory.
+/// Writes a text as a message of a bag, or a prefix of it. It allocates nothing.
 fn write_framed<W: Sink>(text: &[u8], writer: &mut W) -> Result<(), AskFault>
     ensures ok { OnOk result (Appends (W.written writer.old) (W.written writer.new) (framed text.now)) }
     ensures front { OnErr result (AppendsFront (W.written writer.old) (W.written writer.new) (framed text.now)) }
@@ -45,7 +45,7 @@ fn write_framed<W: Sink>(text: &[u8], writer: &mut W) -> Result<(), AskFault>
     Ok(())
 }
 
-/// Writes the line that tells a text, or a front of it.
+/// Writes the line on a text, or a prefix of it.
 fn write_line<W: Sink>(
     alloc: Global,
     setup: &Setup,
@@ -61,7 +61,7 @@ fn write_line<W: Sink>(
     Ok(())
 }
 
-/// Writes a text as it is told, or a front of that.
+/// Writes a text in its form, or a prefix of that.
 fn write_text<W: Sink>(
     alloc: Global,
     setup: &Setup,
@@ -79,7 +79,7 @@ fn write_text<W: Sink>(
     }
 }
 
-/// Writes the kept mail of a sender, by number, or a front of it.
+/// Writes the kept mail of a sender, by number, or a prefix of it.
 fn write_sender<K: Keeper, W: Sink>(
     office: &mut Office<K>,
     form: Form,
@@ -99,7 +99,7 @@ fn write_sender<K: Keeper, W: Sink>(
     Ok(())
 }
 
-/// Writes all kept mail, by sender and number, or a front of it.
+/// Writes all kept mail, by sender and number, or a prefix of it.
 pub(crate) fn write_mail<K: Keeper, W: Sink>(
     office: &mut Office<K>,
     form: Form,

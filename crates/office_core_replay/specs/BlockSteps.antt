@@ -14,7 +14,7 @@ use Rattle.office_core_replay.specs.Output.{reply_lines}
 use Rattle.office_core_replay.specs.Losses.{DeliveriesCounted}
 use Rattle.office_core_replay.specs.Delivered.{CameFrom, KeepsMail}
 
--- of the lines that answer these texts a front is written
+-- a prefix of the lines that answer these texts is written
 pub record DeliversTextsFront (before after : OfficeState) (texts : List (List ℕ)) (old new : Option (List ℕ)) (rose : Type 0) : Type 0 where
   pub deliveries : List Delivery
   pub same : map (λ d. d.text) deliveries ≡ texts
@@ -29,13 +29,13 @@ pub record TakesTexts (start now : Reading) (texts : List (List ℕ)) : Type 0 w
   pub took : Consumes start.left now.left (flat_map framed messages)
   pub same : texts ≡ map handed messages
 
--- and the bag stops behind them
+-- and the bag stops after them
 pub record TakesLast (start now : Reading) (texts : List (List ℕ)) (end : Option BagFault) : Type 0 where
   pub behind : Reading
   pub took : TakesTexts start behind texts
   pub stops : Stops behind now end
 
--- All messages of a bag are delivered, up to its end, and of the lines that answer them a front is written.
+-- All messages of a bag are delivered, up to its end, and a prefix of the lines that answer them is written.
 pub record DeliversLastFront (before after : OfficeState) (start now : Reading) (old new : Option (List ℕ)) (rose : Type 0) : Type 0 where
   pub deliveries : List Delivery
   pub end : Option BagFault

@@ -8,7 +8,7 @@ use Rattle.office_core_replay.specs.Output.{reply_lines}
 use Rattle.office_core_replay.specs.Losses.{DeliveriesCounted}
 use Rattle.office_core_replay.specs.Delivered.{KeepsMail}
 
--- These texts are delivered and answered, with settles anywhere between or behind them; and whether one was lost.
+-- These texts are delivered and answered, with settles anywhere between or after them; and whether one was lost.
 pub record DeliversTexts (before after : OfficeState) (texts : List (List ℕ)) (old new : Option (List ℕ)) (lost : Bool) (rose : Type 0) : Type 0 where
   pub deliveries : List Delivery
   pub same : map (λ d. d.text) deliveries ≡ texts

@@ -15,8 +15,8 @@ use Rattle.office_core_orders.specs.Replies.{not_lost}
 use Rattle.office_core_replay.specs.Output.{reply_lines}
 use Rattle.office_core_replay.specs.Losses.{DeliveriesCounted}
 
--- The deliveries are the messages that came of a bag, up to this end. Where its bytes are known, they
--- are what came, and then what the reader has still to give.
+-- The deliveries are the messages that came from a bag, up to this end. If its bytes are known, they are what came, and
+-- then what the reader still has.
 pub record CameFrom (start now : Reading) (deliveries : List Delivery) (end : Option BagFault) : Type 0 where
   pub came : List ℕ
   pub messages : List (List ℕ)
@@ -32,15 +32,15 @@ pub record CameFirst (start now : Reading) (deliveries : List Delivery) : Type 0
   pub took : Consumes start.left now.left (flat_map framed messages)
   pub same : map (λ d. d.text) deliveries ≡ map handed messages
 
--- The office after deliveries and settles: what was kept, and what came without the losses; the runs
--- that were finished, and maybe more; and each of them is ready.
+-- The office after deliveries and settles keeps what it kept, and what came without the losses; the same runs are
+-- finished, and maybe more; and each of them is ready.
 pub record KeepsMail (before after : OfficeState) (deliveries : List Delivery) : Type 0 where
   pub setup : after.setup ≡ before.setup
   pub kept : after.kept ≡ kept_from before.setup before.kept (not_lost deliveries)
   pub grows : before.finished ≤ after.finished
   pub ready : IsReady before.setup before.kept before.finished → IsReady after.setup after.kept after.finished
 
--- the next messages are delivered, and of the lines that answer them a front is written
+-- the next messages are delivered, and a prefix of the lines that answer them is written
 pub record DeliversFront (before after : OfficeState) (start now : Reading) (old new : Option (List ℕ)) (rose : Type 0) : Type 0 where
   pub deliveries : List Delivery
   pub came : CameFirst start now deliveries

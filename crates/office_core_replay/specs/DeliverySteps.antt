@@ -35,7 +35,7 @@ pub record DeliversAll (before after : OfficeState) (start now : Reading) (old n
   pub losses : lost ≡ any_lost deliveries
   pub by_store : DeliveriesCounted rose deliveries
 
--- What follows a delivery: where it is held a settle, which finishes all ready runs unless it meets a fault.
+-- What follows a delivery that is held: a settle, which finishes all ready runs unless it meets a fault.
 pub record Settles (before after : OfficeState) (held : Bool) (rose : Type 0) : Type 0 where
   pub setup : after.setup ≡ before.setup
   pub kept : after.kept ≡ before.kept
@@ -47,7 +47,7 @@ pub record Settles (before after : OfficeState) (held : Bool) (rose : Type 0) : 
   pub met_by_store : TextCounted rose met
   pub all_ready : held ≡ true → met ≡ None → IsReadyCount after.setup after.kept after.finished
 
--- one text was delivered, answered, and followed by a settle where it is held
+-- one text was delivered, answered, and followed by a settle if it is held
 pub record DeliversOne (before after : OfficeState) (text : List ℕ) (mark : Mark) (old new : Option (List ℕ)) (rose : Type 0) : Type 0 where
   pub kept : after.kept ≡ kept_from before.setup before.kept (if_taken mark text [])
   pub setup : after.setup ≡ before.setup
@@ -55,7 +55,7 @@ pub record DeliversOne (before after : OfficeState) (text : List ℕ) (mark : Ma
   pub by_store : DeliveryCounted rose mark
   pub settles : Settles (record { setup = before.setup; kept = after.kept; finished = before.finished }) after (is_ok (reply_by mark (answer_to before.setup before.kept text))) rose
 
--- one text was delivered, and of the line that answers it a front was written; no settle was made
+-- one text was delivered, and a prefix of the line that answers it was written; no settle was made
 pub record DeliversOneFront (before after : OfficeState) (text : List ℕ) (old new : Option (List ℕ)) (rose : Type 0) : Type 0 where
   pub mark : Mark
   pub kept : after.kept ≡ kept_from before.setup before.kept (if_taken mark text [])

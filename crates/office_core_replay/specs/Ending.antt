@@ -11,12 +11,12 @@ use Rattle.office_core_replay.specs.Output.{Marks, ReportMarks, or_refused, repo
 use Rattle.office_core_orders.specs.Replies.{status_line}
 use Rattle.office_core_replay.specs.Losses.{is_missing, is_report_missing, has_refusal, MarksEnd, TextCounted, ReportsCounted, MarksCounted}
 
--- the mark of a text, by what a call answers
+-- the mark of a text, from the answer of a call
 abbrev pub mark_in : {A : Type 0} → Result A StoreFault → Option StoreFault
 mark_in (Ok text) = None
 mark_in (Err fault) = Some fault
 
--- what stands for an answer
+-- how an answer is shown
 abbrev pub status_shown : Result Progress StoreFault → List ℕ
 status_shown (Ok progress) = status_line progress.ready progress.finished
 status_shown (Err fault) = or_refused (Some fault) []
@@ -41,7 +41,7 @@ pub record WritesRun (s : OfficeState) (run : ℕ) (old new : Option (List ℕ))
   pub losses : lost ≡ (is_missing mark.0 || is_missing mark.1)
   pub by_store : TextCounted rose mark.0 × TextCounted rose mark.1
 
--- a front of them is
+-- a prefix of them is
 pub record WritesRunFront (s : OfficeState) (run : ℕ) (old new : Option (List ℕ)) (rose : Type 0) : Type 0 where
   pub mark : ReportMarks
   pub written : AppendsFront old new (run_lines s run mark)
@@ -55,7 +55,7 @@ pub record WritesReports (s : OfficeState) (k n : ℕ) (old new : Option (List �
   pub losses : lost ≡ is_report_missing marks
   pub by_store : ReportsCounted rose marks
 
--- a front of them is
+-- a prefix of them is
 pub record WritesReportsFront (s : OfficeState) (k n : ℕ) (old new : Option (List ℕ)) (rose : Type 0) : Type 0 where
   pub marks : List ReportMarks
   pub all : k + length marks ≡ n
@@ -71,7 +71,7 @@ pub record WritesNews (s : OfficeState) (k : ℕ) (old new : Option (List ℕ)) 
   pub losses : lost ≡ (is_missing count || is_report_missing reports)
   pub by_store : TextCounted rose count × ReportsCounted rose reports
 
--- a front of them is
+-- a prefix of them is
 pub record WritesNewsFront (s : OfficeState) (k : ℕ) (old new : Option (List ℕ)) (rose : Type 0) : Type 0 where
   pub count : Option StoreFault
   pub reports : List ReportMarks
@@ -88,7 +88,7 @@ pub record WritesEnd (s : OfficeState) (k : ℕ) (old new : Option (List ℕ)) (
   pub losses : lost ≡ has_refusal marks
   pub by_store : MarksCounted rose marks
 
--- a front of them is
+-- a prefix of them is
 pub record WritesEndFront (s : OfficeState) (k : ℕ) (old new : Option (List ℕ)) (rose : Type 0) : Type 0 where
   pub ready : ℕ
   pub marks : Marks

@@ -1,4 +1,4 @@
--- What a replay lost for want of memory or by the store.
+-- What a replay lost because memory ran out or the store failed.
 use Rattle.std.specs.Prelude.{◌≡◌, ⊤, ℕ, ◌+◌, List, [], ◌∷◌, length, Option, Some, None, Bool, true, false, ◌||◌}
 use Rattle.std.specs.List.{AllByRecursion}
 use Rattle.office_mail.specs.declared.bag.BagFault.{BagFault}
@@ -26,7 +26,7 @@ is_report_missing (mark ∷ marks) = (is_missing mark.0 || is_missing mark.1) ||
 abbrev pub has_refusal : Marks → Bool
 has_refusal marks = (is_missing marks.status || (is_missing marks.count || is_report_missing marks.reports)) || is_missing marks.testing
 
--- whether the bag ended for want of memory
+-- whether the bag ended because memory ran out
 abbrev pub is_short : Option BagFault → Bool
 is_short None = false
 is_short (Some bag.BadHeader) = false
@@ -34,13 +34,12 @@ is_short (Some bag.Truncated) = false
 is_short (Some bag.ReadFault) = false
 is_short (Some bag.NoMemory) = true
 
--- The marks are those of an end: a ready count that is printed is that of the mail, and each run after
--- run k has its two marks.
+-- The marks are those of an end: a printed ready count is that of the mail, and each run after run k has its two marks.
 pub record MarksEnd (s : OfficeState) (k ready : ℕ) (marks : Marks) : Type 0 where
   pub ready_is : marks.status ≡ None → IsReadyCount s.setup s.kept ready
   pub runs : marks.count ≡ None → k + length marks.reports ≡ s.finished
 
--- What the store loses it counts: a delivery is lost by it only where this is so (its count of refusals rose) ..
+-- The store counts what it loses: it can lose a delivery only if this holds (its count of refusals rose) ..
 abbrev pub DeliveryCounted : Type 0 → Mark → Type 0
 DeliveryCounted rose Taken = ⊤
 DeliveryCounted rose LostForMemory = ⊤

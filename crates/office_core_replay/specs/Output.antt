@@ -22,17 +22,17 @@ abbrev pub reply_lines : Lists → Kept → List Delivery → List ℕ
 reply_lines setup kept [] = []
 reply_lines setup kept (d ∷ ds) = reply_line setup (reply_to setup kept d) ++ reply_lines setup (kept_from setup kept (not_lost (d ∷ []))) ds
 
--- a text, or the line that stands in its place where it can't be had
+-- a text, or the line in its place if it is missing
 abbrev pub or_refused : Option StoreFault → List ℕ → List ℕ
 or_refused None text = text
 or_refused (Some NoMemory) text = codes "refused NoMemory" ++ 10 ∷ []
 or_refused (Some Store) text = codes "refused Store" ++ 10 ∷ []
 
--- whether the two reports of a run could be had
+-- whether the two reports of a run are present
 abbrev pub ReportMarks : Type 0
 ReportMarks = Option StoreFault × Option StoreFault
 
--- which texts of the end could be had
+-- which texts of the end are present
 pub record Marks : Type 0 where
   pub status : Option StoreFault
   -- the finished count after the last settle
@@ -48,7 +48,7 @@ report_lines setup kept k (mark ∷ marks) =
     or_refused mark.0 (reports_of setup kept (k + 1)).excuses ++ or_refused mark.1 (reports_of setup kept (k + 1)).updates
     ++ report_lines setup kept (k + 1) marks
 
--- where the count can't be had, one line stands for all reports
+-- if the count is missing, one line replaces all reports
 abbrev pub new_reports : Lists → Kept → ℕ → Option StoreFault → List ReportMarks → List ℕ
 new_reports setup kept k None reports = report_lines setup kept k reports
 new_reports setup kept k (Some fault) reports = or_refused (Some fault) []

@@ -15,8 +15,8 @@ use Rattle.office_core_replay.specs.Output.{Marks, output, or_refused}
 use Rattle.office_core_replay.specs.Losses.{is_short, has_refusal, MarksEnd, TextCounted, MarksCounted, DeliveriesCounted}
 use Rattle.office_core_replay.specs.Delivered.{CameFrom, KeepsMail, DeliversFront}
 
--- The course of a replay up to its last text: each message of the bag was delivered, and all ready
--- runs are finished where the last settle answered Ok; what could not be had; and whether anything was lost.
+-- The course of a replay up to its last text: each message of the bag was delivered. All ready runs are finished if the
+-- last settle answered Ok. Also what was missing, and whether anything was lost.
 pub record Course (before after : OfficeState) (start now : Reading) (end : Option BagFault) (lost : Bool) (rose : Type 0) : Type 0 where
   pub deliveries : List Delivery
   pub came : CameFrom start now deliveries end
@@ -35,7 +35,7 @@ pub record ReplaysAll (before after : OfficeState) (start now : Reading) (old ne
   pub course : Course before after start now replayed.bag replayed.lost rose
   pub written : Appends old new (output before after course.deliveries replayed.bag course.count course.marks)
 
--- Where the finished count can't be read at the start, nothing is read or changed, and one line is written.
+-- If the finished count can't be read at the start, nothing is read or changed, and one line is written.
 pub record RefusesAll (before after : OfficeState) (start now : Reading) (old new : Option (List ℕ)) (replayed : Replayed) (rose : Type 0) : Type 0 where
   pub fault : StoreFault
   pub same : after ≡ before
@@ -48,20 +48,20 @@ pub record RefusesAll (before after : OfficeState) (start now : Reading) (old ne
 abbrev pub Replays : OfficeState → OfficeState → Reading → Reading → Option (List ℕ) → Option (List ℕ) → Replayed → Type 0 → Type 0
 Replays before after start now old new replayed rose = ReplaysAll before after start now old new replayed rose ⊎ RefusesAll before after start now old new replayed rose
 
--- A replay whose writer failed behind the last delivery: a front of its output was written.
+-- A replay whose writer failed after the last delivery: a prefix of its output was written.
 pub record ReplaysFront (before after : OfficeState) (start now : Reading) (old new : Option (List ℕ)) (rose : Type 0) : Type 0 where
   pub end : Option BagFault
   pub lost : Bool
   pub course : Course before after start now end lost rose
   pub written : AppendsFront old new (output before after course.deliveries end course.count course.marks)
 
--- A replay whose writer failed at the reply to a delivery: the first messages of the bag were delivered,
--- and a front of the replies to them was written.
+-- A replay whose writer failed at the reply to a delivery: the first messages of the bag were delivered, and a prefix
+-- of the replies to them was written.
 pub record StopsEarly (before after : OfficeState) (start now : Reading) (old new : Option (List ℕ)) (rose : Type 0) : Type 0 where
   pub delivers : DeliversFront before after start now old new rose
   pub ready : IsReady after.setup after.kept after.finished
 
--- a front of the one line was written
+-- a prefix of the one line was written
 pub record RefusesFront (before after : OfficeState) (start now : Reading) (old new : Option (List ℕ)) (rose : Type 0) : Type 0 where
   pub fault : StoreFault
   pub same : after ≡ before

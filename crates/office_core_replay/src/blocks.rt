@@ -23,10 +23,10 @@ use office_mail::{Bag, BagFault, Feed, Setup, Sink};
 use office_store_keeper::{Keeper, MailText};
 use std::alloc::Global;
 
-/// A block takes no more texts once they have so many bytes.
+/// A block takes no more texts once they have that many bytes.
 const FULL: usize = 1_048_576;
 
-/// Delivers texts one by one, and answers whether one was lost. Where the writer fails, those behind are lost.
+/// Delivers texts one by one, and returns whether one was lost. If the writer fails, the texts after that are lost.
 fn deliver_texts<K: Keeper, W: Sink, V: Watcher>(
     office: &mut Office<K>,
     texts: &[MailText],
@@ -47,7 +47,7 @@ fn deliver_texts<K: Keeper, W: Sink, V: Watcher>(
     Ok(lost)
 }
 
-/// Writes the lines that answer texts, in order. A watcher is told each before its line.
+/// Writes the lines that answer texts, in order. A watcher sees each answer before its line.
 fn write_replies<W: Sink, V: Watcher>(
     setup: &Setup,
     texts: &[MailText],
@@ -75,7 +75,7 @@ fn is_one_held(replies: &[Reply]) -> bool {
     replies.iter().any(|reply| reply.is_ok())
 }
 
-/// Settles once behind texts of which one is held. A fault of that settle is told to the watcher alone.
+/// Settles once after texts, if one of them is held. Only the watcher learns of a fault of that settle.
 fn settle_behind_texts<K: Keeper, V: Watcher>(
     office: &mut Office<K>,
     replies: &[Reply],
@@ -90,7 +90,7 @@ fn settle_behind_texts<K: Keeper, V: Watcher>(
     }
 }
 
-/// Keeps texts together, and answers them; none where they are to be delivered one by one.
+/// Keeps texts together, and answers them; none if they are to be delivered one by one.
 fn keep_together<K: Keeper>(office: &mut Office<K>, texts: &[MailText]) -> Option<Vec<Reply>>
     ensures carries { Preserves K.Keeper office.old office.new }
     ensures answers { Holds K.Keeper office.old office.new → IfSome result (λ replies. replies.items ≡ answers_to (K.setup office.old) (K.content office.old).kept texts.now) }
@@ -106,7 +106,7 @@ fn keep_together<K: Keeper>(office: &mut Office<K>, texts: &[MailText]) -> Optio
     }
 }
 
-/// Answers texts that are kept together, and settles behind them.
+/// Answers texts that are kept together, and settles after them.
 fn answer_texts<K: Keeper, W: Sink, V: Watcher>(
     office: &mut Office<K>,
     texts: &[MailText],
@@ -129,7 +129,7 @@ fn answer_texts<K: Keeper, W: Sink, V: Watcher>(
     Ok(())
 }
 
-/// Delivers texts, together or else one by one, and answers whether one was lost.
+/// Delivers texts, together or else one by one, and returns whether one was lost.
 fn deliver_block<K: Keeper, W: Sink, V: Watcher>(
     office: &mut Office<K>,
     texts: &[MailText],
@@ -151,8 +151,8 @@ fn deliver_block<K: Keeper, W: Sink, V: Watcher>(
     }
 }
 
-/// Takes the next texts of a bag as far as there is room for them, or until they are long enough. Where the bag stopped
-/// behind them, the answer is `Err` with its end.
+/// Takes the next texts of a bag as long as there is room for them, or until they are long enough. If the bag stopped
+/// after them, the result is `Err` with its end.
 fn take_texts<R: Feed>(bag: &mut Bag<R>, texts: &mut Vec<MailText>) -> Result<(), Option<BagFault>>
     requires open { bag.old.ended ≡ false }
     requires none { texts.old.items ≡ [] }
@@ -220,7 +220,7 @@ fn deliver_blocks<K: Keeper, R: Feed, W: Sink, V: Watcher>(
     }
 }
 
-/// Room for so many texts of a block; none for one text, and none where memory is short.
+/// Room for that many texts of a block; none for one text, and none if memory is short.
 fn room_for(alloc: Global, together: usize) -> Option<Vec<MailText>>
     ensures { IfSome result (λ texts. 0 < vec_capacity texts) }
 {
@@ -240,11 +240,11 @@ pub(crate) fn deliver_all<K: Keeper, R: Feed, W: Sink, V: Watcher>(
     requires { bag.old.ended ≡ false }
     ensures carries { Preserves K.Keeper office.old office.new }
     ensures all { Holds K.Keeper office.old office.new → IfOk result (λ delivered. DeliversAll (state_of K.Keeper office.old) (state_of K.Keeper office.new) bag.old bag.new (W.written writer.old) (W.written writer.new) delivered.end delivered.lost (StoreRefused K.Keeper office.old office.new)) }
-    // What a writer that fails leaves: the bag may have stopped already, behind the last block.
+    // What a writer that fails leaves: the bag may have stopped already, after the last block.
     ensures front { Holds K.Keeper office.old office.new → OnErr result (DeliversFront (state_of K.Keeper office.old) (state_of K.Keeper office.new) bag.old bag.new (W.written writer.old) (W.written writer.new) (StoreRefused K.Keeper office.old office.new)
         ⊎ DeliversLastFront (state_of K.Keeper office.old) (state_of K.Keeper office.new) bag.old bag.new (W.written writer.old) (W.written writer.new) (StoreRefused K.Keeper office.old office.new)) }
 
-    // A read failed exactly where the bag is refused for it, but for the last of the reads.
+    // A read failed exactly if the bag is refused for it, except for the last of the reads.
     ensures read_cause { IfOk result (λ delivered. delivered.end ≡ Some BagFault.ReadFault → ReadFails bag.old bag.new) }
     ensures read_clean { IfOk result (λ delivered. (delivered.end ≡ Some BagFault.ReadFault) ⊎ (bag.new.failures ≡ bag.old.failures)) }
     ensures reads { bag.new.reads ≤ 1_000_000 }

@@ -41,7 +41,7 @@ pub(crate) fn write_bag<W: Sink>(end: Option<BagFault>, writer: &mut W) -> Resul
     }
 }
 
-/// The line in the place of a text that can't be had.
+/// The line in the place of a text that is missing.
 fn refusal(fault: StoreFault) -> &'static str
     ensures { result.now ≡ or_refused (Some fault) [] }
 {
@@ -51,7 +51,7 @@ fn refusal(fault: StoreFault) -> &'static str
     }
 }
 
-/// Writes the line in the place of a text that can't be had.
+/// Writes the line in the place of a text that is missing.
 pub(crate) fn write_refusal<W: Sink>(fault: StoreFault, writer: &mut W) -> Result<(), WriteFault>
     ensures ok { OnOk result (Appends (W.written writer.old) (W.written writer.new) (or_refused (Some fault) [])) }
     ensures err { OnErr result (AppendsFront (W.written writer.old) (W.written writer.new) (or_refused (Some fault) [])) }
@@ -101,7 +101,7 @@ fn write_text<W: Sink>(text: &Result<Text, StoreFault>, writer: &mut W) -> Resul
     }
 }
 
-/// Writes a report. There is none to write of a run that isn't finished.
+/// Writes a report. A run that isn't finished has none.
 fn write_report<W: Sink>(
     report: &Result<Option<Text>, StoreFault>,
     writer: &mut W,
@@ -118,7 +118,7 @@ fn write_report<W: Sink>(
     }
 }
 
-/// Writes the two reports of a finished run. True where one is missing.
+/// Writes the two reports of a finished run. True if one is missing.
 fn write_run<K: Keeper, W: Sink>(
     office: &mut Office<K>,
     run: u32,
@@ -139,7 +139,7 @@ fn write_run<K: Keeper, W: Sink>(
     lost
 }
 
-/// Writes two reports. True where one is missing.
+/// Writes two reports. True if one is missing.
 fn write_both<W: Sink>(
     excuses: &Result<Option<Text>, StoreFault>,
     updates: &Result<Option<Text>, StoreFault>,
@@ -171,7 +171,7 @@ pub(crate) fn either(one: bool, other: bool) -> bool
     one || other
 }
 
-/// Writes the reports of the runs after one run up to another. True where one is missing.
+/// Writes the reports of the runs after one run up to another. True if one is missing.
 fn write_reports<K: Keeper, W: Sink>(
     office: &mut Office<K>,
     before: u32,
@@ -194,7 +194,7 @@ fn write_reports<K: Keeper, W: Sink>(
     Ok(lost)
 }
 
-/// Writes the reports of the runs after this one. True where one is missing.
+/// Writes the reports of the runs after this one. True if one is missing.
 fn write_news<K: Keeper, W: Sink>(
     office: &mut Office<K>,
     before: u32,
@@ -215,7 +215,7 @@ fn write_news<K: Keeper, W: Sink>(
     }
 }
 
-/// Writes the status, the reports of the runs after this one, and testing. True where one is missing.
+/// Writes the status, the reports of the runs after this one, and testing. True if one is missing.
 pub(crate) fn write_end<K: Keeper, W: Sink>(
     office: &mut Office<K>,
     before: u32,

@@ -1,5 +1,4 @@
-//! A bag of mail that is replayed in an office: its messages are delivered, what is ready is finished, and what came of it
-//! is written.
+//! Replays a bag of mail in an office: delivers its messages, finishes what is ready, and writes the results.
 #![tactic(auto)]
 
 mod blocks;

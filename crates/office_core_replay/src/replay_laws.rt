@@ -12,15 +12,15 @@ ghost use Rattle.office_core_replay.specs.Output.{reply_lines};
 
 use office_store_keeper::Keeper;
 
-/// Where nothing is lost, texts that are kept a block at a time leave the same mail as texts that are delivered one by
-/// one, and the same lines answer them.
+/// If nothing is lost, texts kept a block at a time leave the same mail as texts delivered one by one, and the same
+/// lines answer them.
 pub fn blocks_are_no_other()
     ensures { (s a b : OfficeState) (texts : List (List ℕ)) (w v x : Option (List ℕ)) → (p : DeliversTexts s a texts w v false ⊤) → (q : DeliversTexts s b texts w x false ⊤) → (a.kept ≡ b.kept) × (reply_lines s.setup s.kept p.deliveries ≡ reply_lines s.setup s.kept q.deliveries) }
 {}
 
-/// A whole replay is steps of an office's history: its messages came but for those that were lost, and runs were finished.
+/// A whole replay is steps of an office's history: its messages came except the lost ones, and runs were finished.
 pub fn replays_are_steps<K: Keeper>()
     ensures came { (old new : K) (deliveries : List Delivery) → KeepsMail (state_of K.Keeper old) (state_of K.Keeper new) deliveries → IsSound K.Keeper old → IsSound K.Keeper new → Leads (K.setup old) (K.content old) (coming (not_lost deliveries) (length (K.content new).reports - length (K.content old).reports) Looked) (K.content new) }
-    // Where its last settle answered Ok, they end in that.
+    // If its last settle answered Ok, they end in that.
     ensures settled { (old new : K) (deliveries : List Delivery) → KeepsMail (state_of K.Keeper old) (state_of K.Keeper new) deliveries → IsSound K.Keeper old → IsSound K.Keeper new → IsReadyCount (K.setup new) (K.content new).kept (length (K.content new).reports) → Leads (K.setup old) (K.content old) (coming (not_lost deliveries) (length (K.content new).reports - length (K.content old).reports) Settled) (K.content new) }
 {}

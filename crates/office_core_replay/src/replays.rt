@@ -31,7 +31,7 @@ fn mark_of(reply: &Result<Held, DeliverFault>) -> Mark
     }
 }
 
-/// Settles behind a delivery that is held. A fault of that settle is told by nobody: the next one goes on.
+/// Settles after a delivery that is held. Nobody reports a fault of that settle: the next one continues.
 pub fn settle_behind<K: Keeper>(office: &mut Office<K>, reply: &Result<Held, DeliverFault>)
     ensures carries { Preserves K.Keeper office.old office.new }
     ensures settles { Holds K.Keeper office.old office.new → Settles (state_of K.Keeper office.old) (state_of K.Keeper office.new) (is_ok reply.now) (StoreRefused K.Keeper office.old office.new) }
@@ -39,7 +39,7 @@ pub fn settle_behind<K: Keeper>(office: &mut Office<K>, reply: &Result<Held, Del
     settle_watched(office, reply, &mut Unwatched);
 }
 
-/// Settles behind a delivery that is held. A watcher is told how that went.
+/// Settles after a delivery that is held, and shows the result to a watcher.
 fn settle_watched<K: Keeper, V: Watcher>(
     office: &mut Office<K>,
     reply: &Result<Held, DeliverFault>,
@@ -54,7 +54,7 @@ fn settle_watched<K: Keeper, V: Watcher>(
     }
 }
 
-/// Delivers a text, writes the line that answers it, and settles where it is held.
+/// Delivers a text, writes the line that answers it, and settles if it is held.
 pub(crate) fn deliver_one<K: Keeper, W: Sink, V: Watcher>(
     office: &mut Office<K>,
     text: &[u8],
@@ -63,7 +63,7 @@ pub(crate) fn deliver_one<K: Keeper, W: Sink, V: Watcher>(
 ) -> Result<Mark, WriteFault>
     ensures carries { Preserves K.Keeper office.old office.new }
     ensures ok { Holds K.Keeper office.old office.new → IfOk result (λ mark. DeliversOne (state_of K.Keeper office.old) (state_of K.Keeper office.new) text.now mark (W.written writer.old) (W.written writer.new) (StoreRefused K.Keeper office.old office.new)) }
-    // What a writer that fails leaves: the text may be kept, and a front of the line was written.
+    // What a writer that fails leaves: the text may be kept, and a prefix of the line was written.
     ensures front { Holds K.Keeper office.old office.new → OnErr result (DeliversOneFront (state_of K.Keeper office.old) (state_of K.Keeper office.new) text.now (W.written writer.old) (W.written writer.new) (StoreRefused K.Keeper office.old office.new)) }
     ensures cause { OnErr result (HasRisen (W.failures writer.old) (W.failures writer.new)) }
     ensures clean { OnOk result (W.failures writer.new ≡ W.failures writer.old) }
@@ -94,7 +94,7 @@ pub(crate) fn deliver_each<K: Keeper, R: Feed, W: Sink, V: Watcher>(
     ensures all { Holds K.Keeper office.old office.new → IfOk result (λ delivered. DeliversAll (state_of K.Keeper office.old) (state_of K.Keeper office.new) bag.old bag.new (W.written writer.old) (W.written writer.new) delivered.end delivered.lost (StoreRefused K.Keeper office.old office.new)) }
     ensures front { Holds K.Keeper office.old office.new → OnErr result (DeliversFront (state_of K.Keeper office.old) (state_of K.Keeper office.new) bag.old bag.new (W.written writer.old) (W.written writer.new) (StoreRefused K.Keeper office.old office.new)) }
 
-    // A read failed exactly where the bag is refused for it, but for the last of the reads.
+    // A read failed exactly if the bag is refused for it, except for the last of the reads.
     ensures read_cause { IfOk result (λ delivered. delivered.end ≡ Some BagFault.ReadFault → ReadFails bag.old bag.new) }
     ensures read_clean { IfOk result (λ delivered. (delivered.end ≡ Some BagFault.ReadFault) ⊎ (bag.new.failures ≡ bag.old.failures)) }
     ensures reads { bag.new.reads ≤ 1_000_000 }
@@ -120,38 +120,37 @@ pub(crate) fn deliver_each<K: Keeper, R: Feed, W: Sink, V: Watcher>(
     }
 }
 
-/// What a replay came to: why the bag was refused, and whether anything was lost for want of memory
-/// or by the store.
+/// The result of a replay: why the bag was refused, and whether memory or the store lost anything.
 #[derive(Clone, Copy, Debug, PartialEq, Eq)]
 pub struct Replayed {
     pub bag: Option<BagFault>,
     pub lost: bool,
 }
 
-/// Delivers the messages of a bag that hasn't ended, settles, and writes the answers, the status, the
-/// reports of the runs that it finished, and testing. It fails only where the writer failed or took no
-/// byte; what was delivered before stays. The bag is lent, so that what was read of its reader, how often
-/// that was asked and whether it failed is said of the bag that the caller still has.
+/// Delivers the messages of a bag that hasn't ended, settles, and writes the answers, the status, the reports of the
+/// runs that it finished, and testing. It fails only if the writer failed or took no byte; what was delivered before
+/// stays. The bag is borrowed, so the caller still has it, with what was read of its reader, how often that was asked
+/// and whether it failed.
 pub fn replay<K: Keeper, R: Feed, W: Sink>(
     office: &mut Office<K>,
     bag: &mut Bag<R>,
     writer: &mut W,
 ) -> Result<Replayed, WriteFault>
     requires { bag.old.ended ≡ false }
-    // A store that is trusted was so before, and holds an office's state as before. What the replay makes of it is known
-    // while it is trusted; what it lost is lost by the store only where that counted a refusal.
+    // A store trusted after the call was trusted before, and holds an office's state if it did. What the replay makes
+    // of it is known while it is trusted; the store loses something only if it counted a refusal.
     ensures carries { Preserves K.Keeper office.old office.new }
     ensures ok { Holds K.Keeper office.old office.new → IfOk result (λ replayed. Replays (state_of K.Keeper office.old) (state_of K.Keeper office.new) bag.old bag.new (W.written writer.old) (W.written writer.new) replayed (StoreRefused K.Keeper office.old office.new)) }
     ensures err { Holds K.Keeper office.old office.new → OnErr result (StopsReplay (state_of K.Keeper office.old) (state_of K.Keeper office.new) bag.old bag.new (W.written writer.old) (W.written writer.new) (StoreRefused K.Keeper office.old office.new)) }
 
-    // The runs that were finished stand: their reports, and testing unless one more was finished.
+    // Finished runs stay: their reports, and testing unless another run finished.
     ensures runs { Holds K.Keeper office.old office.new → RunsStand (K.content office.old) (K.content office.new) }
 
-    // A read failed exactly where the bag is refused for it, but for the last of the reads.
+    // A read failed exactly if the bag is refused for it, except for the last of the reads.
     ensures read_cause { IfOk result (λ replayed. replayed.bag ≡ Some BagFault.ReadFault → ReadFails bag.old bag.new) }
     ensures read_clean { IfOk result (λ replayed. (replayed.bag ≡ Some BagFault.ReadFault) ⊎ (bag.new.failures ≡ bag.old.failures)) }
 
-    // At most 1,000,000 reads are made, of at most 8,192 bytes each. Each that is counted was a call of the reader.
+    // At most 1,000,000 reads are made, of at most 8,192 bytes each. Each counted read was a call of the reader.
     ensures reads { bag.old.reads ≤ 1_000_000 → bag.new.reads ≤ 1_000_000 }
     ensures calls { bag.new.calls + bag.old.reads ≤ bag.old.calls + bag.new.reads }
     ensures counts { CountsEach bag.old bag.new }
@@ -162,7 +161,7 @@ pub fn replay<K: Keeper, R: Feed, W: Sink>(
     replay_watched(office, bag, writer, &mut Unwatched)
 }
 
-/// Delivers the messages of a bag that hasn't ended, settles, and writes what a replay writes. A watcher is told each
+/// Delivers the messages of a bag that hasn't ended, settles, and writes what a replay writes. A watcher sees each
 /// delivery.
 pub fn replay_watched<K: Keeper, R: Feed, W: Sink, V: Watcher>(
     office: &mut Office<K>,
@@ -186,7 +185,7 @@ pub fn replay_watched<K: Keeper, R: Feed, W: Sink, V: Watcher>(
     replay_bag(office, bag, writer, watcher)
 }
 
-/// Delivers the messages of a bag, if the count of finished runs is to be had.
+/// Delivers the messages of a bag, if the count of finished runs can be read.
 fn replay_bag<K: Keeper, R: Feed, W: Sink, V: Watcher>(
     office: &mut Office<K>,
     bag: &mut Bag<R>,
@@ -217,7 +216,7 @@ fn replay_bag<K: Keeper, R: Feed, W: Sink, V: Watcher>(
     }
 }
 
-/// Delivers the messages of a bag, where this count of runs is finished.
+/// Delivers the messages of a bag, given the count of finished runs.
 fn replay_from<K: Keeper, R: Feed, W: Sink, V: Watcher>(
     office: &mut Office<K>,
     before: u32,
@@ -249,7 +248,7 @@ fn replay_from<K: Keeper, R: Feed, W: Sink, V: Watcher>(
     })
 }
 
-/// Whether a bag ended for want of memory.
+/// Whether a bag ended because memory ran out.
 fn is_short(end: Option<BagFault>) -> bool
     ensures { result ≡ is_short end }
 {
@@ -259,8 +258,7 @@ fn is_short(end: Option<BagFault>) -> bool
     }
 }
 
-/// The exit status of a replay: 4 where its output failed or anything was lost, else 3 where the bag
-/// was refused, else 0.
+/// The exit status of a replay: 4 if its output failed or anything was lost, else 3 if the bag was refused, else 0.
 pub fn replay_status(replayed: &Result<Replayed, WriteFault>) -> u8
     ensures { result ≡ status_of replayed.now }
 {

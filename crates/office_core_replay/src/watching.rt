@@ -1,13 +1,13 @@
-//! Whoever watches a replay: it is told each delivery, and has no say in any.
+//! A watcher of a replay: it sees each delivery, and influences none.
 
 use office_core_orders::{DeliverFault, Held, Progress, StoreFault};
 
-/// Is told each delivery of a replay. Nothing that it does changes what the replay does.
+/// Sees each delivery of a replay. Nothing that it does changes what the replay does.
 pub trait Watcher {
-    /// A text was delivered, and is answered so.
+    /// A text was delivered, with this reply.
     fn delivered(&mut self, text: &[u8], reply: &Result<Held, DeliverFault>);
 
-    /// The office has settled behind a text that it holds.
+    /// The office has settled after a text that it holds.
     fn settled(&mut self, settled: &Result<Progress, StoreFault>);
 }
 

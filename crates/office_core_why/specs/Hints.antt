@@ -1,5 +1,5 @@
--- The hints in force over all mail without a gap, and how it stands with what each of them names. That they are told so, and in which
--- words, is decided by this office.
+-- The hints in force over all mail without a gap, and the state of each item that they name. That they are printed so,
+-- and in which words, is decided by this office.
 use Rattle.std.specs.Prelude.{◌≡◌, ℕ, Bool, true, false, nat_le, if◌then◌else◌, List, [], ◌∷◌, ◌++◌, codes, decimal, flat_map, is_some, Option, Some, None}
 use Rattle.testing_rules_items.specs.Words.{Text, is_same_version}
 use Rattle.testing_rules_items.specs.declared.item.Hint.{Hint}
@@ -20,8 +20,8 @@ use Rattle.office_core_orders.specs.Replies.{name_at}
 use Rattle.office_core_facts.specs.Outcome.{testing_after}
 use Rattle.office_core_facts.specs.Seen.{IsSeen}
 
--- How it stands with a source at version v that a hint names, by unstable's source of the name, and by whether testing has it at v: it has
--- moved, or has another version in unstable; a hint to remove it is in force at both of its versions.
+-- The state of a source at version v in a hint, by unstable's source of the name, and by whether testing has it at v.
+-- It has moved, or has another version in unstable. A hint to remove it is in force at both of its versions.
 abbrev pub state_words : Bool → Bool → Text → Option UploadIn → Text
 state_words removes moved v None = codes "no source"
 state_words removes moved v (Some u) =
@@ -45,7 +45,7 @@ asked_words (AgeDays n items) = codes "age-days " ++ decimal n
 asked_words (Remove items) = codes "remove"
 asked_words BlockAll = codes "block-all"
 
--- a line on each thing that a hint names
+-- a line on each item that a hint names
 abbrev pub named_lines : Text → List UploadIn → Suite → Hint → Text
 named_lines front sources t (Block names) = flat_map (name_line front sources) names
 named_lines front sources t (Unblock items) = flat_map (item_line front sources t false) items
@@ -54,7 +54,7 @@ named_lines front sources t (AgeDays n items) = flat_map (item_line front source
 named_lines front sources t (Remove items) = flat_map (item_line front sources t true) items
 named_lines front sources t BlockAll = front ++ codes "source: in force" ++ 10 ∷ []
 
--- the front of these lines: the hint's message, whether its sender is covered so far, and what it asks
+-- the beginning of these lines: the hint's message, whether its sender is covered so far, and what it asks
 abbrev pub hint_front : Lists → (ℕ → ℕ) → HintIn → Text
 hint_front setup covers h =
     name_at setup h.sender ++ 32 ∷ decimal h.number ++ (if nat_le h.number (covers h.sender) then codes " covered " else codes " new ") ++ asked_words h.hint ++ 32 ∷ []
@@ -66,7 +66,7 @@ hint_lines setup covers sources t h = named_lines (hint_front setup covers h) so
 unfoldable pub hints_text : Lists → ℕ → (ℕ → ℕ) → Covered → Suite → Text
 hints_text setup finished covers s t = line (codes "hints" ∷ decimal finished ∷ []) ++ flat_map (hint_lines setup covers (unstable_sources s) t) (in_force s)
 
--- the hints behind k finished runs: over all mail without a gap, and the testing that the last run left
+-- the hints after k finished runs: over all mail without a gap, and the testing that the last run left
 pub record IsHintsText (setup : Lists) (kept : Kept) (k : ℕ) (text : Text) : Type 0 where
   pub seen : Covered
   pub is_seen : IsSeen setup kept seen

@@ -1,5 +1,5 @@
 -- Steps: no contract of a call that users make rests on this file.
--- What is told of a source by facts, and by reports that may be missing.
+-- The text on a source, from facts, and from reports that may be missing.
 use Rattle.std.specs.Prelude.{◌≡◌, ℕ, List, filter, Option, Some, None}
 use Rattle.jiff_core.specs.declared.civil.date.Date.{Date}
 use Rattle.testing_rules_items.specs.Words.{Text}
@@ -16,7 +16,7 @@ use Rattle.office_core_why.specs.declared.WhyText.{WhyText}
 abbrev pub unstable_of : List Text → FactLists → Unstable
 unstable_of archs f = record { sources = f.sources; rows = built_rows archs f.rows; bugs = f.bugs; hints = filter (is_in_force f.unhints) f.hints }
 
--- what is told of a source where the store keeps the run's reports; nothing is told where it keeps none
+-- the text on a source if the store keeps the run's reports; none if it doesn't
 abbrev pub IsToldWith : Lists → Covered → Suite → ℕ → Date → Option Reports → Text → Option WhyText → Type 0
 IsToldWith setup s t run date None source found = found ≡ None
 IsToldWith setup s t run date (Some reports) source None = ⊥

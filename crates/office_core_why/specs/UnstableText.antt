@@ -14,7 +14,7 @@ unfoldable pub unstable_text : List Text → ℕ → Covered → Text
 unstable_text archs finished s =
     line (codes "unstable" ∷ decimal finished ∷ []) ++ flat_map (λ u. source_line (as_source u)) (unstable_sources s) ++ flat_map (row_line archs) (unstable_rows archs s)
 
--- unstable behind k finished runs
+-- unstable after k finished runs
 pub record IsUnstableText (setup : Lists) (kept : Kept) (k : ℕ) (text : Text) : Type 0 where
   pub seen : Covered
   pub is_seen : IsSeen setup kept seen

@@ -1,4 +1,4 @@
-//! The hints in force in lines.
+//! The hints in force, in lines.
 
 ghost use Rattle.std.specs.Prelude.{◌≡◌, ◌++◌, Bool, false, if◌then◌else◌, nat_le, codes, Some, IfOk, OnOk, option_copied, string_bytes};
 ghost use Rattle.std.specs.List.{filter, flat_map};
@@ -20,7 +20,7 @@ use testing_rules_model::{HintIn, UploadIn};
 use testing_rules_refusals::is_in_testing;
 use testing_rules_suites::Testing;
 
-/// How it stands with a version that a hint names and that hasn't moved, by unstable's source of the name.
+/// The state of an unmoved version that a hint names, by unstable's source of the name.
 fn push_state_of(text: &mut String, version: &Version, source: &UploadIn) -> Result<(), AllocError>
     ensures { (removes : Bool) → OnOk result (string_bytes text.new ≡ string_bytes text.old ++ state_words removes false version.now (Some source.now)) }
 {
@@ -31,7 +31,7 @@ fn push_state_of(text: &mut String, version: &Version, source: &UploadIn) -> Res
     }
 }
 
-/// How it stands with a version that a hint names, by whether testing has it, and by unstable's source of the name.
+/// The state of a version that a hint names, by whether testing has it, and by unstable's source of the name.
 fn push_state(
     text: &mut String,
     removes: bool,
@@ -115,7 +115,7 @@ fn push_names(
     Ok(())
 }
 
-/// A line on each thing that a hint names.
+/// A line on each item that a hint names.
 fn push_named(
     text: &mut String,
     front: &str,
@@ -160,7 +160,7 @@ fn covered_words(orders: &[RunOrder], hint: &HintIn) -> &'static str
     }
 }
 
-/// The front of the lines on a hint.
+/// The beginning of the lines on a hint.
 fn hint_front(
     alloc: Global,
     setup: &Setup,
@@ -214,7 +214,7 @@ fn push_hints(
     Ok(())
 }
 
-/// The hints in force as the facts give them, beside a testing and the orders of so many finished runs.
+/// The hints in force as the facts give them, given a testing and the orders of that many finished runs.
 #[tactic(auto, unfolding(crate::specs::Hints::hints_text))]
 pub(crate) fn hints_over(
     alloc: Global,

@@ -6,7 +6,7 @@ ghost use Rattle.office_mail.specs.Lists.{Lists};
 ghost use Rattle.office_core_orders.specs.Ready.{HasPlaces};
 ghost use Rattle.office_core_facts.specs.Seen.{IsSeen};
 
-/// All mail without a gap is one thing. So the hints and unstable that an office tells are, too: what it keeps leaves no other.
+/// What an office keeps determines all mail without a gap, and so its texts of hints and of unstable.
 pub fn one_seen()
     ensures { (setup : Lists) (kept : Kept) (x y : Covered) → HasPlaces setup kept → IsSeen setup kept x → IsSeen setup kept y → x ≡ y }
 {}

@@ -1,5 +1,5 @@
-//! Why a source stands where the last finished run of an office left it, in lines; and over all mail without a gap the hints
-//! in force and unstable.
+//! Why a source is where the last finished run of an office left it, in lines; and over all mail without a gap the
+//! hints in force and unstable.
 #![tactic(auto)]
 
 mod hints;
@@ -14,7 +14,7 @@ use deb_control::Text;
 pub use seen::{hints_text, unstable_text};
 pub use why::why_text;
 
-/// What is told of a source, and whether unstable has it.
+/// The text on a source, and whether unstable has it.
 #[derive(Drop)]
 pub struct WhyText {
     pub text: Text,

@@ -1,4 +1,4 @@
-//! What is told over all mail that an office keeps without a gap.
+//! The texts over all mail that an office keeps without a gap.
 #![tactic(auto, using(office_core_orders::proofs::LastFacts::lasting))]
 
 ghost use Rattle.std.specs.Prelude.{is_ok, ◌≡◌, IfOk, IfErr, IfSome, length};
@@ -28,7 +28,7 @@ use std::alloc::Global;
 use testing_rules_facts::Facts;
 use testing_rules_suites::Testing;
 
-/// What is told.
+/// What a text is about.
 #[derive(Clone, Copy, Debug, PartialEq, Eq)]
 pub(crate) enum Subject {
     /// The hints in force.
@@ -37,7 +37,7 @@ pub(crate) enum Subject {
     Unstable,
 }
 
-/// The hints as the facts give them. It fails for want of memory alone.
+/// The hints as the facts give them. It fails only if memory runs out.
 fn hints_beside(
     alloc: Global,
     setup: &Setup,
@@ -52,7 +52,7 @@ fn hints_beside(
     Ok(hints_over(alloc, setup, orders, facts, testing, finished)?)
 }
 
-/// The hints as the facts give them, beside the testing that is kept, which is given back with what speeds the next run.
+/// The hints as the facts give them, over the kept testing, which is returned with what speeds the next run.
 fn tell_hints<K: Keeper>(
     alloc: Global,
     setup: &Setup,
@@ -71,7 +71,7 @@ fn tell_hints<K: Keeper>(
     told
 }
 
-/// What is told by facts.
+/// The text given facts.
 fn tell_by<K: Keeper>(
     alloc: Global,
     setup: &Setup,
@@ -91,8 +91,8 @@ fn tell_by<K: Keeper>(
     }
 }
 
-/// What is told over all mail without a gap, by what is known of the finished runs, of which these are the orders, or else by
-/// what the store keeps.
+/// The text over all mail without a gap, given the orders of the finished runs: from what is known of these, or else
+/// from what the store keeps.
 fn tell_seen<K: Keeper>(
     alloc: Global,
     setup: &Setup,
@@ -113,8 +113,8 @@ fn tell_seen<K: Keeper>(
     told
 }
 
-/// What is told over all mail without a gap, where what is known of the finished runs is recalled first, if nothing is known
-/// yet. These are their orders.
+/// The text over all mail without a gap, given the orders of the finished runs. What is known of these is recalled
+/// first, if nothing is known yet.
 fn tell_after<K: Keeper>(
     alloc: Global,
     setup: &Setup,
@@ -136,8 +136,8 @@ fn tell_after<K: Keeper>(
     tell_seen(alloc, setup, keeper, known, orders, finished, subject)
 }
 
-/// What is told over all mail without a gap of an office with this store. What is known of the mail is used, or else recalled
-/// from the store and known from then on.
+/// The text over all mail without a gap of an office with this store. What is known of the mail is used, or else
+/// recalled from the store and known from then on.
 fn seen_text<K: Keeper>(
     alloc: Global,
     setup: &Setup,
@@ -155,11 +155,11 @@ fn seen_text<K: Keeper>(
     tell_after(alloc, setup, keeper, known, &orders, finished, subject)
 }
 
-/// The hints in force of an office with this store, over all mail without a gap: a line for each thing that a hint names, with
-/// the hint's message, whether a finished run covers it, and how it stands with what the hint names. Nothing is kept. What is
-/// known of the mail is used, or else recalled from the store and known from then on.
+/// The hints in force of an office with this store, over all mail without a gap. Each item of a hint has a line, with
+/// the number of the hint's message, whether a finished run covers it, and the state of the item. Nothing is kept. What
+/// is known of the mail is used, or else recalled from the store and known from then on.
 ///
-/// It fails for want of memory or of the store alone.
+/// It fails only if memory runs out or the store fails.
 pub fn hints_text<K: Keeper>(
     alloc: Global,
     setup: &Setup,
@@ -179,10 +179,10 @@ pub fn hints_text<K: Keeper>(
     seen_text(alloc, setup, keeper, known, Subject::Hints)
 }
 
-/// Unstable of an office with this store, over all mail without a gap: its sources and its rows, in the lines of the text of
+/// Unstable of an office with this store, over all mail without a gap: sources and rows, in the lines of the text of
 /// testing. Nothing is kept. What is known of the mail is used, or else recalled from the store and known from then on.
 ///
-/// It fails for want of memory or of the store alone.
+/// It fails only if memory runs out or the store fails.
 pub fn unstable_text<K: Keeper>(
     alloc: Global,
     setup: &Setup,

@@ -1,4 +1,4 @@
-//! How it stands with a source that has nothing to move.
+//! The state of a source that has nothing to move.
 
 ghost use Rattle.std.specs.Prelude.{◌≡◌, IfOk, Some, option_copied};
 ghost use Rattle.office_core_why.specs.Why.{standing_line};
@@ -28,7 +28,7 @@ fn line_in_testing(
     }
 }
 
-/// The line on a source that unstable doesn't have, or that testing has at unstable's version; no line of any other.
+/// The line on a source missing in unstable, or with unstable's version in testing; no line on any other.
 pub(crate) fn standing_line(
     alloc: Global,
     testing: &Testing,

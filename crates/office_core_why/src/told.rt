@@ -1,4 +1,4 @@
-//! What is told of a source, by the facts and the testing that a run left.
+//! The text on a source, from the facts and the testing that a run left.
 
 ghost use Rattle.std.specs.Prelude.{◌≡◌, ◌++◌, [], Some, IfOk, option_copied};
 ghost use Rattle.testing_rules_model.specs.Covered.{Covered};
@@ -34,7 +34,7 @@ pub(crate) struct AskedSource<'a> {
     pub source: &'a str,
 }
 
-/// What lines on a source go by: the names of the senders, the architectures, and the facts of a run.
+/// The basis of lines on a source: the names of the senders, the architectures, and the facts of a run.
 #[derive(Clone, Copy)]
 struct Ground<'g> {
     senders: &'g [Text],
@@ -61,7 +61,7 @@ pub(crate) fn no_lines(alloc: Global) -> Text
     Text::from_string(String::new(alloc))
 }
 
-/// Where the reasons come from that keep a source of unstable out.
+/// The origin of the reasons that keep a source of unstable out.
 fn origins_of(
     alloc: Global,
     ground: &Ground<'_>,
@@ -75,7 +75,7 @@ fn origins_of(
     origin_lines(alloc, ground.senders, ground.archs, &said, upload, excuse)
 }
 
-/// Where the reasons come from that keep a source out; no line of a source that unstable hasn't.
+/// The origin of the reasons that keep a source out; no line if unstable doesn't have it.
 fn origins_in(
     alloc: Global,
     ground: &Ground<'_>,
@@ -92,7 +92,7 @@ fn origins_in(
     }
 }
 
-/// Why the source of an excuse can't move alone; no line where the move breaks nothing.
+/// Why the source of an excuse can't move alone; no line if the move breaks nothing.
 fn refusal_of(
     alloc: Global,
     archs: &Archs,
@@ -110,7 +110,7 @@ fn refusal_of(
     }
 }
 
-/// Why a source can't move alone; no line of one that has no excuse.
+/// Why a source can't move alone; no line if it has no excuse.
 fn refusal_in(
     alloc: Global,
     archs: &Archs,
@@ -128,7 +128,7 @@ fn refusal_in(
     }
 }
 
-/// Why a source that waits by an update can't move alone; no line of any other.
+/// Why a source that waits by an update can't move alone; no line on any other.
 fn refusal_by(
     alloc: Global,
     ground: &Ground<'_>,
@@ -148,7 +148,7 @@ fn refusal_by(
     }
 }
 
-/// A text, and another one behind it.
+/// A text followed by another.
 fn joined(alloc: Global, first: &Text, second: &Text) -> Result<Text, NoMemory>
     ensures { IfOk result (λ text. text ≡ first.now ++ second.now) }
 {
@@ -156,8 +156,8 @@ fn joined(alloc: Global, first: &Text, second: &Text) -> Result<Text, NoMemory>
     Ok(Text::from_string(text))
 }
 
-/// What the reports of the run say of the source that is asked about, with the lines on how it stands and where the
-/// reasons come from.
+/// What the reports of the run say of the source asked about, with the lines on its state and on the origin of the
+/// reasons.
 fn with_origins(
     alloc: Global,
     asked: &AskedSource<'_>,
@@ -179,7 +179,7 @@ fn with_origins(
     )
 }
 
-/// What the reports of the run say of the source that is asked about, with the lines on why it can't move alone.
+/// What the reports of the run say of the source asked about, with the lines on why it can't move alone.
 fn with_reasons(
     alloc: Global,
     asked: &AskedSource<'_>,
@@ -194,7 +194,7 @@ fn with_reasons(
     joined(alloc, &said, refusal)
 }
 
-/// What is told of the source that is asked about, by the excuses that the run left.
+/// The text on the source asked about, from the excuses that the run left.
 fn lines_from_excuses(
     alloc: Global,
     ground: &Ground<'_>,
@@ -219,7 +219,7 @@ fn lines_from_excuses(
     })
 }
 
-/// What is told after the run of the source that is asked about, over the messages that the facts stand for.
+/// The text after the run on the source asked about, over the messages that the facts represent.
 fn lines_after_run(
     alloc: Global,
     ground: &Ground<'_>,
@@ -234,8 +234,8 @@ fn lines_after_run(
     lines_from_excuses(alloc, ground, testing, excuses.as_slice(), asked, reports)
 }
 
-/// What is told after the run of the source that is asked about, by the reports of the run and the testing that it
-/// left, over the messages that the facts stand for.
+/// The text after the run on the source asked about, from the run's reports and testing, over the messages that the
+/// facts represent.
 pub(crate) fn lines_from_run(
     alloc: Global,
     setup: &Setup,

@@ -17,7 +17,7 @@ use testing_rules_facts::{Facts, built_rows};
 use testing_rules_items::Archs;
 use testing_rules_model::{LentRow, UploadIn};
 
-/// A word comes behind a text, and a space behind it.
+/// Appends a word to a text, and a space after it.
 fn push_word(text: &mut String, word: &str) -> Result<(), AllocError>
     ensures { OnOk result (string_bytes text.new ≡ string_bytes text.old ++ word.now ++ 32 ∷ []) }
 {
@@ -65,7 +65,7 @@ fn push_rows(text: &mut String, archs: &Archs, rows: &[LentRow]) -> Result<(), A
     Ok(())
 }
 
-/// Unstable as the facts give it, behind so many finished runs.
+/// Unstable as the facts give it, after that many finished runs.
 #[tactic(auto, unfolding(crate::specs::UnstableText::unstable_text))]
 pub(crate) fn unstable_over(
     alloc: Global,

@@ -1,4 +1,4 @@
-//! Why a source stands where the last finished run of an office left it.
+//! Why a source is where the last finished run of an office left it.
 #![tactic(auto, using(office_core_orders::proofs::LastFacts::lasting))]
 
 ghost use Rattle.std.specs.Prelude.{is_ok, ◌≡◌, Some, IfOk, IfErr, IfSome, length};
@@ -33,8 +33,8 @@ struct FinishedRuns<'a> {
     orders: &'a [RunOrder],
 }
 
-/// What is told of the source that is asked about, by the reports of the run and the testing that it left, over the
-/// messages that the facts stand for. It fails for want of memory alone.
+/// The text on the source asked about, from the run's reports and testing, over the messages that the facts represent.
+/// It fails only if memory runs out.
 fn lines_from_reports(
     alloc: Global,
     setup: &Setup,
@@ -51,8 +51,8 @@ fn lines_from_reports(
     Ok(Some(told))
 }
 
-/// What is told of the source that is asked about, by the reports of the run, over the testing that is kept, which is
-/// given back with what speeds the next run.
+/// The text on the source asked about, from the reports of the run, over the kept testing, which is returned with what
+/// speeds the next run.
 fn tell_by<K: Keeper>(
     alloc: Global,
     setup: &Setup,
@@ -71,8 +71,7 @@ fn tell_by<K: Keeper>(
     told
 }
 
-/// What is told of the source that is asked about, by the reports that the store keeps of the run. Nothing is told
-/// where it keeps none.
+/// The text on the source asked about, from the run's reports in the store. Without reports in the store there is none.
 fn tell<K: Keeper>(
     alloc: Global,
     setup: &Setup,
@@ -90,8 +89,8 @@ fn tell<K: Keeper>(
     }
 }
 
-/// What is told after the finished runs, of which these are the orders, of the source that is asked about, where
-/// nothing is known of their mail: it is taken from the store.
+/// The text on the source asked about after the finished runs, given their orders. Nothing is known of their mail: it
+/// is taken from the store.
 fn tell_unknown<K: Keeper>(
     alloc: Global,
     setup: &Setup,
@@ -110,8 +109,8 @@ fn tell_unknown<K: Keeper>(
     told
 }
 
-/// What is told after the finished runs, of which these are the orders, of the source that is asked about, by what is
-/// known of their mail, or else from the store.
+/// The text on the source asked about after the finished runs, given their orders: from what is known of their mail, or
+/// else from the store.
 fn tell_known<K: Keeper>(
     alloc: Global,
     setup: &Setup,
@@ -131,8 +130,8 @@ fn tell_known<K: Keeper>(
     }
 }
 
-/// Why the source that is asked about stands where the last finished run left it, which is the run that is asked for.
-/// These are the orders of the finished runs.
+/// Why the source asked about is where the last finished run, the one asked for, left it, given the orders of the
+/// finished runs.
 fn why_on<K: Keeper>(
     alloc: Global,
     setup: &Setup,
@@ -152,8 +151,7 @@ fn why_on<K: Keeper>(
     tell_known(alloc, setup, keeper, known, orders, asked)
 }
 
-/// Why a source stands where the last finished run left it, which was on the day of the latest order; none where there
-/// is no order.
+/// Why a source is where the last finished run left it, on the day of the latest order; none if there is no order.
 fn why_after<K: Keeper>(
     alloc: Global,
     setup: &Setup,
@@ -183,12 +181,12 @@ fn why_after<K: Keeper>(
     }
 }
 
-/// Why a source stands where the last finished run of an office with this store left it, none where no run is finished:
-/// the lines of the run's reports that are of the source; how it stands, if it has nothing to move; where the reasons
-/// come from that keep it out; and of a source that waits, what shows that it can't move alone. What is known of the
-/// mail is used, or else recalled from the store and known from then on.
+/// Why a source is where the last finished run of an office with this store left it, none if no run is finished. The
+/// text has the source's lines in the run's reports; its state, if it has nothing to move; the origin of the reasons
+/// that keep it out. For a source that waits, it also proves that it can't move alone. What is known of the mail is
+/// used, or else recalled from the store and known from then on.
 ///
-/// It fails for want of memory or of the store alone.
+/// It fails only if memory runs out or the store fails.
 pub fn why_text<K: Keeper>(
     alloc: Global,
     setup: &Setup,

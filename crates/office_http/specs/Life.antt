@@ -28,7 +28,7 @@ pub record IsReopened {K : Type 0} (keeper : Ghosts K) (old new : K) : Type 0 wh
   pub same : keeper.content new ≡ keeper.content old
   pub legible : keeper.is_legible old → keeper.is_legible new
 
--- what the calls ensure of such an event: `serve_one` and `replay` say it where the store is trusted behind them
+-- what the calls ensure of such an event: `serve_one` and `replay` say it if the store is trusted after them
 abbrev pub Happens : {K : Type 0} → Ghosts K → Event → K → K → Type 0
 Happens keeper (ByRequest post fault) old new = Preserves keeper old new × (Holds keeper old new → (ready : ℕ) × Does (state_of keeper old) (state_of keeper new) post fault ready (StoreRefused keeper old new))
 Happens keeper (ByReplay deliveries) old new = Preserves keeper old new × (Holds keeper old new → KeepsMail (state_of keeper old) (state_of keeper new) deliveries)
@@ -50,7 +50,7 @@ texts_of setup (ByRequest post fault) = delivered_by setup post fault
 texts_of setup (ByReplay deliveries) = not_lost deliveries
 texts_of setup Reopened = []
 
--- steps of the headline lead from one content to another, by which just these texts came
+-- steps of the headline lead from one content to another, and just these texts came by them
 pub record IsLedBy (setup : Lists) (texts : List (List ℕ)) (old new : Content) : Type 0 where
   pub steps : List Step
   pub came : texts_in steps ≡ texts

@@ -1,4 +1,4 @@
--- What one connection comes to: the reply as a function of the request, of the office's state and of the faults that were met.
+-- The outcome of one connection: the reply as a function of the request, the office's state and the faults met.
 use Rattle.std.specs.Prelude.{◌≡◌, ⊤, ◌⊎◌, ◌≤◌, ◌<◌, ◌+◌, ℕ, Bool, true, false, not, ◌&&◌, List, [], ◌∷◌, ◌++◌, ◌==◌, length, map, take, nat_le, if◌then◌else◌, Option, Some, None, Result, Ok, Err, is_ok}
 use Rattle.std.specs.Option.{option_map}
 use Rattle.std.specs.FinMap.{get}
@@ -61,7 +61,7 @@ use Rattle.office_core_why.specs.Why.{IsWhy}
 use Rattle.office_core_why.specs.declared.WhyText.{WhyText}
 use Rattle.testing_rules_model.specs.Covered.{Covered}
 
--- how a fault of memory or of the store is told
+-- the refusal for a fault of memory or of the store
 abbrev pub refusal_for : StoreFault → Refusal
 refusal_for fault.NoMemory = refusal.NoMemory
 refusal_for fault.Store = refusal.Store
@@ -71,7 +71,7 @@ report_answer (Ok (Some text)) = Told text
 report_answer (Ok None) = Refused refusal.NoRun
 report_answer (Err f) = Refused (refusal_for f)
 
--- what is told of a source, unless unstable hasn't it
+-- the text on a source, if unstable has it
 abbrev pub if_known : Bool → List ℕ → Answer
 if_known known text = if known then Told text else Refused refusal.NoSource
 
@@ -99,21 +99,21 @@ is_of_other sender (Err fault) = false
 abbrev pub unless_other : Bool → Answer → Answer
 unless_other other due = if other then Refused refusal.OtherSender else due
 
--- the answer where this fault was met, or none
+-- the answer given the fault that was met, or none
 abbrev pub by_fault : Option StoreFault → Answer → Answer
 by_fault None due = due
 by_fault (Some f) due = Refused (refusal_for f)
 
--- up to which number letters go on from one without a gap
+-- the number up to which letters continue from one without a gap
 abbrev pub unbroken_from : ℕ → List KeptLetter → ℕ
 unbroken_from last [] = last
 unbroken_from last (letter ∷ letters) = if letter.number == last + 1 then unbroken_from (last + 1) letters else last
 
--- up to which number a sender's mail is kept without a gap
+-- the number up to which a sender's mail is kept without a gap
 abbrev pub unbroken_of : Kept → ℕ → ℕ
 unbroken_of kept sender = unbroken_from 0 (letters_of kept sender)
 
--- what is counted of a sender's kept mail, and of that of each sender, in the setup's order
+-- the counts of a sender's kept mail, and of that of each sender, in the setup's order
 abbrev pub mail_count : Kept → ℕ → MailCount
 mail_count kept sender = record {
   sender = sender;
@@ -125,9 +125,9 @@ mail_count kept sender = record {
 abbrev pub mail_counts : Lists → Kept → List MailCount
 mail_counts setup kept = map (mail_count kept) (range_with_len 0 (length setup.senders))
 
--- What is found of an office beside its state, as far as a request asks for it: how many runs are ready, what the next
--- one waits for, what is told of a source, what a trial of hints is told, what all mail without a gap says, and which hints
--- are proposed.
+-- What is found of an office in addition to its state, as far as a request asks for it: how many runs are ready, and
+-- what the next one waits for. Also the texts on a source and on a trial of hints, what all mail without a gap says,
+-- and which hints are proposed.
 pub record Found : Type 0 where
   pub ready : ℕ
   pub awaited : Awaited
@@ -136,7 +136,7 @@ pub record Found : Type 0 where
   pub seen : Covered
   pub proposal : Option Proposal
 
--- what is proposed; there is no proposal where no run is finished
+-- what is proposed; there is no proposal if no run is finished
 abbrev pub proposal_answer : Option Proposal → Answer
 proposal_answer None = Refused refusal.NoRun
 proposal_answer (Some proposal) = Told (proposal_text proposal.hints.items proposal.stuck.items)
@@ -145,7 +145,7 @@ abbrev pub IsProposedFor : OfficeState → List (List ℕ) → Option Proposal �
 IsProposedFor s sources None = trial_date (latest_day (orders_to s.setup s.kept s.finished)) request_terms.day ≡ None
 IsProposedFor s sources (Some proposal) = IsProposed s.setup s.kept s.finished request_terms sources proposal
 
--- the text that a page tells which was added to the first four
+-- the text of a page that was added to the first four
 abbrev pub added_page : OfficeState → Found → Page → Answer
 added_page s found page.Waiting = Told (waiting_text s.setup (record { progress = record { ready = found.ready; finished = s.finished }; awaited = found.awaited }))
 added_page s found page.Runs = Told (runs_text s)
@@ -160,7 +160,7 @@ added_page s found page.Propose = proposal_answer found.proposal
 added_page s found (page.ProposeFor source) = proposal_answer found.proposal
 added_page s found _ = Refused refusal.NoRoute
 
--- the text that a page tells, where this is found: the first four, and those that were added
+-- the text of a page, given what is found: the first four, and those that were added
 abbrev pub page_answer : OfficeState → Found → Page → Answer
 page_answer s found page.Status = Status (record { ready = found.ready; finished = s.finished })
 page_answer s found page.Testing = Told (testing_text s.setup s.finished (testing_after s.setup s.kept s.finished))
@@ -168,8 +168,8 @@ page_answer s found (page.Excuses run) = report_answer (Ok (option_map (λ repor
 page_answer s found (page.Update run) = report_answer (Ok (option_map (λ reports. reports.updates) (reports_at s run)))
 page_answer s found added = short_page added (added_page s found added)
 
--- The answer to a POST that was added to the first two: what is due to a delivery, or what the hints would change. A text
--- that is only looked at is answered as if it were delivered.
+-- The answer to a POST that was added to the first two: the one due to a delivery, or what the hints would change. A
+-- text that is only looked at is answered as if it were delivered.
 abbrev pub added_action : OfficeState → Found → Action → List ℕ → Answer
 added_action s found (DeliverOf sender) body = unless_other (is_of_other sender (read s.setup body)) (delivery_answer (answer_to s.setup s.kept body))
 added_action s found Look body = delivery_answer (answer_to s.setup s.kept body)
@@ -177,13 +177,13 @@ added_action s found Try body = tried_answer s.setup body found.trial
 added_action s found (TryOn day) body = tried_answer s.setup body found.trial
 added_action s found _ body = Refused refusal.NoRoute
 
--- The answer to a POST with this body: what is due to the delivery, the status after the settle, or as was added.
+-- The answer to a POST with this body: the one due to the delivery, the status after the settle, or as added.
 abbrev pub action_answer : OfficeState → Found → Action → List ℕ → Answer
 action_answer s found Deliver body = delivery_answer (answer_to s.setup s.kept body)
 action_answer s found Settle body = Status (record { ready = found.ready; finished = found.ready })
 action_answer s found added body = added_action s found added body
 
--- the body that a request has, of the bytes after its head; none where they are too few
+-- the body of a request, taken from the bytes after its head; none if they are too few
 abbrev pub body_of : ℕ → List ℕ → Option (List ℕ)
 body_of size rest = if nat_le size (length rest) then Some (take size rest) else None
 
@@ -192,18 +192,18 @@ posted_body (asks.Post p) rest = option_map (λ (body : List ℕ). (p.action, bo
 posted_body (asks.Tell page) rest = None
 posted_body (asks.Refused r) rest = None
 
--- the answer to a POST, which is refused where the input ends within its body
+-- the answer to a POST, which is refused if the input ends within its body
 abbrev pub post_answer : OfficeState → Found → Option (Action × List ℕ) → Answer
 post_answer s found None = Refused refusal.BadRequest
 post_answer s found (Some post) = action_answer s found post.0 post.1
 
--- THE ANSWER TO A REQUEST, by what it asks, the bytes after its head, and what is found
+-- THE ANSWER TO A REQUEST, from what it asks, the bytes after its head, and what is found
 abbrev pub answer_of : OfficeState → Found → Asked → List ℕ → Answer
 answer_of s found (asks.Refused r) rest = Refused r
 answer_of s found (asks.Tell page) rest = page_answer s found page
 answer_of s found (asks.Post p) rest = post_answer s found (posted_body (asks.Post p) rest)
 
--- what is found is so, as far as a page tells it that was added to the first four
+-- what is found is right, as far as a page shows it that was added to the first four
 abbrev pub IsFoundForAdded : OfficeState → Found → Page → Type 0
 IsFoundForAdded s found page.Waiting = IsReadyCount s.setup s.kept found.ready × Awaits s.setup s.kept (found.ready + 1) found.awaited
 IsFoundForAdded s found (page.Why source) = IsWhy s.setup s.kept s.finished source found.why
@@ -213,7 +213,7 @@ IsFoundForAdded s found page.Propose = IsProposedFor s [] found.proposal
 IsFoundForAdded s found (page.ProposeFor source) = IsProposedFor s (source ∷ []) found.proposal
 IsFoundForAdded s found _ = ⊤
 
--- as far as any page tells it
+-- as far as any page shows it
 abbrev pub IsFoundFor : OfficeState → Found → Page → Type 0
 IsFoundFor s found page.Status = IsReadyCount s.setup s.kept found.ready
 IsFoundFor s found page.Testing = ⊤
@@ -275,7 +275,7 @@ delivered_by setup (Some (Deliver, body)) None = body ∷ []
 delivered_by setup (Some (DeliverOf sender, body)) None = if is_of_other sender (read setup body) then [] else body ∷ []
 delivered_by setup _ _ = []
 
--- whether a POST settles that was added to the first two
+-- whether a POST that was added to the first two settles
 abbrev pub settles_by_added : OfficeState → Action → List ℕ → Option StoreFault → Bool
 settles_by_added s (DeliverOf sender) body None = not (is_of_other sender (read s.setup body)) && is_ok (answer_to s.setup s.kept body)
 settles_by_added s _ body fault = false
@@ -294,14 +294,14 @@ pub record Moves (before after : OfficeState) (action : Action) (body : List ℕ
   pub grows : before.finished ≤ after.finished
   pub still : settles before action body fault ≡ false → after.finished ≡ before.finished
   pub settled : action ≡ Settle → fault ≡ None → after.finished ≡ ready
-  -- what the settle met; where it met nothing, all ready runs are finished
+  -- what the settle met; if it met nothing, all ready runs are finished
   pub met : Option StoreFault
   pub met_by_store : TextCounted rose met
   pub all_ready : settles before action body fault ≡ true → met ≡ None → IsReadyCount after.setup after.kept after.finished
   -- only ready runs finish
   pub only_ready : IsReady before.setup before.kept before.finished → IsReady after.setup after.kept after.finished
 
--- what a request does: no other than a POST with its whole body does anything
+-- what a request does: only a POST with its whole body does anything
 abbrev pub Does : OfficeState → OfficeState → Option (Action × List ℕ) → Option StoreFault → ℕ → Type 0 → Type 0
 Does before after None fault ready rose = after ≡ before
 Does before after (Some post) fault ready rose = Moves before after post.0 post.1 fault ready rose
@@ -312,15 +312,15 @@ IsWhole (asks.Refused r) rest left = ⊤
 IsWhole (asks.Tell page) rest left = ⊤
 IsWhole (asks.Post p) rest left = (p.length ≤ length rest) ⊎ IsAtEnd left
 
--- these bytes begin with a request whose client waits to be told to go on
+-- these bytes begin with a request whose client waits for permission to continue
 pub record IsAwaited (setup : Lists) (input : List ℕ) : Type 0 where
   pub head : RequestHead
   pub rest : List ℕ
   pub begins : BeginsWith input head rest
   pub waits : waits_of (asked_of setup head) ≡ true
 
--- The request couldn't be read, or the client that waits not be told to go on: nothing was delivered or settled. So many
--- bytes were read at most. Nothing was written but a front of 100 Continue, and that only where what was read says that the client waits.
+-- The request couldn't be read, or the waiting client not be answered: nothing was delivered or settled. At most `most`
+-- bytes were read. At most a prefix of 100 Continue was written, and that only if what was read shows a waiting client.
 pub record StopsBefore (before after : OfficeState) (left left' written written' : Option (List ℕ)) (most : ℕ) (waits : List ℕ → Type 0) : Type 0 where
   pub same : after ≡ before
   pub input : List ℕ
@@ -328,14 +328,14 @@ pub record StopsBefore (before after : OfficeState) (left left' written written'
   pub few : length input ≤ most
   pub wrote : Appends written written' [] ⊎ (waits input × AppendsFront written written' continue_bytes)
 
--- THE EXCHANGE: these bytes are a request, and those tell the client to go on and are its reply.
+-- THE EXCHANGE: these bytes are a request, and those are 100 Continue, if awaited, and its reply.
 pub record Exchange (before after : OfficeState) (left : Option (List ℕ)) (input told reply : List ℕ) (code : ℕ) (rose : Type 0) : Type 0 where
   pub head : RequestHead
   pub rest : List ℕ
   pub begins : BeginsWith input head rest
-  -- no more was read than a head may have, or no more behind the head than its body
+  -- no more was read than a head may have, or no more after the head than its body
   pub few : (length input ≤ head_room) ⊎ (length rest ≤ body_size (asked_of before.setup head))
-  -- what was met for want of memory or by the store
+  -- the failure of memory or of the store that was met
   pub fault : Option StoreFault
   pub by_store : TextCounted rose fault
   pub found : Found
@@ -349,7 +349,7 @@ pub record Exchange (before after : OfficeState) (left : Option (List ℕ)) (inp
   pub reply_is : reply ≡ reply_bytes (reply_in before.setup (by_fault fault (answer_of before found (asked_of before.setup head) rest))) (is_head_method head)
   pub code_is : code ≡ (reply_in before.setup (by_fault fault (answer_of before found (asked_of before.setup head) rest))).code
 
--- Bytes that are no request within the limits, by the cause that they are refused for, or too much for the memory.
+-- Bytes that are no request within the limits, with the cause of the refusal, or too many for the memory.
 abbrev pub IsUnread : Option (List ℕ) → List ℕ → Refusal → Type 0
 IsUnread left input refusal.HeadTooLarge = (RequestExceeds field_room input × RequestOverflows field_room input) ⊎ ((length input ≡ head_room) × HasNoRequest input)
 IsUnread left input refusal.BadRequest = NeverHasRequest input ⊎ ((0 < length input) × IsAtEnd left × HasNoRequest input)
@@ -365,7 +365,7 @@ pub record Unread (before after : OfficeState) (left : Option (List ℕ)) (input
   pub reply_is : reply ≡ reply_bytes (refused refusal) false
   pub code_is : code ≡ (refused refusal).code
 
--- a request that is answered, or what is none
+-- a request that is answered, or bytes that are none
 abbrev pub IsServed : OfficeState → OfficeState → Option (List ℕ) → List ℕ → List ℕ → List ℕ → ℕ → Type 0 → Type 0
 IsServed before after left input told reply code rose = Exchange before after left input told reply code rose ⊎ Unread before after left input told reply code
 
@@ -378,7 +378,7 @@ pub record Replied (before after : OfficeState) (left left' written written' : O
   pub served : IsServed before after left' input told reply code rose
   pub wrote : Appends written written' (told ++ reply)
 
--- what tells the client to go on was written whole, and a front of the reply behind it
+-- 100 Continue, if due, was written whole, and then a prefix of the reply
 pub record RepliedFront (before after : OfficeState) (left left' written written' : Option (List ℕ)) (rose : Type 0) : Type 0 where
   pub input : List ℕ
   pub took : Consumes left left' input
@@ -401,8 +401,8 @@ abbrev pub Serves : OfficeState → OfficeState → Option (List ℕ) → Option
 Serves before after left left' written written' None rose = Silent before after left left' written written'
 Serves before after left left' written written' (Some code) rose = Replied before after left left' written written' code rose
 
--- What a fault leaves. Where the reader failed nothing was delivered or settled. Where the writer failed, a front of the
--- due bytes was written; if that isn't all that tells the client to go on, nothing was delivered or settled.
+-- What a fault leaves. If the reader failed, nothing was delivered or settled. If the writer failed, a prefix of the
+-- due bytes was written; if 100 Continue was due and isn't whole, nothing was delivered or settled.
 abbrev pub StopsServe : OfficeState → OfficeState → Option (List ℕ) → Option (List ℕ) → Option (List ℕ) → Option (List ℕ) → ServeFault → Type 0 → Type 0
 StopsServe before after left left' written written' Read rose = StopsBefore before after left left' written written' (head_room + body_room) (IsAwaited before.setup)
 StopsServe before after left left' written written' Write rose = StopsBefore before after left left' written written' (head_room + body_room) (IsAwaited before.setup) ⊎ RepliedFront before after left left' written written' rose

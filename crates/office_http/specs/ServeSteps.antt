@@ -1,5 +1,5 @@
 -- Steps: no contract of a call that users make rests on this file.
--- The parts of what one connection comes to: how it is answered, and how it stops.
+-- The parts of the outcome of one connection: how it is answered, and how it stops.
 use Rattle.std.specs.Prelude.{◌≡◌, ◌⊎◌, ◌≤◌, ◌+◌, ℕ, Bool, true, List, ◌++◌, length, Option, None, Result, Ok, Err}
 use Rattle.std.specs.Io.KnownBytes.{Appends, Consumes}
 use Rattle.office_mail.specs.Runs.{IsReadyCount}
@@ -41,7 +41,7 @@ abbrev pub part_answer : Result (List ℕ) StoreFault → Answer
 part_answer (Ok bag) = Letter bag
 part_answer (Err f) = Refused (refusal_for f)
 
--- the text on what the run behind the ready ones waits for
+-- the text on what the run after the ready ones waits for
 pub record TellsAwaited (s : OfficeState) (text : List ℕ) : Type 0 where
   pub ready : ℕ
   pub counts : IsReadyCount s.setup s.kept ready
@@ -54,7 +54,7 @@ abbrev pub answer_or : Result Answer StoreFault → Answer
 answer_or (Ok answer) = answer
 answer_or (Err f) = Refused (refusal_for f)
 
--- the answer to hints by what their trial is told
+-- the answer to hints, given the report of their trial
 pub record TellsTrial (s : OfficeState) (terms : TrialOptions) (hints : List (List ℕ)) (answer : Answer) : Type 0 where
   pub trial : Trial
   pub tried : IsTrial s.setup s.kept s.finished terms hints trial
@@ -66,7 +66,7 @@ pub record TellsProposal (s : OfficeState) (sources : List (List ℕ)) (answer :
   pub proposed : IsProposedFor s sources proposal
   pub answer_is : answer ≡ proposal_answer proposal
 
--- what a page tells, however long it is
+-- the text of a page, however long it is
 abbrev pub whole_page : OfficeState → Found → Page → Answer
 whole_page s found page.Status = page_answer s found page.Status
 whole_page s found page.Testing = page_answer s found page.Testing
@@ -74,7 +74,7 @@ whole_page s found (page.Excuses run) = page_answer s found (page.Excuses run)
 whole_page s found (page.Update run) = page_answer s found (page.Update run)
 whole_page s found added = added_page s found added
 
--- it was told
+-- it was answered
 pub record Tells (s : OfficeState) (page : Page) (answer : Answer) (rose : Type 0) : Type 0 where
   -- what was met
   pub fault : Option StoreFault
@@ -83,7 +83,7 @@ pub record Tells (s : OfficeState) (page : Page) (answer : Answer) (rose : Type 
   pub is : fault ≡ None → IsFoundFor s found page
   pub answer_is : answer ≡ by_fault fault (whole_page s found page)
 
--- a page was told
+-- a page was answered
 pub record TellsShort (s : OfficeState) (page : Page) (answer : Answer) (rose : Type 0) : Type 0 where
   pub fault : Option StoreFault
   pub by_store : TextCounted rose fault
@@ -100,8 +100,8 @@ pub record Runs (before after : OfficeState) (action : Action) (body : List ℕ)
   pub answer_is : answer ≡ by_fault fault (action_answer before found action body)
   pub moves : Moves before after action body fault found.ready rose
 
--- A request was answered: the bytes after its head, of which the front had come before, the faults that were met, the
--- answer, and what was done. Where the client waited, 100 Continue was written first; nothing else yet.
+-- A request was answered: the bytes after its head, with those that came before, the faults that were met, the answer,
+-- and what was done. If the client waited, 100 Continue was written first; nothing else yet.
 pub record Answers (before after : OfficeState) (left left' written written' : Option (List ℕ)) (front : List ℕ) (asked : Asked) (answer : Answer) (rose : Type 0) : Type 0 where
   pub more : List ℕ
   pub took : Consumes left left' more
@@ -119,7 +119,7 @@ pub record Answers (before after : OfficeState) (left left' written written' : O
   pub went : fault ≡ None → goes_on ≡ waits_of asked
   pub waited : goes_on ≡ true → waits_of asked ≡ true
 
--- the same where these bytes have come, with a head in front: no public contract cites these two
+-- the same if these bytes have come, with a head first: no public contract cites these two
 pub record ServesHead (before after : OfficeState) (left left' written written' : Option (List ℕ)) (seen : List ℕ) (code : ℕ) (rose : Type 0) : Type 0 where
   pub more : List ℕ
   pub took : Consumes left left' more

@@ -1,4 +1,4 @@
--- How much of a text is told in an answer to a question. That it is short, and how it is cut, is decided by this office.
+-- How much of a text the answer to a question has. That it is short, and how it is cut, is decided by this office.
 use Rattle.std.specs.Prelude.{ℕ, ◌-◌, ◌==◌, Bool, true, false, List, [], ◌∷◌, ◌++◌, codes, decimal, take, drop, length, not, nat_le, if◌then◌else◌}
 use Rattle.std.specs.List.{count_by, suffix_len}
 use Rattle.office_http_requests.specs.declared.reply.Answer.{Answer}
@@ -14,15 +14,15 @@ ends_line b = b == 10
 abbrev pub is_within_line : ℕ → Bool
 is_within_line b = not (ends_line b)
 
--- a text without what stands behind its last line feed
+-- a text up to its last line feed
 unfoldable pub whole_lines : List ℕ → List ℕ
 whole_lines text = take (length text - suffix_len is_within_line text) text
 
--- the line that tells how many lines are left out
+-- the line on how many lines are left out
 abbrev pub left_out_line : ℕ → List ℕ
 left_out_line lines = codes "left out " ++ decimal lines ++ codes " lines" ++ 10 ∷ []
 
--- the whole lines within so many first bytes of a text, and how many lines are left out behind them
+-- the whole lines within that many first bytes of a text, and then how many lines are left out
 abbrev pub cut_text : ℕ → List ℕ → List ℕ
 cut_text room text =
     let front = whole_lines (take room text) in
@@ -37,7 +37,7 @@ abbrev pub short_answer : Answer → Answer
 short_answer (Told text) = Told (short_text text)
 short_answer other = other
 
--- the pages whose texts are told whole: testing, unstable and the reports of runs
+-- the pages with uncut texts: testing, unstable and the reports of runs
 abbrev pub is_told_whole : Page → Bool
 is_told_whole page.Testing = true
 is_told_whole page.Unstable = true
@@ -45,6 +45,6 @@ is_told_whole (page.Excuses run) = true
 is_told_whole (page.Update run) = true
 is_told_whole _ = false
 
--- the answer for a page, by what the page tells
+-- the answer for a page, given the page's text
 abbrev pub short_page : Page → Answer → Answer
 short_page page answer = if is_told_whole page then answer else short_answer answer

@@ -17,7 +17,7 @@ use office_mail::Setup;
 use office_store_keeper::Keeper;
 use std::alloc::Global;
 
-/// The answer to a request for hints, by what is proposed.
+/// The answer to a request for hints, given what is proposed.
 fn proposal_answer(
     alloc: Global,
     setup: &Setup,
@@ -32,7 +32,7 @@ fn proposal_answer(
     }
 }
 
-/// The answer to a request for hints, by what is proposed, which is let go. It fails for want of memory alone.
+/// The answer to a request for hints, given what is proposed, which is dropped. It fails only if memory runs out.
 fn answer_proposed(
     alloc: Global,
     setup: &Setup,
@@ -47,7 +47,7 @@ fn answer_proposed(
     Ok(answer?)
 }
 
-/// The answer to a request for hints that free sources, or that move groups where none is named.
+/// The answer to a request for hints that free sources, or that move groups if no source is named.
 fn propose<K: Keeper>(office: &mut Office<K>, sources: &[Text]) -> Result<Answer, StoreFault>
     ensures asks { Asks K.Keeper office.old office.new }
     ensures place { IfOk result (λ answer. HasPlace (K.setup office.old) answer) }

@@ -45,7 +45,7 @@ use office_store_keeper::{Keeper, MailText};
 use std::alloc::Global;
 use thiserror::Error;
 
-/// What came of a connection: the status code of the reply, none where no byte came.
+/// The result of a connection: the status code of the reply, none if no byte came.
 #[derive(Clone, Copy, Debug, PartialEq, Eq)]
 pub struct Served {
     pub code: Option<u16>,
@@ -82,7 +82,7 @@ impl From<WriteFault> for ServeFault {
     }
 }
 
-/// How a fault of memory or of the store is told.
+/// The refusal for a fault of memory or of the store.
 fn refusal_for(fault: StoreFault) -> Refusal
     ensures { result ≡ refusal_for fault }
 {
@@ -120,7 +120,7 @@ fn report_answer(report: Result<Option<Text>, StoreFault>) -> Answer
     }
 }
 
-/// The answer on a source, by what is told of it.
+/// The answer on a source, given the text on it.
 fn why_answer(told: Result<Option<WhyText>, StoreFault>) -> Answer
     ensures { result ≡ why_answer told }
 {
@@ -131,7 +131,7 @@ fn why_answer(told: Result<Option<WhyText>, StoreFault>) -> Answer
     }
 }
 
-/// A text on a source, unless unstable hasn't the source.
+/// A text on a source, if unstable has the source.
 fn known_answer(is_known: bool, text: Text) -> Answer
     ensures { result ≡ if_known is_known text }
 {
@@ -181,7 +181,7 @@ fn answer_or(answer: Result<Answer, StoreFault>) -> Answer
     }
 }
 
-/// The text that tells what the first run that isn't ready waits for.
+/// The text on what the first run that isn't ready waits for.
 fn awaited_text<K: Keeper>(office: &mut Office<K>) -> Result<Text, StoreFault>
     ensures asks { Asks K.Keeper office.old office.new }
     ensures tells { Holds K.Keeper office.old office.new → IfOk result (λ text. TellsAwaited (state_of K.Keeper office.old) text) }
@@ -200,7 +200,7 @@ fn counted_mail<K: Keeper>(office: &mut Office<K>) -> Result<Vec<MailCount>, Sto
     mail_counts(office)
 }
 
-/// The text that tells how much mail is kept of each sender.
+/// The text on how much mail is kept of each sender.
 fn counted_text<K: Keeper>(office: &mut Office<K>) -> Result<Text, StoreFault>
     ensures asks { Asks K.Keeper office.old office.new }
     ensures text { Holds K.Keeper office.old office.new → IfOk result (λ text. text ≡ mail_text (K.setup office.old) (mail_counts (K.setup office.old) (K.content office.old).kept)) }
@@ -210,7 +210,7 @@ fn counted_text<K: Keeper>(office: &mut Office<K>) -> Result<Text, StoreFault>
     Ok(mail_text(office.alloc(), office.setup(), &counts)?)
 }
 
-/// Up to which number each sender's mail is kept without a gap.
+/// The number up to which each sender's mail is kept without a gap.
 fn unbroken_mail<K: Keeper>(office: &mut Office<K>) -> Result<Vec<u32>, StoreFault>
     ensures asks { Asks K.Keeper office.old office.new }
     ensures unbroken { Holds K.Keeper office.old office.new → IfOk result (λ unbroken. slice_index unbroken.items ≡ unbroken_of (K.content office.old).kept) }
@@ -229,7 +229,7 @@ fn order_on<K: Keeper>(office: &mut Office<K>, day: Date) -> Result<Text, StoreF
     Ok(order_text(office.alloc(), office.setup(), &unbroken, day)?)
 }
 
-/// What is told of a source by the last finished run, none where no run is finished.
+/// The text on a source by the last finished run, none if no run is finished.
 fn source_text<K: Keeper>(
     office: &mut Office<K>,
     source: Text,
@@ -243,7 +243,7 @@ fn source_text<K: Keeper>(
     text
 }
 
-/// Tells a text of the office, however long it is.
+/// Returns a text of the office, however long it is.
 fn tell_whole<K: Keeper>(office: &mut Office<K>, page: Page) -> Answer
     ensures asks { Asks K.Keeper office.old office.new }
     ensures place { HasPlace (K.setup office.old) result }
@@ -268,7 +268,7 @@ fn tell_whole<K: Keeper>(office: &mut Office<K>, page: Page) -> Answer
     }
 }
 
-/// Tells a text of the office, which is cut where it is too long, but for testing, unstable and the reports of runs.
+/// Returns a text of the office. It is cut if it is too long, except testing, unstable and the reports of runs.
 fn tell<K: Keeper>(office: &mut Office<K>, page: Page) -> Answer
     ensures asks { Asks K.Keeper office.old office.new }
     ensures place { HasPlace (K.setup office.old) result }
@@ -282,7 +282,7 @@ fn tell<K: Keeper>(office: &mut Office<K>, page: Page) -> Answer
     answer_or(short_answer(office.alloc(), answer))
 }
 
-/// Delivers a text, and settles where it is held. A fault of that settle doesn't change the reply.
+/// Delivers a text, and settles if it is held. A fault of that settle doesn't change the reply.
 fn deliver_and_settle<K: Keeper>(office: &mut Office<K>, text: &[u8]) -> Result<Held, DeliverFault>
     ensures carries { Preserves K.Keeper office.old office.new }
     ensures place { HasPlace (K.setup office.old) (delivery_answer result) }
@@ -293,7 +293,7 @@ fn deliver_and_settle<K: Keeper>(office: &mut Office<K>, text: &[u8]) -> Result<
     reply
 }
 
-/// Delivers a text, settles where it is held, and answers.
+/// Delivers a text, settles if it is held, and answers.
 fn deliver<K: Keeper>(office: &mut Office<K>, text: &[u8]) -> Answer
     ensures carries { Preserves K.Keeper office.old office.new }
     ensures place { HasPlace (K.setup office.old) result }
@@ -302,7 +302,7 @@ fn deliver<K: Keeper>(office: &mut Office<K>, text: &[u8]) -> Answer
     delivery_answer(deliver_and_settle(office, text))
 }
 
-/// Whether a text is a message of another sender. It fails for want of memory alone.
+/// Whether a text is a message of another sender. It fails only if memory runs out.
 fn is_of_other(alloc: Global, setup: &Setup, sender: u32, text: &[u8]) -> Result<bool, NoMemory>
     ensures { IfOk result (λ other. other ≡ is_of_other sender (read setup.now text.now)) }
 {
@@ -313,7 +313,7 @@ fn is_of_other(alloc: Global, setup: &Setup, sender: u32, text: &[u8]) -> Result
     }
 }
 
-/// Delivers a text that is no message of another sender, settles where it is held, and answers.
+/// Delivers a text that is no message of another sender, settles if it is held, and answers.
 fn deliver_of<K: Keeper>(office: &mut Office<K>, sender: u32, text: &[u8]) -> Answer
     ensures carries { Preserves K.Keeper office.old office.new }
     ensures place { HasPlace (K.setup office.old) result }
@@ -343,7 +343,7 @@ fn settle<K: Keeper>(office: &mut Office<K>, text: &[u8]) -> Answer
     status_answer(office.settle())
 }
 
-/// Tries the hints of a body on these terms. A body that isn't UTF-8 is answered as mail that isn't.
+/// Tries the hints of a body on these terms. A body that isn't UTF-8 is answered like such mail.
 fn try_bytes<K: Keeper>(office: &mut Office<K>, terms: TrialOptions, body: &[u8]) -> Answer
     ensures carries { Preserves K.Keeper office.old office.new }
     ensures place { HasPlace (K.setup office.old) result }
@@ -400,7 +400,7 @@ fn answer_post<K: Keeper, R: Feed, W: Sink>(
     }
 }
 
-/// What a request asks for, none for want of memory.
+/// What a request asks for, none if memory ran out.
 fn asked_in(
     alloc: Global,
     table: &Routes,
@@ -420,7 +420,7 @@ fn asked_in(
     }
 }
 
-/// Answers a request whose head is the front of the bytes seen.
+/// Answers a request whose head is at the beginning of the bytes seen.
 fn answer_request<K: Keeper, R: Feed, W: Sink>(
     office: &mut Office<K>,
     asked: Option<Asked>,
@@ -449,7 +449,7 @@ fn answer_request<K: Keeper, R: Feed, W: Sink>(
     }
 }
 
-/// Where the parts of a head stand in the bytes that came.
+/// The places of the parts of a head in the bytes that came.
 #[derive(Clone, Copy)]
 struct HeadParts<'a> {
     spans: RequestSpans,
@@ -490,7 +490,7 @@ fn serve_request<K: Keeper, R: Feed, W: Sink>(
     Ok(write_answer(office.setup(), &answer, is_head, writer)?)
 }
 
-/// Refuses what is no request.
+/// Refuses bytes that are no request.
 fn refuse<W: Sink>(setup: &Setup, refusal: Refusal, writer: &mut W) -> Result<Served, ServeFault>
     ensures code { IfOk result (λ served. served.code ≡ Some (refused refusal).code) }
     ensures ok { OnOk result (Appends (W.written writer.old) (W.written writer.new) (reply_bytes (refused refusal) false)) }
@@ -539,12 +539,11 @@ fn serve_connection<K: Keeper, R: Feed, W: Sink>(
 
 /// Reads one request, does what it asks for, and writes its reply.
 ///
-/// At most 8,192 bytes of a head and 65,536 of a body are read; what follows is ignored. The reply
-/// takes no memory, so that a 503 to a delivery says that nothing was added. `Write` comes only where the
-/// writer failed or took no byte, and `Read` only where the reader failed; then nothing was delivered
-/// or settled.
+/// At most 8,192 bytes of a head and 65,536 of a body are read; what follows is ignored. The reply allocates nothing,
+/// so that a 503 to a delivery says that nothing was added. `Write` comes only if the writer failed or took no byte,
+/// and `Read` only if the reader failed; then nothing was delivered or settled.
 ///
-/// The table of routes is the caller's, who makes it once for many connections.
+/// The caller owns the table of routes, and makes it once for many connections.
 pub fn serve_with_routes<K: Keeper, R: Feed, W: Sink>(
     office: &mut Office<K>,
     table: &Routes,
@@ -552,13 +551,13 @@ pub fn serve_with_routes<K: Keeper, R: Feed, W: Sink>(
     writer: &mut W,
 ) -> Result<Served, ServeFault>
     requires { table.now ≡ office_routes }
-    // A store that is trusted was so before, and holds an office's state as before.
+    // A store trusted after it was trusted before, and holds an office's state if it did.
     ensures carries { Preserves K.Keeper office.old office.new }
-    // The reply is a function of the request, of the office's state and of the faults that were met; a fault of the store
-    // is told only where that counted a refusal.
+    // The reply is a function of the request, of the office's state and of the faults that were met. A fault of the
+    // store is reported only if the store counted a refusal.
     ensures ok { Holds K.Keeper office.old office.new → IfOk result (λ served. Serves (state_of K.Keeper office.old) (state_of K.Keeper office.new) (R.left reader.old) (R.left reader.new) (W.written writer.old) (W.written writer.new) served.code (StoreRefused K.Keeper office.old office.new)) }
     ensures err { Holds K.Keeper office.old office.new → IfErr result (λ fault. StopsServe (state_of K.Keeper office.old) (state_of K.Keeper office.new) (R.left reader.old) (R.left reader.new) (W.written writer.old) (W.written writer.new) fault (StoreRefused K.Keeper office.old office.new)) }
-    // The runs that were finished stand: their reports, and testing unless one more was finished.
+    // Finished runs stay: their reports, and testing unless another run finished.
     ensures runs { Holds K.Keeper office.old office.new → RunsStand (K.content office.old) (K.content office.new) }
     // The reader is asked at most once for each byte that a head and a body may have.
     ensures calls { R.calls reader.new ≤ R.calls reader.old + (head_room + body_room) }

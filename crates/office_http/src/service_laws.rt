@@ -26,9 +26,9 @@ ghost use Rattle.office_http.specs.Trials.{terms_of};
 
 use office_store_keeper::Keeper;
 
-/// The answer to a request is a function of the request and of the office's state: what `serve_one` says of what is found
-/// leaves no other. What is told of a source, of a trial and of a proposal is what was found of it; hints and unstable are
-/// told of an office, whose mail is of senders of its setup.
+/// The answer to a request is a function of the request and of the office's state: what `serve_one` says of what is
+/// found leaves no other. The texts on a source, a trial and a proposal are what was found of them. The hints and
+/// unstable need an office with mail only of senders of its setup.
 pub fn requests_have_one_answer()
     ensures { (s : OfficeState) (asked : Asked) (rest : List ℕ) (x y : Found) → IsFound s x asked rest → IsFound s y asked rest
         → ((source : List ℕ) → asked ≡ Asked.Tell (Page.Why source) → x.why ≡ y.why) → ((p : Posted) → asked ≡ Asked.Post p → terms_of p.action ≢ None → x.trial ≡ y.trial)
@@ -41,14 +41,14 @@ pub fn bound_mail()
     ensures { (s : OfficeState) (sender : ℕ) (body : List ℕ) (fault : Option StoreFault) (p : Place) → get (kept_by s (Action.DeliverOf sender) body fault) p ≢ get s.kept p → p.0 ≡ sender }
 {}
 
-/// A text that is only looked at is answered as a delivery of it. It leaves what is kept, and nothing is settled.
+/// A text that is only looked at is answered like a delivery of it. What is kept stays, and nothing is settled.
 pub fn lint_is_mail()
     ensures same { (s : OfficeState) (body : List ℕ) (x y : Found) → action_answer s x Action.Look body ≡ action_answer s y Action.Deliver body }
     ensures keeps { (s : OfficeState) (body : List ℕ) (fault : Option StoreFault) → kept_by s Action.Look body fault ≡ s.kept }
     ensures still { (s : OfficeState) (body : List ℕ) (fault : Option StoreFault) → settles s Action.Look body fault ≡ false }
 {}
 
-/// A text that is told to a question has at most 4,000,000 bytes, since one that is longer is cut.
+/// A text that answers a question has at most 4,000,000 bytes, since a longer one is cut.
 pub fn texts_are_short()
     ensures { (text : List ℕ) → length text < 2 ^ 64 → length (short_text text) ≤ 4_000_000 }
 {}
@@ -57,19 +57,19 @@ pub fn texts_are_short()
 pub fn requests_are_steps<K: Keeper>()
     ensures came { (old new : K) (post : Option (Action × List ℕ)) (fault : Option StoreFault) (ready : ℕ) → Does (state_of K.Keeper old) (state_of K.Keeper new) post fault ready (StoreRefused K.Keeper old new) → IsSound K.Keeper old → IsSound K.Keeper new
         → Leads (K.setup old) (K.content old) (coming (delivered_by (K.setup old) post fault) (length (K.content new).reports - length (K.content old).reports) Looked) (K.content new) }
-    // Where it settles, as a held delivery does, and the settle met nothing, they end in a settle that answered Ok.
+    // If it settles, like a held delivery, and the settle met nothing, they end in a settle that answered Ok.
     ensures settled { (old new : K) (action : Action) (body : List ℕ) (fault : Option StoreFault) (ready : ℕ) → (does : Moves (state_of K.Keeper old) (state_of K.Keeper new) action body fault ready (StoreRefused K.Keeper old new)) → IsSound K.Keeper old → IsSound K.Keeper new
         → settles (state_of K.Keeper old) action body fault ≡ true → does.met ≡ None
         → Leads (K.setup old) (K.content old) (coming (delivered_by (K.setup old) (Some (action, body)) fault) (length (K.content new).reports - length (K.content old).reports) Settled) (K.content new) }
-    // So they do where the request was to settle and was answered by 200, as the client knows.
+    // Likewise if the request was to settle and was answered by 200, as the client knows.
     ensures told { (old new : K) (left : Option (List ℕ)) (input told reply : List ℕ) (code : ℕ) (p : Posted) → (x : Exchange (state_of K.Keeper old) (state_of K.Keeper new) left input told reply code (StoreRefused K.Keeper old new)) → IsSound K.Keeper old → IsSound K.Keeper new
         → asked_of (K.setup old) x.head ≡ Asked.Post p → p.action ≡ Action.Settle → code ≡ 200
         → Leads (K.setup old) (K.content old) (coming [] (length (K.content new).reports - length (K.content old).reports) Settled) (K.content new) }
 {}
 
-/// Told once, told for good. A life is any list of requests, whole replays and openings of the store again. It is steps of the
-/// headline, whose texts are those that the requests and the replays delivered; what comes of it from an empty store on is what
-/// the headline says of these texts; and what was told of a finished run is told of it ever after.
+/// Answered once, answered for good. A life is any list of requests, whole replays and openings of the store again. It
+/// is steps of the headline, with the texts that the requests and the replays delivered. Its result from an empty store
+/// on is what the headline says of these texts. What was answered on a finished run is answered ever after.
 pub fn life<K: Keeper>()
     ensures steps { (old new : K) (events : List Event) → Lives K.Keeper old events new → IsSound K.Keeper old → K.is_trusted new → IsLedBy (K.setup old) (flat_map (texts_of (K.setup old)) events) (K.content old) (K.content new) }
     ensures rules { (old new : K) (events : List Event) → Lives K.Keeper old events new → K.is_legible old → K.content old ≡ no_content → K.is_trusted new → IsByRules (K.setup old) (flat_map (texts_of (K.setup old)) events) (K.content new) }
@@ -79,8 +79,8 @@ pub fn life<K: Keeper>()
     ensures updates { (old new : K) (events : List Event) (k : ℕ) (x y : Found) (rest more : List ℕ) → Lives K.Keeper old events new → IsSound K.Keeper old → K.is_trusted new → k ≤ length (K.content old).reports → answer_of (state_of K.Keeper new) y (Asked.Tell (Page.Update k)) more ≡ answer_of (state_of K.Keeper old) x (Asked.Tell (Page.Update k)) rest }
 {}
 
-/// What `serve_one` and `replay` ensure is an event of a life, whatever they answer: what they say holds while the store is
-/// trusted, which a life asks for at its end alone.
+/// What `serve_one` and `replay` ensure is an event of a life, whatever they answer. It holds while the store is
+/// trusted, which a life requires only at its end.
 pub fn calls_are_events<K: Keeper>()
     ensures served { (old new : K) (left unread written wrote : Option (List ℕ)) (code : Option ℕ) → Preserves K.Keeper old new → Serves (state_of K.Keeper old) (state_of K.Keeper new) left unread written wrote code (StoreRefused K.Keeper old new) → IsEvent K.Keeper old new }
     ensures cut_off { (old new : K) (left unread written wrote : Option (List ℕ)) (fault : ServeFault) → Preserves K.Keeper old new → StopsServe (state_of K.Keeper old) (state_of K.Keeper new) left unread written wrote fault (StoreRefused K.Keeper old new) → IsEvent K.Keeper old new }
@@ -88,8 +88,8 @@ pub fn calls_are_events<K: Keeper>()
     ensures replay_cut_off { (old new : K) (start now : Reading) (written wrote : Option (List ℕ)) → Preserves K.Keeper old new → StopsReplay (state_of K.Keeper old) (state_of K.Keeper new) start now written wrote (StoreRefused K.Keeper old new) → IsEvent K.Keeper old new }
 {}
 
-/// Delivered is finished, as a client knows it: from an empty store on, after any list of requests, replays and openings, a
-/// request to settle that is answered by 200 leaves exactly those runs finished of which all came that they need.
+/// Delivered is finished, as a client knows it. Start with an empty store, and make any requests, replays and openings.
+/// If a request to settle is then answered by 200, exactly those runs are finished whose needs have all come.
 pub fn life_finishes<K: Keeper>()
     ensures { (old between new : K) (events : List Event) (k : ℕ) (left : Option (List ℕ)) (input told reply : List ℕ) (code : ℕ) (p : Posted) → Lives K.Keeper old events between → K.is_legible old → K.content old ≡ no_content → Preserves K.Keeper between new → K.is_trusted new
         → (x : Exchange (state_of K.Keeper between) (state_of K.Keeper new) left input told reply code (StoreRefused K.Keeper between new)) → asked_of (K.setup between) x.head ≡ Asked.Post p → p.action ≡ Action.Settle → code ≡ 200

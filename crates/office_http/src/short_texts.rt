@@ -1,4 +1,4 @@
-//! How much of a text is told in an answer to a question.
+//! How much of a text the answer to a question has.
 
 ghost use Rattle.std.specs.Prelude.{◌≡◌, ◌≤◌, ◌<◌, ◌+◌, ◌-◌, ◌++◌, IfErr, IfOk, OnOk, drop, length, slice_index, string_bytes, take};
 ghost use Rattle.std.specs.List.{count_by, suffix_len};
@@ -9,7 +9,7 @@ use office_core_orders::StoreFault;
 use office_http_requests::{Answer, Page};
 use std::alloc::{AllocError, Global};
 
-/// How many bytes of a text stand in whole lines.
+/// How many bytes of a text are in whole lines.
 fn whole_len(bytes: &[u8]) -> usize
     ensures len { result + suffix_len is_within_line bytes.now ≡ length bytes.now }
     ensures ends { 0 < result → slice_index bytes.now (result - 1) ≡ 10 }
@@ -34,7 +34,7 @@ fn line_count(bytes: &[u8]) -> usize
     count
 }
 
-/// The whole lines within so many first bytes of a text, and what stands behind them.
+/// The whole lines within that many first bytes of a text, and what follows them.
 #[tactic(auto, unfolding(crate::specs::ShortTexts::whole_lines))]
 fn split_lines(text: &str, room: usize) -> (&str, &str)
     requires { room ≤ length text.now }
@@ -45,14 +45,14 @@ fn split_lines(text: &str, room: usize) -> (&str, &str)
     text.split_at(len)
 }
 
-/// The line that tells how many lines are left out.
+/// The line on how many lines are left out.
 fn push_left_out(text: &mut String, lines: usize) -> Result<(), AllocError>
     ensures { OnOk result (string_bytes text.new ≡ string_bytes text.old ++ left_out_line lines) }
 {
     writeln!(text, "left out {lines} lines")
 }
 
-/// The whole lines within so many first bytes of a text, and how many lines are left out behind them.
+/// The whole lines within that many first bytes of a text, and then how many lines are left out.
 #[tactic(auto, using(crate::proofs::CutFacts::cut_is))]
 fn cut_text(alloc: Global, text: &str, room: usize) -> Result<String, AllocError>
     requires { room ≤ length text.now }
@@ -78,7 +78,7 @@ pub(crate) fn short_text(alloc: Global, text: Text) -> Result<Text, NoMemory>
     Ok(Text::from_string(cut?))
 }
 
-/// An answer, with a short text. It fails for want of memory alone.
+/// An answer, with a short text. It fails only if memory runs out.
 pub(crate) fn short_answer(alloc: Global, answer: Answer) -> Result<Answer, StoreFault>
     ensures answer { IfOk result (λ within. within ≡ short_answer answer) }
     ensures no_store { IfErr result (λ fault. fault ≡ StoreFault.NoMemory) }
@@ -89,7 +89,7 @@ pub(crate) fn short_answer(alloc: Global, answer: Answer) -> Result<Answer, Stor
     }
 }
 
-/// Whether the text of a page is told whole.
+/// Whether the text of a page stays uncut.
 pub(crate) fn is_told_whole(page: &Page) -> bool
     ensures { result ≡ is_told_whole page.now }
 {

@@ -25,7 +25,7 @@ use office_store_keeper::Keeper;
 use std::alloc::{AllocError, Global};
 use testing_rules_reports::lines_of;
 
-/// What a trial takes that covers the mail of the release team alone, and has no day of its own.
+/// The terms of a trial that covers only the mail of the release team, and has no day of its own.
 pub(crate) fn request_terms() -> TrialOptions
     ensures { result ≡ request_terms }
 {
@@ -35,7 +35,7 @@ pub(crate) fn request_terms() -> TrialOptions
     }
 }
 
-/// What a trial takes that covers all mail without a gap, on this day or later.
+/// The terms of a trial that covers all mail without a gap, on this day or later.
 pub(crate) fn terms_on(day: Date) -> TrialOptions
     ensures { result ≡ terms_on day }
 {
@@ -83,7 +83,7 @@ fn hints_in(alloc: Global, body: &str) -> Result<Vec<Text>, AllocError>
     copies(alloc, &found)
 }
 
-/// The hint at a place, empty where there is none.
+/// The hint at a place, empty if there is none.
 fn hint_at(hints: &[Text], place: usize) -> &str
     ensures { result.now ≡ slice_index_or hints.now place [] }
 {
@@ -93,7 +93,7 @@ fn hint_at(hints: &[Text], place: usize) -> &str
     }
 }
 
-/// The line on a hint that is refused.
+/// The line on a refused hint.
 fn refused_line(alloc: Global, hints: &[Text], refused: RefusedHint) -> Result<Text, NoMemory>
     ensures { IfOk result (λ line. line ≡ refused_line hints.now refused) }
 {
@@ -117,7 +117,7 @@ fn release_text(
     trial_text(alloc, sender, hints, report, reasons)
 }
 
-/// The answer to hints by what their trial is told.
+/// The answer to hints, given the report of their trial.
 fn trial_answer(
     alloc: Global,
     setup: &Setup,
@@ -137,7 +137,7 @@ fn trial_answer(
     }
 }
 
-/// The answer to hints by what their trial is told, which is let go. It fails for want of memory alone.
+/// The answer to hints, given the report of their trial, which is dropped. It fails only if memory runs out.
 fn answer_told(
     alloc: Global,
     setup: &Setup,

@@ -1,4 +1,4 @@
--- What a request asks for, by its head.
+-- What a request asks for, given its head.
 use Rattle.std.specs.Prelude.{ℕ, ◌^◌, Bool, true, false, not, ◌&&◌, ◌||◌, ◌==◌, nat_le, nat_lt, if◌then◌else◌, List, [], ◌∷◌, drop, take, length, ◌+◌, map, codes, Option, Some, None, Result, Ok, Err, unwrap_or}
 use Rattle.std.specs.List.{list_all, list_any, before_first, position}
 use Rattle.std.specs.Option.{option_map, option_map_or}
@@ -34,7 +34,7 @@ use Rattle.office_http_requests.specs.declared.request.Asked.TheVariants.{Refuse
 abbrev pub Line : Type 0
 Line = List ℕ × List ℕ
 
--- the values of the fields of a name, which is compared without regard to case (RFC 9110, section 5.1)
+-- the values of the fields of a name, compared without regard to case (RFC 9110, section 5.1)
 abbrev pub values_named : List ℕ → List Line → List (List ℕ)
 values_named name [] = []
 values_named name (line ∷ lines) = if str_eq_ignore_ascii_case line.0 name then line.1 ∷ values_named name lines else values_named name lines
@@ -44,7 +44,7 @@ unfoldable pub are_digits : List ℕ → Bool
 are_digits [] = false
 are_digits (c ∷ cs) = list_all is_ascii_digit (c ∷ cs)
 
--- the number that digits spell, where it has at most 32 bits
+-- the number that digits spell, if it has at most 32 bits
 unfoldable pub number_under : List ℕ → Option ℕ
 number_under text = if nat_lt (digits_value 10 text) (2 ^ 32) then Some (digits_value 10 text) else None
 
@@ -67,13 +67,13 @@ is_there (value ∷ values) = true
 abbrev pub is_continue : List ℕ → Bool
 is_continue value = str_eq_ignore_ascii_case value (codes "100-continue")
 
--- A page of another site sends this in Sec-Fetch-Site; the other two values are what a user asks for by hand, and what a
--- page of the office's own asks for (Fetch Metadata Request Headers, section 2.3).
+-- A page of another site sends this in Sec-Fetch-Site. Of the other two values one means that a user asks by hand, and
+-- one that a page of the office's own asks (Fetch Metadata Request Headers, section 2.3).
 abbrev pub is_foreign_site : List ℕ → Bool
 is_foreign_site value = not (bytes_eq value (codes "none")) && not (bytes_eq value (codes "same-origin"))
 
--- A page in a browser sends the request: so a field Origin says, whatever its value (Fetch, section 3.2), or
--- Sec-Fetch-Site. No sender of mail writes either; that it is refused is this office's to decide.
+-- A page in a browser sends the request, as a field Origin shows, whatever its value (Fetch, section 3.2), or
+-- Sec-Fetch-Site. No sender of mail writes either; this office decides that it is refused.
 abbrev pub is_foreign : List Line → Bool
 is_foreign lines = is_there (values_named (codes "origin") lines) || list_any is_foreign_site (values_named (codes "sec-fetch-site") lines)
 
@@ -125,11 +125,11 @@ has_leading_zero (c ∷ cs) = c == 48
 abbrev pub number_or_zero : List ℕ → ℕ
 number_or_zero text = if are_digits text then unwrap_or (number_under text) 0 else 0
 
--- the number that digits without a leading zero spell; 0, which is no run's and no message's, for any other text
+-- the number that digits without a leading zero spell; 0 for any other text, which no run and no message has
 unfoldable pub plain_number : List ℕ → ℕ
 plain_number text = if has_leading_zero text then 0 else number_or_zero text
 
--- The length of the body: one that is stated as a number, and not beside a transfer coding. A settle may leave it out.
+-- The length of the body: one stated as a number, without a transfer coding. A settle may leave it out.
 abbrev pub absent_length : Action → Bool → Result ℕ Refusal
 absent_length Settle coded = if coded then Err LengthRequired else Ok 0
 absent_length _ coded = Err LengthRequired
@@ -145,11 +145,11 @@ abbrev pub posted_by : Action → Bool → Result ℕ Refusal → Asked
 posted_by action waits (Ok n) = Post (record { action = action; length = n; waits = waits })
 posted_by action waits (Err refusal) = Refused refusal
 
--- a POST, by what the fields say of the body
+-- a POST, given what the fields say of the body
 abbrev pub post_framed : Action → ℕ → Framing → Asked
 post_framed action minor framing = posted_by action (minor == 1 && framing.waits) (posted_length action framing.length framing.coded)
 
--- on a route that takes POST, and on one that takes GET
+-- on a route that accepts POST, and on one that accepts GET
 abbrev pub post_asked : Action → List ℕ → ℕ → Framing → Asked
 post_asked action method minor framing =
     if bytes_eq method (codes "POST") then (if framing.foreign then Refused OtherOrigin else post_framed action minor framing) else Refused OnlyPost
@@ -157,7 +157,7 @@ post_asked action method minor framing =
 abbrev pub tell_asked : Page → List ℕ → Asked
 tell_asked page method = if bytes_eq method (codes "GET") then Tell page else Refused OnlyGet
 
--- a text in two parts: up to its first slash, and behind it
+-- a text in two parts: up to its first slash, and after it
 abbrev pub is_slash : ℕ → Bool
 is_slash c = c == 47
 
@@ -168,37 +168,37 @@ slash_at text = unwrap_or (position is_slash text) (length text)
 abbrev pub sender_place : Lists → List ℕ → Option ℕ
 sender_place setup name = option_map (λ (sender : ℕ × Role). sender.0) (sender_named setup name)
 
--- the kept text of a sender's number; a name of no sender is refused
+-- the kept text of a sender's number; refused if no sender has the name
 abbrev pub letter_by : Option ℕ → ℕ → Asked
 letter_by None number = Refused NoMessage
 letter_by (Some sender) number = Tell (Letter sender number)
 
--- the kept mail of a sender from a number on, as a bag; a name of no sender, and what is no message's number, are refused
+-- the kept mail of a sender from a number on, as a bag; refused if no sender has the name or no message the number
 abbrev pub bag_by : Option ℕ → ℕ → Asked
 bag_by None from = Refused NoMessage
 bag_by (Some sender) from = if from == 0 then Refused NoMessage else Tell (Bag sender from)
 
--- what a GET asks for by a sender's name and a number, with a slash between them
+-- what a GET asks for with a sender's name and a number, with a slash between them
 abbrev pub numbered_asked : (Option ℕ → ℕ → Asked) → Lists → List ℕ → List ℕ → Asked
 numbered_asked ask setup text method =
     if bytes_eq method (codes "GET") then ask (sender_place setup (take (slash_at text) text)) (plain_number (drop (slash_at text + 1) text)) else Refused OnlyGet
 
--- a POST to the mail of a sender; the path of a name of no sender is the path of nothing
+-- a POST to the mail of a sender; if no sender has the name, the path leads to nothing
 abbrev pub mail_of_asked : Lists → List ℕ → List ℕ → ℕ → Framing → Asked
 mail_of_asked setup name method minor framing =
     option_map_or (λ sender. post_asked (DeliverOf sender) method minor framing) (sender_place setup name) (Refused NoRoute)
 
--- what a GET asks for by the name of a source (Debian Policy 5.6.1); any other text there is the path of nothing
+-- what a GET asks for with the name of a source (Debian Policy 5.6.1); with any other text the path leads to nothing
 abbrev pub source_asked : (List ℕ → Page) → List ℕ → List ℕ → Asked
 source_asked tell name method = option_map_or (λ source. tell_asked (tell source) method) (package_in name) (Refused NoRoute)
 
--- what is asked for by a day (ISO 8601); any other text there is the path of nothing
+-- what is asked for with a day (ISO 8601); with any other text the path leads to nothing
 abbrev pub day_asked : (Date → Asked) → List ℕ → Asked
 day_asked ask text = option_map_or ask (day_in text) (Refused NoRoute)
 
--- By a route that came behind the first six. A kept text, and a part of the kept mail, names its sender behind the second
--- slash, and then a number. Mail of a sender names the sender there, what is told of a source the source, and an order
--- and a trial their day.
+-- On a route added after the first six. After the second slash, a kept text and a part of the kept mail name their
+-- sender, and then a number. Mail of a sender names the sender there, the text on a source the source, and an order and
+-- a trial their day.
 abbrev pub added_asked : Lists → Route → List ℕ → List ℕ → ℕ → Framing → Asked
 added_asked setup route.MailOf method path minor framing = mail_of_asked setup (drop 6 path) method minor framing
 added_asked setup route.Lint method path minor framing = post_asked Look method minor framing
@@ -217,7 +217,7 @@ added_asked setup route.Propose method path minor framing = tell_asked Propose m
 added_asked setup route.ProposeFor method path minor framing = source_asked ProposeFor (drop 9 path) method
 added_asked setup _ method path minor framing = Refused NoRoute
 
--- By the route of the path: the first six, and those that were added. A report names its run behind the second slash.
+-- On the route of the path: the first six, and those added. A report names its run after the second slash.
 abbrev pub asked_at : Lists → Option Route → List ℕ → List ℕ → ℕ → Framing → Asked
 asked_at setup None method path minor framing = Refused NoRoute
 asked_at setup (Some route.Mail) method path minor framing = post_asked Deliver method minor framing
@@ -231,12 +231,12 @@ asked_at setup (Some added) method path minor framing = added_asked setup added 
 unfoldable pub asked_by : Lists → List ℕ → List ℕ → ℕ → Framing → Asked
 asked_by setup method target minor framing = asked_at setup (route_of (path_of target)) method (path_of target) minor framing
 
--- What a head asks for of an office with this setup: its path is routed, then come its method and what its fields say of
--- the body.
+-- What a head asks for of an office with this setup: its path is routed; then its method counts, and what its fields
+-- say of the body.
 unfoldable pub asked_of : Lists → RequestHead → Asked
 asked_of setup head = asked_by setup head.method head.target head.minor (framing_of (map name_and_value head.fields))
 
--- the same by another table of routes
+-- the same with another table of routes
 abbrev pub asked_by_table : RowsOf (RouteOf Route) → Lists → RequestHead → Asked
 asked_by_table routes setup head = asked_at setup (route_in routes (path_of head.target)) head.method (path_of head.target) head.minor (framing_of (map name_and_value head.fields))
 

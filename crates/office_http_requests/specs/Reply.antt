@@ -29,7 +29,7 @@ front_bytes code allow size =
 abbrev pub reply_bytes : Reply → Bool → List ℕ
 reply_bytes reply is_head = front_bytes reply.code reply.allow (length reply.body) ++ (if is_head then [] else reply.body)
 
--- what a client is told that waits before it sends the body
+-- the answer to a client that waits before it sends the body
 unfoldable pub continue_bytes : List ℕ
 continue_bytes = codes "HTTP/1.1 100 Continue\r\n\r\n"
 
@@ -74,11 +74,11 @@ refusal_allow _ = []
 abbrev pub refused : Refusal → Reply
 refused refusal = record { code = refusal_code refusal; allow = refusal_allow refusal; body = codes "refused " ++ refusal_name refusal ++ 10 ∷ [] }
 
--- the reply that tells a text
+-- the reply with a text
 abbrev pub accepted : List ℕ → Reply
 accepted text = record { code = 200; allow = []; body = text }
 
--- the reply that tells why what a request says is bad
+-- the reply on why what a request says is bad
 abbrev pub bad_request : List ℕ → Reply
 bad_request text = record { code = 400; allow = []; body = text }
 
@@ -97,7 +97,7 @@ abbrev pub delivery_code : Result Held DeliverFault → ℕ
 delivery_code (Ok held) = 200
 delivery_code (Err fault) = fault_code fault
 
--- the reply to what a request comes to
+-- the reply to the outcome of a request
 abbrev pub reply_in : Lists → Answer → Reply
 reply_in setup (Refused refusal) = refused refusal
 reply_in setup (Delivered reply) = record { code = delivery_code reply; allow = []; body = reply_line setup reply }
@@ -106,7 +106,7 @@ reply_in setup (Told text) = accepted text
 reply_in setup (Letter text) = accepted text
 reply_in setup (BadHint text) = bad_request text
 
--- a text that is held has a sender of the setup
+-- a held text has a sender of the setup
 abbrev pub HasPlaceOf : Lists → Result Held DeliverFault → Type 0
 HasPlaceOf setup (Ok held) = held.sender < length setup.senders
 HasPlaceOf setup (Err fault) = ⊤

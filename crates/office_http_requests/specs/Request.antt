@@ -1,4 +1,4 @@
--- The head of a request, by the grammar of the crate httparse (RFC 9112, sections 2 to 5), and what room it has.
+-- The head of a request, by the grammar of the crate httparse (RFC 9112, sections 2 to 5), and the limits on it.
 use Rattle.std.specs.Prelude.{◌≤◌, ℕ, List, length}
 use Rattle.httparse.specs.Grammar.{RequestHead, print_request, ReadsRequest}
 
@@ -13,7 +13,7 @@ field_room = 64
 abbrev pub body_room : ℕ
 body_room = 65_536
 
--- the bytes begin with this head, which has at most so many bytes and fields, and then go on so
+-- the bytes begin with this head, within its limits of bytes and fields, and continue with the rest
 pub record BeginsWith (input : List ℕ) (head : RequestHead) (rest : List ℕ) : Type 0 where
   pub reads : ReadsRequest input head rest
   pub short : length (print_request head) ≤ head_room

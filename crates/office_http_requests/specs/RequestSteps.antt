@@ -1,5 +1,5 @@
 -- Steps: no contract of a call that users make rests on this file.
--- How the bytes of a request are read, and what a look at them says.
+-- How the bytes of a request are read, and what a scan of them finds.
 use Rattle.std.specs.Prelude.{◌≡◌, ⊤, ◌<◌, ◌≤◌, ◌⊎◌, ◌+◌, ℕ, List, [], ◌++◌, length, Option}
 use Rattle.std.specs.Io.KnownBytes.{Consumes, IsAtEnd}
 use Rattle.httparse.specs.Grammar.{RequestHead, HasNoRequest, NeverHasRequest}
@@ -16,13 +16,13 @@ use Rattle.office_http_requests.specs.declared.head.BodyRead.{BodyRead}
 use Rattle.office_http_requests.specs.declared.head.BodyRead.TheVariants as filled
 use Rattle.office_http_requests.specs.Request.{head_room, field_room}
 
--- some bytes were read, at most so many
+-- some bytes were read, at most this many
 pub record Came (left left' : Option (List ℕ)) (most : ℕ) : Type 0 where
   pub input : List ℕ
   pub took : Consumes left left' input
   pub few : length input ≤ most
 
--- what one more read of at most so many bytes in all gave
+-- the result of one more read up to a total number of bytes
 abbrev pub IsChunkRead : Option (List ℕ) → List ℕ → List ℕ → ℕ → List ℕ → ChunkRead → Type 0
 IsChunkRead left seen seen' most taken drawn.Bytes = (seen' ≡ seen ++ taken) × (0 < length taken) × (length seen' ≤ most)
 IsChunkRead left seen seen' most taken drawn.End = (seen' ≡ seen) × (taken ≡ []) × IsAtEnd left
@@ -36,7 +36,7 @@ pub record Draws (left left' : Option (List ℕ)) (seen seen' : List ℕ) (most 
   pub few : length seen + length taken ≤ most
   pub is : IsChunkRead left' seen seen' most taken drawn
 
--- the parts of a head at the front of the bytes seen, which has at most so many fields
+-- the parts of a head at the beginning of the bytes seen, within the limit on fields
 pub record IsHeadAt (seen : List ℕ) (headers : List HeaderSpan) (spans : RequestSpans) : Type 0 where
   pub within : IsRequestWithin seen headers spans
   pub head : RequestHead
@@ -44,14 +44,14 @@ pub record IsHeadAt (seen : List ℕ) (headers : List HeaderSpan) (spans : Reque
   pub few : length head.fields ≤ field_room
   pub short : length seen ≤ head_room
 
--- what a look at the first bytes says
+-- what a scan of the first bytes finds
 abbrev pub IsHeadScan : List ℕ → List HeaderSpan → HeadScan → Type 0
 IsHeadScan seen headers (Whole spans) = IsRequestWithin seen headers spans × ((head : RequestHead) × IsRequestAt seen headers spans head × (length head.fields ≤ field_room))
 IsHeadScan seen headers More = HasNoRequest seen
 IsHeadScan seen headers TooMany = RequestExceeds field_room seen × RequestOverflows field_room seen
 IsHeadScan seen headers Never = NeverHasRequest seen
 
--- how the reading of a head ended, by what was read, what of it is held, and what is left of the input
+-- how the reading of a head ended: what was read, what of it is held, and what is left of the input
 abbrev pub IsEnd : Option (List ℕ) → List ℕ → List ℕ → List HeaderSpan → HeadRead → Type 0
 IsEnd left input seen headers Nothing = (input ≡ []) × IsAtEnd left
 IsEnd left input seen headers (Head spans) = (input ≡ seen) × IsHeadAt seen headers spans

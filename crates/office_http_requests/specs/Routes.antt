@@ -11,7 +11,7 @@ use Rattle.office_http_requests.specs.declared.routes.Route.TheVariants.{Mail, M
 abbrev pub plain : List ℕ → Route → List ℕ × RouteOf Route
 plain text value = (text, record { pattern = text; text = text; names = []; value = value })
 
--- a route that ends in a parameter, whose name stands in its text at these places
+-- a route that ends in a parameter, with the places of the parameter's name in its text
 abbrev pub with_name : List ℕ → List ℕ → ℕ × ℕ → Route → List ℕ × RouteOf Route
 with_name front text name value = (front ++ param_token ∷ [], record { pattern = front ++ param_token ∷ []; text = text; names = name ∷ []; value = value })
 
@@ -34,8 +34,8 @@ ten_routes =
     ∷ plain (codes "/mail") Mail ∷ plain (codes "/runs") Runs ∷ plain (codes "/settle") Settle ∷ plain (codes "/status") Status ∷ plain (codes "/testing") Testing
     ∷ with_name (codes "/update/") (codes "/update/{run}") (9, 12) Update ∷ plain (codes "/waiting") Waiting ∷ []
 
--- twelve of the routes, in matchit's order: without those of the mail of one sender, of texts that are only looked at, of
--- parts of the kept mail, of the next order, of a trial on a day, of hints, of unstable and of proposals
+-- twelve of the routes, in matchit's order: without those of the mail of one sender, of texts that are only looked at,
+-- of parts of the kept mail, of the next order, of a trial on a day, of hints, of unstable and of proposals
 unfoldable pub twelve_routes : RowsOf (RouteOf Route)
 twelve_routes =
     with_name (codes "/excuses/") (codes "/excuses/{run}") (10, 13) Excuses ∷ with_letter (codes "/kept/") (codes "/kept/{sender}/{number}") ((7, 13) ∷ (16, 22) ∷ []) Letter ∷ plain (codes "/kept") Kept

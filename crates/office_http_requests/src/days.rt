@@ -1,4 +1,4 @@
-//! What a path asks for that names a day.
+//! What a path that names a day asks for.
 ghost use Rattle.std.specs.Prelude.{◌≡◌, drop};
 ghost use Rattle.office_mail_setup.specs.Values.{day_in};
 ghost use Rattle.office_http_requests.specs.Asked.{day_asked, post_asked, tell_asked};
@@ -8,7 +8,7 @@ use crate::request::{Action, Asked, Framing, Page, behind, post_asked, tell_aske
 use jiff_core::civil::Date;
 use office_mail_setup::values::day_in;
 
-/// The day that stands behind the front of a path (ISO 8601), none for any other text.
+/// The day after the beginning of a path (ISO 8601), none for any other text.
 fn day_behind(path: &str, front: usize) -> Option<Date>
     ensures { result ≡ day_in (drop front path.now) }
 {
@@ -18,7 +18,7 @@ fn day_behind(path: &str, front: usize) -> Option<Date>
     }
 }
 
-/// What is asked for by a path that ends with the day of the next order.
+/// What a path that ends with the day of the next order asks for.
 pub(crate) fn order_asked(path: &str, method: &[u8]) -> Asked
     ensures { result ≡ day_asked (λ day. tell_asked (Page.Order day) method.now) (drop 7 path.now) }
 {
@@ -28,7 +28,7 @@ pub(crate) fn order_asked(path: &str, method: &[u8]) -> Asked
     }
 }
 
-/// What is asked for by a path that ends with the day of a trial.
+/// What a path that ends with the day of a trial asks for.
 pub(crate) fn try_on_asked(path: &str, method: &[u8], minor: u8, framing: Framing) -> Asked
     ensures { result ≡ day_asked (λ day. post_asked (Action.TryOn day) method.now minor framing) (drop 5 path.now) }
 {

@@ -21,16 +21,16 @@ pub const FIELD_ROOM: usize = 64;
 /// The most bytes of one read.
 const CHUNK: usize = 4096;
 
-/// What one more read gave.
+/// The result of one more read.
 #[derive(Clone, Copy, Debug, PartialEq, Eq)]
 pub enum ChunkRead {
     Bytes,
     End,
-    /// There was no memory for what came.
+    /// Memory ran out for what came.
     NoMemory,
 }
 
-/// Reads once, and adds what came to the bytes seen, of which there are to be at most so many.
+/// Reads once, and adds what came to the bytes seen, up to a total number of bytes.
 fn read_more<R: Feed>(
     reader: &mut R,
     seen: &mut Vec<u8>,
@@ -60,7 +60,7 @@ fn read_more<R: Feed>(
 pub enum HeadScan {
     /// They begin with a head.
     Whole(RequestSpans),
-    /// A head may yet come of them.
+    /// They may yet become a head.
     More,
     TooMany,
     Never,
@@ -84,14 +84,14 @@ fn scan_head(seen: &[u8], headers: &mut [HeaderSpan]) -> HeadScan
 pub enum HeadRead {
     /// No byte came.
     Nothing,
-    /// A head came, whose parts stand there.
+    /// A head came, with its parts at these places.
     Head(RequestSpans),
     HeadTooLarge,
     BadRequest,
     NoMemory,
 }
 
-/// What the bytes seen so far end the reading with, if they do.
+/// How the bytes seen so far end the reading, if they do.
 fn end_of(seen: &[u8], headers: &mut [HeaderSpan]) -> Option<HeadRead>
     requires room { length headers.old ≡ field_room }
     requires short { length seen.now ≤ head_room }
@@ -106,7 +106,7 @@ fn end_of(seen: &[u8], headers: &mut [HeaderSpan]) -> Option<HeadRead>
     }
 }
 
-/// What the end of the input is, after the bytes seen.
+/// What the end of the input means after the bytes seen.
 fn at_end(seen: &[u8]) -> HeadRead
     requires { (seen.now ≡ []) ⊎ HasNoRequest seen.now }
     ensures { (left : Option (List ℕ)) (headers : List HeaderSpan) → IsAtEnd left → IsEnd left seen.now seen.now headers result }
@@ -155,7 +155,7 @@ pub enum BodyRead {
     NoMemory,
 }
 
-/// Reads until so many bytes were seen, or no more come.
+/// Reads until that many bytes were seen, or no more come.
 pub fn read_up_to<R: Feed>(
     reader: &mut R,
     seen: &mut Vec<u8>,

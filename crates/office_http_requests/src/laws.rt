@@ -14,10 +14,10 @@ ghost use Rattle.office_http_requests.specs.declared.request.Framing.{Framing};
 ghost use Rattle.office_http_requests.specs.declared.request.Page.TheVariants.{Waiting, Runs, Kept, Hints, Unstable, Propose};
 ghost use Rattle.office_http_requests.specs.declared.request.Posted.{Posted};
 
-/// The routes that came behind the first six leave what the other paths ask for.
+/// The routes that came after the first six leave what the other paths ask for.
 pub fn old_requests_stay()
-    // Those behind the first twelve, which are `/lint`, `/hints`, `/unstable` and `/propose`, and those below `/mail/`, `/bag/`,
-    // `/order/`, `/try/` and `/propose/`, leave what all other paths ask for.
+    // Those after the first twelve, which are `/lint`, `/hints`, `/unstable` and `/propose`, and those below `/mail/`,
+    // `/bag/`, `/order/`, `/try/` and `/propose/`, leave what all other paths ask for.
     ensures newer { (setup : Lists) (head : RequestHead) → IsBeside new_paths new_fronts (path_of head.target) → asked_of setup head ≡ asked_by_table twelve_routes setup head }
     // So do `/try` and those below `/why/`.
     ensures later { (setup : Lists) (head : RequestHead) → IsBeside new_paths new_fronts (path_of head.target) → path_of head.target ≢ codes "/try" → ((rest : List ℕ) → path_of head.target ≢ codes "/why/" ++ rest) → asked_of setup head ≡ asked_by_table ten_routes setup head }
@@ -25,7 +25,7 @@ pub fn old_requests_stay()
     ensures others { (setup : Lists) (head : RequestHead) → IsBeside new_paths new_fronts (path_of head.target) → path_of head.target ≢ codes "/waiting" → path_of head.target ≢ codes "/runs" → path_of head.target ≢ codes "/kept" → ((rest : List ℕ) → path_of head.target ≢ codes "/kept/" ++ rest)
         → path_of head.target ≢ codes "/try" → ((rest : List ℕ) → path_of head.target ≢ codes "/why/" ++ rest) → asked_of setup head ≡ asked_by_table six_routes setup head }
     // There a GET asks what a run waits for, for the finished runs, how much mail is kept, for the hints in force, for
-    // unstable, or for hints that move groups, and other methods are refused.
+    // unstable, or for hints that move groups. Other methods are refused.
     ensures waiting { (setup : Lists) (head : RequestHead) → path_of head.target ≡ codes "/waiting" → asked_of setup head ≡ tell_asked Waiting head.method }
     ensures runs { (setup : Lists) (head : RequestHead) → path_of head.target ≡ codes "/runs" → asked_of setup head ≡ tell_asked Runs head.method }
     ensures kept { (setup : Lists) (head : RequestHead) → path_of head.target ≡ codes "/kept" → asked_of setup head ≡ tell_asked Kept head.method }
@@ -35,7 +35,7 @@ pub fn old_requests_stay()
     // There a POST asks for a trial of hints, or how a delivery would be answered.
     ensures hints { (setup : Lists) (head : RequestHead) → path_of head.target ≡ codes "/try" → asked_of setup head ≡ post_asked Try head.method head.minor (framing_of (map name_and_value head.fields)) }
     ensures looks { (setup : Lists) (head : RequestHead) → path_of head.target ≡ codes "/lint" → asked_of setup head ≡ post_asked Look head.method head.minor (framing_of (map name_and_value head.fields)) }
-    // And so does the refusal of what a page in a browser posts: without its fields a POST asks for what its body's do.
+    // So does the refusal of what a page in a browser posts: without its fields a POST asks for what its body's do.
     ensures unforeign { (action : Action) (method : List ℕ) (minor : ℕ) (framing : Framing) → framing.foreign ≡ false → post_asked action method minor framing ≡ (if bytes_eq method (codes "POST") then post_framed action minor framing else Refused OnlyPost) }
 {}
 

@@ -1,4 +1,4 @@
-//! What a path asks for that names a sender, and perhaps a number of its mail.
+//! What a path that names a sender, and perhaps a number of its mail, asks for.
 ghost use Rattle.std.specs.Prelude.{◌≡◌, ◌<◌, ◌≤◌, ◌+◌, IfSome, drop, length, take};
 ghost use Rattle.std.specs.List.{position};
 ghost use Rattle.office_http_requests.specs.Asked.{bag_by, is_slash, letter_by, mail_of_asked, numbered_asked, plain_number, sender_place, slash_at};
@@ -52,7 +52,7 @@ fn sender_and_number(setup: &Setup, text: &[u8]) -> (Option<u32>, u32)
     (sender_place(setup, name), plain_number(number))
 }
 
-/// The kept text that is asked for by a sender's name and a number, with a slash between them.
+/// The kept text of the sender and number that a path names, with a slash between them.
 pub fn letter_asked(setup: &Setup, text: &[u8], method: &[u8]) -> Asked
     ensures { result ≡ numbered_asked letter_by setup.now text.now method.now }
 {
@@ -65,7 +65,7 @@ pub fn letter_asked(setup: &Setup, text: &[u8], method: &[u8]) -> Asked
     }
 }
 
-/// The part of a sender's kept mail that is asked for by its name and the number from which it goes on, with a slash
+/// The part of a sender's kept mail that a path names: the sender's name and the number to begin with, with a slash
 /// between them.
 pub fn bag_asked(setup: &Setup, text: &[u8], method: &[u8]) -> Asked
     ensures { result ≡ numbered_asked bag_by setup.now text.now method.now }
@@ -79,7 +79,7 @@ pub fn bag_asked(setup: &Setup, text: &[u8], method: &[u8]) -> Asked
     }
 }
 
-/// What is asked for by a sender's name behind the path of mail.
+/// What a sender's name after the path of mail asks for.
 pub fn mail_of_asked(
     setup: &Setup,
     name: &[u8],

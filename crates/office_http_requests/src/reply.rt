@@ -1,4 +1,4 @@
-//! Replies: what they say, and how they are written (RFC 9112, section 4). They take no memory.
+//! Replies: what they say, and how they are written (RFC 9112, section 4). They allocate nothing.
 ghost use Rattle.std.specs.Prelude.{◌≡◌, Ok, Err, ◌≤◌, ◌<◌, ◌+◌, ◌++◌, ◌∷◌, ℕ, List, [], OnOk, OnErr, IfOk, length, decimal, codes, unwrap_or, if◌then◌else◌, true};
 ghost use Rattle.std.specs.Io.KnownBytes.{Appends};
 ghost use Rattle.http.specs.StatusCode.{reason_phrase};
@@ -23,15 +23,15 @@ pub enum Refusal {
     NoRun,
     /// No text is kept under that sender's number, or there is no such sender.
     NoMessage,
-    /// The last finished run says nothing of a source of that name.
+    /// The last finished run says nothing of a source with that name.
     NoSource,
     /// The text is a message of another sender than the path names.
     OtherSender,
     /// A page in a browser sends the POST.
     OtherOrigin,
-    /// The path takes GET alone.
+    /// The path accepts only GET.
     OnlyGet,
-    /// The path takes POST alone.
+    /// The path accepts only POST.
     OnlyPost,
     LengthRequired,
     TooLong,
@@ -41,7 +41,7 @@ pub enum Refusal {
 }
 
 impl Refusal {
-    /// How it is told.
+    /// Its name in a reply.
     fn name(self) -> &'static str
         ensures name { result.now ≡ refusal_name self }
         ensures short { length result.now < 20 }
@@ -86,7 +86,7 @@ impl Refusal {
         }
     }
 
-    /// The field that names the method that the path takes (RFC 9110, section 10.2.1).
+    /// The field that names the method that the path accepts (RFC 9110, section 10.2.1).
     fn allow(self) -> &'static str
         ensures { result.now ≡ refusal_allow self }
     {
@@ -98,7 +98,7 @@ impl Refusal {
     }
 }
 
-/// What a request comes to.
+/// The outcome of a request.
 #[derive(Drop)]
 pub enum Answer {
     Refused(Refusal),
@@ -135,7 +135,7 @@ fn phrase_of(status: &StatusCode) -> &str
     }
 }
 
-/// Writes what stands before the body: the status line, the fields and the empty line.
+/// Writes what precedes the body: the status line, the fields and the empty line.
 #[tactic(auto, unfolding(crate::specs::Reply::front_bytes))]
 fn write_front<W: Sink>(
     status: StatusCode,
@@ -165,7 +165,7 @@ fn write_front<W: Sink>(
     write_parts(writer, &parts)
 }
 
-/// Writes a reply, whose body has that length, or a front of it. It gives the status code.
+/// Writes a reply with a body of that length, or a prefix of it. Returns the status code.
 fn write_whole<W: Sink>(
     status: StatusCode,
     allow: &str,
@@ -321,7 +321,7 @@ fn write_bad_hint<W: Sink>(text: &[u8], is_head: bool, writer: &mut W) -> Result
     )
 }
 
-/// Writes the reply to what a request comes to, or a front of it. It gives the status code.
+/// Writes the reply to the outcome of a request, or a prefix of it. Returns the status code.
 pub fn write_answer<W: Sink>(
     setup: &Setup,
     answer: &Answer,
@@ -346,7 +346,7 @@ pub fn write_answer<W: Sink>(
     }
 }
 
-/// Writes `100 Continue` where a client waits for it (RFC 9110, section 15.2.1).
+/// Writes `100 Continue` if a client waits for it (RFC 9110, section 15.2.1).
 #[tactic(auto, unfolding(crate::specs::Reply::continue_bytes))]
 pub fn write_continue<W: Sink>(waits: bool, writer: &mut W) -> Result<(), WriteFault>
     ensures ok { OnOk result (Appends (W.written writer.old) (W.written writer.new) (if waits then continue_bytes else [])) }

@@ -1,4 +1,4 @@
-//! What a request asks for, by its head.
+//! What a request asks for, given its head.
 ghost use Rattle.std.specs.Prelude.{◌≡◌, true, if◌then◌else◌, ◌+◌, ◌<◌, ◌≤◌, ◌∷◌, ◌++◌, [], ℕ, List, length, drop, map, All, IfOk, Option, Some, None, codes, IsUtf8};
 ghost use Rattle.std.specs.Char.{is_ascii_digit};
 ghost use Rattle.std.specs.List.{list_all, position, before_first};
@@ -54,7 +54,7 @@ pub enum Action {
     Deliver,
     /// Delivers a text of the sender at a place of the setup, and of no other.
     DeliverOf(u32),
-    /// Answers as a delivery, and keeps nothing.
+    /// Answers like a delivery, and keeps nothing.
     Look,
     Settle,
     /// Tries the hints in the lines of the body.
@@ -71,7 +71,7 @@ pub struct Posted {
     pub waits: bool,
 }
 
-/// A text that the office tells.
+/// A text that the office returns.
 #[derive(Debug, Drop)]
 pub enum Page {
     Status,
@@ -84,11 +84,11 @@ pub enum Page {
     Runs,
     /// How many numbers of each sender are kept.
     Kept,
-    /// The kept text of a number of a sender, who is told by its place in the setup.
+    /// The kept text of a sender's number. `sender` is its place in the setup.
     Letter { sender: u32, number: u32 },
     /// The kept texts of a sender from a number on, as a bag: as many as fit into one body.
     Bag { sender: u32, from: u32 },
-    /// What is told of the source of a name.
+    /// The text on the source with this name.
     Why(Text),
     /// An order on this day over all mail without a gap.
     Order(Date),
@@ -98,7 +98,7 @@ pub enum Page {
     Unstable,
     /// Hints that move groups of sources.
     Propose,
-    /// Hints that free the source of a name, or what shows that none does.
+    /// Hints that free the source with this name, or what shows that none does.
     ProposeFor(Text),
 }
 
@@ -127,7 +127,7 @@ fn is_number(text: &[u8]) -> bool
     }
 }
 
-/// The number that digits spell, none where it has more than 32 bits.
+/// The number that digits spell, none if it has more than 32 bits.
 fn number_under(text: &[u8]) -> Option<u32>
     requires { are_digits text.now ≡ true }
     ensures { result ≡ number_under text.now }
@@ -154,7 +154,7 @@ fn number_stated(value: &[u8]) -> Stated
     }
 }
 
-/// What is stated where one more field states a length.
+/// What is stated if one more field states a length.
 fn with_value(stated: Stated, value: &[u8]) -> Stated
     ensures { result ≡ with_value stated value.now }
 {
@@ -166,14 +166,14 @@ fn with_value(stated: Stated, value: &[u8]) -> Stated
     }
 }
 
-/// Whether two words are the same but for the case of letters.
+/// Whether two words are the same except for the case of letters.
 fn is_word(word: &[u8], other: &[u8]) -> bool
     ensures { result ≡ str_eq_ignore_ascii_case word.now other.now }
 {
     word.eq_ignore_ascii_case(other)
 }
 
-/// The length that is stated where one more field stands there.
+/// The stated length, with one more field.
 fn length_with(stated: Stated, name: &[u8], value: &[u8]) -> Stated
     ensures { result ≡ length_with stated (name.now, value.now) }
 {
@@ -184,7 +184,7 @@ fn length_with(stated: Stated, name: &[u8], value: &[u8]) -> Stated
     }
 }
 
-/// Whether a transfer coding is named, where one more field stands there.
+/// Whether a transfer coding is named, with one more field.
 fn coded_with(coded: bool, name: &[u8]) -> bool
     ensures { result ≡ (if str_eq_ignore_ascii_case name.now (codes "transfer-encoding") then true else coded) }
 {
@@ -195,7 +195,7 @@ fn coded_with(coded: bool, name: &[u8]) -> bool
     }
 }
 
-/// Whether the client waits, where one more field stands there.
+/// Whether the client waits, with one more field.
 fn waits_with(waits: bool, name: &[u8], value: &[u8]) -> bool
     ensures { result ≡ waits_with waits (name.now, value.now) }
 {
@@ -213,7 +213,7 @@ fn is_foreign_site(value: &[u8]) -> bool
     value != b"none".as_slice() && value != b"same-origin".as_slice()
 }
 
-/// Whether a page in a browser sends the request, where one more field stands there.
+/// Whether a page in a browser sends the request, with one more field.
 fn foreign_with(foreign: bool, name: &[u8], value: &[u8]) -> bool
     ensures { result ≡ foreign_with foreign (name.now, value.now) }
 {
@@ -226,7 +226,7 @@ fn foreign_with(foreign: bool, name: &[u8], value: &[u8]) -> bool
     }
 }
 
-/// What is said where one more field stands there.
+/// What is said with one more field.
 fn with_field(framing: Framing, name: &[u8], value: &[u8]) -> Framing
     ensures { result ≡ with_field framing (name.now, value.now) }
 {
@@ -301,7 +301,7 @@ pub(crate) fn plain_number(text: &[u8]) -> u32
     }
 }
 
-/// What stands behind the front of a path.
+/// What follows the beginning of a path.
 pub(crate) fn behind(path: &str, front: usize) -> &[u8]
     ensures { result.now ≡ drop front path.now }
 {
@@ -310,14 +310,14 @@ pub(crate) fn behind(path: &str, front: usize) -> &[u8]
     rest
 }
 
-/// The run that a path names behind its first part.
+/// The run that a path names after its first part.
 fn run_in(path: &str, front: usize) -> u32
     ensures { result ≡ plain_number (drop front path.now) }
 {
     plain_number(behind(path, front))
 }
 
-/// The length where none is stated: only a settle without a transfer coding may leave it out.
+/// The length if none is stated: only a settle without a transfer coding may leave it out.
 fn absent_length(action: Action, coded: bool) -> Result<u32, Refusal>
     ensures { result ≡ absent_length action coded }
 {
@@ -337,7 +337,7 @@ fn absent_length(action: Action, coded: bool) -> Result<u32, Refusal>
     }
 }
 
-/// The length of the body that is read.
+/// The length of the body to read.
 fn posted_length(action: Action, length: Stated, coded: bool) -> Result<u32, Refusal>
     ensures { result ≡ posted_length action length coded }
 {
@@ -361,7 +361,7 @@ fn posted_length(action: Action, length: Stated, coded: bool) -> Result<u32, Ref
     }
 }
 
-/// What is asked for on a route that takes POST. A page in a browser may ask for nothing there.
+/// What is asked for on a route that accepts POST. A page in a browser may ask for nothing there.
 pub(crate) fn post_asked(action: Action, method: &[u8], minor: u8, framing: Framing) -> Asked
     ensures { result ≡ post_asked action method.now minor framing }
 {
@@ -381,7 +381,7 @@ pub(crate) fn post_asked(action: Action, method: &[u8], minor: u8, framing: Fram
     }
 }
 
-/// What is asked for on a route that takes GET.
+/// What is asked for on a route that accepts GET.
 pub(crate) fn tell_asked(page: Page, method: &[u8]) -> Asked
     ensures { result ≡ tell_asked page method.now }
 {
@@ -392,7 +392,7 @@ pub(crate) fn tell_asked(page: Page, method: &[u8]) -> Asked
     Asked::Refused(Refusal::OnlyGet)
 }
 
-/// What is asked for on a route. It fails for want of memory alone.
+/// What is asked for on a route. It fails only if memory runs out.
 fn asked_at(
     alloc: Global,
     setup: &Setup,
@@ -429,7 +429,7 @@ fn asked_at(
     }
 }
 
-/// What is asked for, by the parts of the head. It fails for want of memory alone.
+/// What is asked for, given the parts of the head. It fails only if memory runs out.
 #[tactic(auto, unfolding(crate::specs::Asked::asked_by))]
 fn asked_by(
     alloc: Global,
@@ -450,7 +450,7 @@ fn asked_by(
     }
 }
 
-/// What the head of a request asks for of an office with this setup. It fails for want of memory alone.
+/// What the head of a request asks for of an office with this setup. It fails only if memory runs out.
 #[tactic(auto, unfolding(crate::specs::Asked::asked_of))]
 pub fn asked_of(
     alloc: Global,

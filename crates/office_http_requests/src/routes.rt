@@ -5,7 +5,7 @@ ghost use Rattle.office_http_requests.specs.Routes.{office_routes, route_of, sev
 use matchit::{InsertError, Router};
 use std::alloc::Global;
 
-/// What a path stands for.
+/// What a path leads to.
 #[derive(Clone, Copy, Debug, PartialEq, Eq)]
 pub enum Route {
     Mail,
@@ -51,7 +51,7 @@ fn insert_first(router: &mut Router<Route>) -> Result<(), InsertError>
     Ok(())
 }
 
-/// Puts those of what is awaited, of runs and of kept mail beside them.
+/// Adds the routes of what is awaited, of runs and of kept mail.
 fn insert_asking(router: &mut Router<Route>) -> Result<(), InsertError>
     requires { router.old ≡ six_routes }
     ensures { OnOk result (router.new ≡ ten_routes) }
@@ -63,7 +63,7 @@ fn insert_asking(router: &mut Router<Route>) -> Result<(), InsertError>
     Ok(())
 }
 
-/// Puts those of sources and of trials beside them.
+/// Adds the routes of sources and of trials.
 fn insert_trials(router: &mut Router<Route>) -> Result<(), InsertError>
     requires { router.old ≡ ten_routes }
     ensures { OnOk result (router.new ≡ twelve_routes) }
@@ -73,8 +73,8 @@ fn insert_trials(router: &mut Router<Route>) -> Result<(), InsertError>
     Ok(())
 }
 
-/// Puts those of the mail of one sender, of texts that are only looked at, of parts of the kept mail, of the next order and
-/// of a trial on a day beside them.
+/// Adds the routes of the mail of one sender, of texts that are only looked at, of parts of the kept mail, of the next
+/// order and of a trial on a day.
 fn insert_parts(router: &mut Router<Route>) -> Result<(), InsertError>
     requires { router.old ≡ twelve_routes }
     ensures { OnOk result (router.new ≡ seventeen_routes) }
@@ -87,7 +87,7 @@ fn insert_parts(router: &mut Router<Route>) -> Result<(), InsertError>
     Ok(())
 }
 
-/// Puts those of hints, of unstable and of proposals beside them.
+/// Adds the routes of hints, of unstable and of proposals.
 fn insert_hints(router: &mut Router<Route>) -> Result<(), InsertError>
     requires { router.old ≡ seventeen_routes }
     ensures { OnOk result (router.new ≡ office_routes) }
@@ -112,7 +112,7 @@ pub fn routes(alloc: Global) -> Result<Router<Route>, InsertError>
     Ok(router)
 }
 
-/// The route of a path, none of a path that isn't in the table.
+/// The route of a path, none if the path isn't in the table.
 pub fn find_route(router: &Router<Route>, path: &str) -> Option<Route>
     requires { router.now ≡ office_routes }
     ensures { result ≡ route_of path.now }

@@ -1,4 +1,4 @@
-//! What a path asks for that names a source.
+//! What a path that names a source asks for.
 ghost use Rattle.std.specs.Prelude.{◌≡◌, IfOk, drop};
 ghost use Rattle.office_mail_setup.specs.Values.{package_in};
 ghost use Rattle.office_http_requests.specs.Asked.{source_asked};
@@ -8,7 +8,7 @@ use crate::request::{Asked, Page, behind, tell_asked};
 use deb_control::{Text, is_package_name};
 use std::alloc::{AllocError, Global};
 
-/// The name of a source that stands behind the front of a path (Debian Policy 5.6.1), none for any other text.
+/// The name of a source after the beginning of a path (Debian Policy 5.6.1), none for any other text.
 fn source_behind(alloc: Global, path: &str, front: usize) -> Result<Option<Text>, AllocError>
     ensures { IfOk result (λ source. source ≡ package_in (drop front path.now)) }
 {
@@ -22,7 +22,7 @@ fn source_behind(alloc: Global, path: &str, front: usize) -> Result<Option<Text>
     Ok(Some(Text::from_str(alloc, source)?))
 }
 
-/// What is asked for by a path that ends with the name of a source of which is told. It fails for want of memory alone.
+/// What a path that ends with the name of a source to report on asks for. It fails only if memory runs out.
 pub fn why_asked(alloc: Global, path: &str, method: &[u8]) -> Result<Asked, AllocError>
     ensures { IfOk result (λ asked. asked ≡ source_asked Page.Why (drop 5 path.now) method.now) }
 {
@@ -32,7 +32,7 @@ pub fn why_asked(alloc: Global, path: &str, method: &[u8]) -> Result<Asked, Allo
     }
 }
 
-/// What is asked for by a path that ends with the name of a source that is to be freed. It fails for want of memory alone.
+/// What a path that ends with the name of a source to free asks for. It fails only if memory runs out.
 pub fn propose_asked(alloc: Global, path: &str, method: &[u8]) -> Result<Asked, AllocError>
     ensures { IfOk result (λ asked. asked ≡ source_asked Page.ProposeFor (drop 9 path.now) method.now) }
 {

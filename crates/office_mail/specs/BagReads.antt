@@ -1,5 +1,5 @@
 -- Steps: no contract of a call that users make rests on this file.
--- How the bytes of a bag are read: what waits, what came of a message, and where it broke off.
+-- How the bytes of a bag are read: what waits, what arrived of a message, and where reading stopped.
 use Rattle.std.specs.Prelude.{◌≡◌, ℕ, ◌+◌, ◌<◌, ◌≤◌, Some, List, length}
 use Rattle.std.specs.Io.KnownBytes.{Consumes}
 use Rattle.office_mail.specs.Bag.{handed}
@@ -8,7 +8,7 @@ use Rattle.office_mail.specs.declared.bag.BagFault.{BagFault}
 use Rattle.office_mail.specs.declared.bag.BagFault.TheVariants.{BadHeader, Truncated, ReadFault, NoMemory}
 use Rattle.office_mail.specs.BagSteps.{MeetsEnd, CountsEach}
 
--- the counts go on, each read is one call and each call a read, and the bag is as open as before
+-- the counts continue, each read is one call and each call a read, and the bag is open if it was
 pub record GoesOn (before after : Reading) : Type 0 where
   pub failures : before.failures ≤ after.failures
   pub counts : CountsEach before after
@@ -16,26 +16,26 @@ pub record GoesOn (before after : Reading) : Type 0 where
   pub room : after.room ≤ before.room
   pub ended : after.ended ≡ before.ended
 
--- the next n bytes are a message, and all but its surplus is handed out
+-- the next n bytes are a message; all of it except the surplus is returned
 pub record TakesBody (before after : Reading) (n : ℕ) (message : List ℕ) : Type 0 where
   pub whole : List ℕ
   pub size : length whole ≡ n
   pub same : message ≡ handed whole
   pub took : Consumes before.left after.left whole
 
--- some bytes came that wait to be handed out
+-- some bytes arrived and wait to be returned
 pub record Waits (now : Reading) : Type 0 where
   pub bytes : List ℕ
   pub came : Consumes now.left now.unread bytes
 
--- fewer than n bytes came; want of memory may come at any place
+-- fewer than n bytes arrived; memory may run out anywhere
 abbrev pub IsShort : BagFault → ℕ → List ℕ → Type 0
 IsShort BadHeader n rest = ⊥
 IsShort Truncated n rest = length rest < n
 IsShort ReadFault n rest = length rest < n
 IsShort NoMemory n rest = Unit {0}
 
--- the next n bytes don't come
+-- the next n bytes don't arrive
 pub record BreaksOff (before after : Reading) (n : ℕ) (fault : BagFault) : Type 0 where
   pub rest : List ℕ
   pub came : Consumes before.left after.unread rest

@@ -14,17 +14,19 @@ use Rattle.office_mail_setup.specs.Steps.{needs, given, each_of}
 use Rattle.office_mail_setup.specs.Values.{number_in, words}
 use Rattle.testing_rules_items.specs.Distinct.{is_distinct}
 
+-- the fault of a text that isn't a list of covers
 abbrev pub BadCovers : MailFault
 BadCovers = BadValue field.Covers
 
--- a sender that an item may name: one of the setup, but not that of runs
+-- a sender that an item may name: one in the setup, except the sender of runs
 abbrev pub is_named : List ℕ → Sender → Bool
 is_named name sender = bytes_eq sender.name name && not (same_role Runs sender.role)
 
+-- a cover may name a sender of this name (this office decides it)
 abbrev pub may_cover : Lists → List ℕ → Bool
 may_cover setup name = list_any (is_named name) setup.senders
 
--- an item is two words, a sender's name and a number
+-- an item is two words: a sender's name and a number
 abbrev pub cover_of_words : Lists → List (List ℕ) → Result (List ℕ × ℕ) MailFault
 cover_of_words setup (name ∷ number ∷ []) = do
   _ ← needs (may_cover setup name) BadCovers
@@ -32,10 +34,11 @@ cover_of_words setup (name ∷ number ∷ []) = do
   Ok (name, n)
 cover_of_words setup ws = Err BadCovers
 
+-- the sender's name and the number in an item
 unfoldable pub cover_in : Lists → List ℕ → Result (List ℕ × ℕ) MailFault
 cover_in setup item = cover_of_words setup (words item)
 
--- the number that is stated for a name, 0 where none is
+-- the number stated for a name, or 0
 abbrev pub number_for : List ℕ → List (List ℕ × ℕ) → ℕ
 number_for name [] = 0
 number_for name (c ∷ cs) = if bytes_eq c.0 name then c.1 else number_for name cs
@@ -44,7 +47,7 @@ number_for name (c ∷ cs) = if bytes_eq c.0 name then c.1 else number_for name 
 unfoldable pub numbers_by_sender : Lists → List (List ℕ × ℕ) → List ℕ
 numbers_by_sender setup stated = map (λ (sender : Sender). number_for sender.name stated) setup.senders
 
--- What a text covers: items separated by commas, of which an item of white alone is skipped. No sender stands twice.
+-- The covers in a text: items separated by commas, at most one per sender. An item of only white is skipped.
 unfoldable pub covers_in : Lists → List ℕ → Result (List ℕ) MailFault
 covers_in setup text = do
   stated ← each_of (cover_in setup) (items text)

@@ -14,11 +14,11 @@ use Rattle.office_mail_setup.specs.Steps.{needs, given, each_of}
 use Rattle.office_mail_setup.specs.Values.{days_in, words}
 use Rattle.testing_rules_items.specs.Distinct.{is_distinct}
 
--- what stands in the place of a hint that is none
+-- the fault of a text that isn't a hint
 abbrev pub BadHint : MailFault
 BadHint = BadValue field.Hint
 
--- one at least
+-- the list if it isn't empty, else the fault
 abbrev pub some_of : {A : Type 0} → List A → Result (List A) MailFault
 some_of [] = Err BadHint
 some_of (x ∷ xs) = Ok (x ∷ xs)
@@ -27,23 +27,26 @@ some_of (x ∷ xs) = Ok (x ∷ xs)
 unfoldable pub name_in : List ℕ → Result (List ℕ) MailFault
 name_in word = if is_package_name word then Ok word else Err BadHint
 
--- a source at a version: a name, `/` and a version, where the first `/` separates them
+-- the `/` that separates a source's name from its version
 abbrev pub is_slash : ℕ → Bool
 is_slash c = c == char "/"
 
+-- a source at a version: a name, `/` and a version; the first `/` separates them
 unfoldable pub item_in : List ℕ → Result HintItem MailFault
 item_in word =
     if list_any is_slash word && is_package_name (before_first is_slash word) && is_version (after_first is_slash word)
     then Ok (record { name = before_first is_slash word; version = after_first is_slash word })
     else Err BadHint
 
+-- names of sources, at least one
 unfoldable pub names_in : List (List ℕ) → Result (List (List ℕ)) MailFault
 names_in ws = some_of ws >>= λ texts. each_of name_in texts
 
+-- sources at versions, at least one
 unfoldable pub items_in : List (List ℕ) → Result (List HintItem) MailFault
 items_in ws = some_of ws >>= λ texts. each_of item_in texts
 
--- items of which no two name the same source
+-- items that all name different sources
 unfoldable pub group_in : List (List ℕ) → Result (List HintItem) MailFault
 group_in ws = do
   items ← items_in ws
@@ -58,12 +61,12 @@ aged_in (days ∷ ws) = do
   items ← items_in ws
   Ok (AgeDays n items)
 
--- of what blocks all there is one: `source` alone
+-- only one thing can be blocked as a whole: `source`
 unfoldable pub all_in : List (List ℕ) → Result Hint MailFault
 all_in (what ∷ []) = if bytes_eq what (codes "source") then Ok BlockAll else Err BadHint
 all_in ws = Err BadHint
 
--- the hint that a word and the words after it are
+-- the hint with this word and the words after it
 unfoldable pub hint_of : List ℕ → List (List ℕ) → Result Hint MailFault
 hint_of word ws =
     if bytes_eq word (codes "block") then (names_in ws >>= λ names. Ok (Block names))
@@ -74,10 +77,11 @@ hint_of word ws =
     else if bytes_eq word (codes "block-all") then all_in ws
     else Err BadHint
 
+-- the hint in these words
 abbrev pub hint_by : List (List ℕ) → Result Hint MailFault
 hint_by [] = Err BadHint
 hint_by (word ∷ ws) = hint_of word ws
 
--- the hint that a text is
+-- the hint in a text
 unfoldable pub hint_in : List ℕ → Result Hint MailFault
 hint_in text = hint_by (words text)

@@ -1,4 +1,4 @@
--- When two lists of deliveries are as good as each other, and what later mail leaves alone.
+-- When two lists of deliveries are equivalent, and what later mail doesn't change.
 use Rattle.std.specs.Prelude.{◌≡◌, ℕ, ◌↔◌, ◌⊎◌, List, [], ◌∷◌, Some, None, Ok}
 use Rattle.office_mail.specs.declared.message.Message.{Message}
 use Rattle.office_mail_setup.specs.Lists.{Lists}
@@ -17,20 +17,20 @@ pub record Delivers (setup : Lists) (texts : List (List ℕ)) (text : List ℕ) 
   pub there : IsOneOf text texts
   pub reads : read setup text ≡ Ok message
 
--- no sender gives one number two texts
+-- no sender has two texts under one number
 abbrev pub OneText : Lists → List (List ℕ) → Type 0
 OneText setup texts =
     (t u : List ℕ) (m n : Message) → Delivers setup texts t m → Delivers setup texts u n → place_of m ≡ place_of n → t ≡ u
 
--- a delivery of this text, which has this place, is held: the place is free, or holds the text itself
+-- this text can be delivered to its place: the place is free, or has the same text
 abbrev pub CanTake : Kept → Place → List ℕ → Type 0
 CanTake kept place text = (get kept place ≡ None) ⊎ (get kept place ≡ Some text)
 
--- the same well-formed texts were delivered, in any order and with any repeats
+-- the same well-formed texts were delivered, in any order and with repetitions
 abbrev pub SameTexts : Lists → List (List ℕ) → List (List ℕ) → Type 0
 SameTexts setup xs ys = (t : List ℕ) (m : Message) → Delivers setup xs t m ↔ Delivers setup ys t m
 
--- run k is ready in both, and sees the same: its orders, its cover, its date and its mail
+-- run k is ready in both and sees the same orders, cover, date and mail
 pub record SameRun (setup : Lists) (small large : Kept) (k : ℕ) : Type 0 where
   pub ready : IsReady setup large k
   pub orders : orders_to setup large k ≡ orders_to setup small k

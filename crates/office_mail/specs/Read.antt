@@ -1,4 +1,4 @@
--- Messages: what a text says, or the first reason why it is no message.
+-- Messages: the content of a text, or the first reason why it isn't a message.
 use Rattle.std.specs.Prelude.{ℕ, ◌+◌, Bool, true, ◌||◌, nat_le, if◌then◌else◌, List, [], ◌∷◌, length, codes, Option, Some, None, Result, Ok, Err}
 use Rattle.std.specs.List.{list_all, list_any}
 use Rattle.std.specs.Str.{bytes_eq}
@@ -32,8 +32,9 @@ use Rattle.office_mail_setup.specs.Kinds.{kind_named, may_send, fields_needed, b
 use Rattle.office_mail.specs.Hints.{hint_in}
 use Rattle.office_mail.specs.Covers.{covers_in}
 
--- What messages of each kind say. Each field is read in the order of the lines, and the first bad one is the fault.
+-- The content of each kind of message. Fields are read in the order of the lines, and the first bad one is the fault.
 
+-- an upload: its source, version (Debian Policy 5.6.12) and urgency (5.6.17), and its day
 unfoldable pub upload_of : Paragraph → Result Item MailFault
 upload_of p = do
   source ← value_in package_in p field.Source
@@ -42,7 +43,7 @@ upload_of p = do
   day ← value_in day_in p field.Day
   Ok (item.Upload source version urgency day)
 
--- the architecture is known to be listed or `all`
+-- a drop, once its architecture is known to be listed or `all`
 unfoldable pub drop_of : Paragraph → Result Item MailFault
 drop_of p = do
   name ← value_in package_in p field.Package
@@ -50,6 +51,7 @@ drop_of p = do
   version ← value_in version_in p field.Version
   Ok (item.Dropped name arch version)
 
+-- the mail field for a field of a binary package (Debian Policy 5.3)
 abbrev pub binary_field : BinaryField → Field
 binary_field binary.Package = field.Package
 binary_field binary.Version = field.Version
@@ -59,6 +61,7 @@ binary_field binary.PreDepends = field.PreDepends
 binary_field binary.Depends = field.Depends
 binary_field binary.Provides = field.Provides
 
+-- the mail fault for a binary package's fault: a missing field or a bad value (this office decides it)
 abbrev pub fault_of_binary : BinaryFault → MailFault
 fault_of_binary (binary_fault.MissingField f) = MissingField (binary_field f)
 fault_of_binary (binary_fault.BadName f) = BadValue (binary_field f)
@@ -66,17 +69,20 @@ fault_of_binary (binary_fault.BadVersion f) = BadValue (binary_field f)
 fault_of_binary (binary_fault.BadRelation f) = BadValue (binary_field f)
 fault_of_binary binary_fault.NoMemory = NoMemory
 
+-- the binary package, or its fault as a mail fault
 abbrev pub of_binary : Result Binary BinaryFault → Result Binary MailFault
 of_binary (Ok b) = Ok b
 of_binary (Err e) = Err (fault_of_binary e)
 
--- a binary package, as control data describes it (Debian Policy 5.3)
+-- a binary package in the form of control data (Debian Policy 5.3)
 unfoldable pub binary_in : Paragraph → Result Binary MailFault
 binary_in p = of_binary (binary_of p)
 
+-- a build: its binaries, a paragraph each (Debian Policy 5.3), or the first fault
 unfoldable pub build_of : List Paragraph → Result Item MailFault
 build_of ps = each_of binary_in ps >>= λ binaries. Ok (item.Build binaries)
 
+-- a bug: its number, source and severity, and where it was found and fixed (Debian Developer's Reference 5.13.2)
 unfoldable pub bug_of : Paragraph → Result Item MailFault
 bug_of p = do
   bug ← value_in (number_in 1 999_999_999) p field.Bug
@@ -86,13 +92,15 @@ bug_of p = do
   fixed ← value_if_there version_in p field.Fixed
   Ok (item.Bug bug source severity found fixed)
 
+-- a hint (this office decides its form)
 unfoldable pub hint_of : Paragraph → Result Item MailFault
 hint_of p = required p field.Hint >>= λ text. hint_in text >>= λ hint. Ok (item.Hint hint)
 
+-- an unhint: the number of the hint that it cancels (this office decides it)
 unfoldable pub unhint_of : Paragraph → Result Item MailFault
 unhint_of p = value_in (number_in 1 999_999_999) p field.Cancels >>= λ number. Ok (item.Unhint number)
 
--- the days of each urgency; emergency and critical are one
+-- the days of each urgency; emergency equals critical
 unfoldable pub delays_of : Paragraph → Result Item MailFault
 delays_of p = do
   low ← value_in days_in p field.Low
@@ -101,6 +109,7 @@ delays_of p = do
   critical ← value_in days_in p field.Critical
   Ok (item.Delays low medium high critical)
 
+-- a run order: its day and its covers (this office decides it)
 unfoldable pub order_of : Lists → Paragraph → Result RunOrder MailFault
 order_of setup p = do
   day ← value_in day_in p field.Day
@@ -108,9 +117,11 @@ order_of setup p = do
   covers ← covers_in setup text
   Ok (record { day = day; covers = covers })
 
+-- the item as a message's body
 abbrev pub said : Result Item MailFault → Result Body MailFault
 said r = r >>= λ i. Ok (Saying i)
 
+-- the body of a message of this kind, from its paragraphs (this office decides the kinds)
 unfoldable pub body_of : Lists → Kind → Paragraph → List Paragraph → Result Body MailFault
 body_of setup kind.Upload first rest = said (upload_of first)
 body_of setup kind.Drop first rest = said (drop_of first)
@@ -122,54 +133,58 @@ body_of setup kind.Delays first rest = said (delays_of first)
 body_of setup kind.Run first rest = order_of setup first >>= λ order. Ok (Run order)
 body_of setup kind.Nothing first rest = Ok (Saying item.Nothing)
 
--- The checks before that.
+-- The earlier checks.
 
--- the first field that one of these paragraphs lacks is a fault
+-- the first field missing from one of these paragraphs is a fault
 unfoldable pub all_have : List Field → List Paragraph → Result Bool MailFault
 all_have fields [] = Ok true
 all_have fields (p ∷ ps) = has_fields fields p >>= λ yes. all_have fields ps
 
--- a build has a paragraph for each binary, and one at least
+-- a build has one paragraph for each binary, at least one
 abbrev pub has_binaries : List Paragraph → Result Bool MailFault
 has_binaries [] = Err (MissingField field.Package)
 has_binaries (p ∷ ps) = all_have binary_fields_needed (p ∷ ps)
 
--- the fields of a kind are there; a kind that is none has no fields
+-- the fields of a kind are given; an unknown kind needs no fields
 unfoldable pub has_fields_of : Option Kind → Paragraph → List Paragraph → Result Bool MailFault
 has_fields_of None first rest = Ok true
 has_fields_of (Some kind.Build) first rest = has_binaries rest
 has_fields_of (Some k) first rest = has_fields (fields_needed k) first
 
--- the sender of a name, and its place in the setup
+-- the sender with a name, and its place in the setup
 abbrev pub sender_from : ℕ → List ℕ → List Sender → Option (ℕ × Role)
 sender_from place name [] = None
 sender_from place name (s ∷ ss) = if bytes_eq s.name name then Some (place, s.role) else sender_from (place + 1) name ss
 
+-- the sender of a setup with a name, and its place
 unfoldable pub sender_named : Lists → List ℕ → Option (ℕ × Role)
 sender_named setup name = sender_from 0 name setup.senders
 
--- 63 paragraphs may follow the first in a build, and none in any other kind
+-- a build may have 63 paragraphs after the first, any other kind none
 abbrev pub most_paragraphs : Kind → ℕ
 most_paragraphs kind.Build = 63
 most_paragraphs _ = 0
 
--- an architecture that is listed, or `all`
+-- a listed architecture, or `all`
 abbrev pub is_arch : List (List ℕ) → List ℕ → Bool
 is_arch archs name = bytes_eq name (codes "all") || list_any (bytes_eq name) archs
 
+-- a missing architecture, a listed one, or `all`
 abbrev pub is_arch_if_there : List (List ℕ) → Option (List ℕ) → Bool
 is_arch_if_there archs None = true
 is_arch_if_there archs (Some name) = is_arch archs name
 
+-- the paragraph names only known architectures
 unfoldable pub knows_arch : Lists → Paragraph → Bool
 knows_arch setup p = is_arch_if_there setup.archs (text_of p field.Architecture)
 
+-- the architectures in a message of this kind are known
 unfoldable pub knows_archs : Lists → Kind → Paragraph → List Paragraph → Bool
 knows_archs setup kind.Drop first rest = knows_arch setup first
 knows_archs setup kind.Build first rest = list_all (knows_arch setup) rest
 knows_archs setup _ first rest = true
 
--- what the paragraphs say under the sender, the number and the kind that the first of them states
+-- the message of the paragraphs, with this sender, number and kind from the first
 unfoldable pub message_of : Lists → List ℕ → List ℕ → Option Kind → Paragraph → List Paragraph → Result Message MailFault
 message_of setup from number stated first rest = do
   sender ← given (sender_named setup from) UnknownSender
@@ -181,6 +196,7 @@ message_of setup from number stated first rest = do
   body ← body_of setup kind first rest
   Ok (record { sender = sender.0; number = n; body = body })
 
+-- the message of the paragraphs, if the first names a sender, a number and a kind
 unfoldable pub paragraphs_say : Lists → Paragraph → List Paragraph → Result Message MailFault
 paragraphs_say setup first rest = do
   from ← required first field.From
@@ -189,7 +205,7 @@ paragraphs_say setup first rest = do
   _ ← has_fields_of (kind_named kind) first rest
   message_of setup from number (kind_named kind) first rest
 
--- the message that a text is, or the first refusal
+-- the message in a text, or the first refusal
 unfoldable pub read : Lists → List ℕ → Result Message MailFault
 read setup text = do
   _ ← needs (nat_le (length text) 65_536) TooLong

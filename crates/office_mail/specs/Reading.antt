@@ -1,18 +1,18 @@
--- How far a bag has been read.
+-- The progress of reading a bag.
 use Rattle.std.specs.Prelude.{ℕ, Bool, Option, List}
 
 pub record Reading : Type 0 where
-  -- the bytes from here on, where they are known: those that came and wait, then what the reader has still to give
+  -- the bytes from here on, if known: those that arrived and wait, then those that the reader has yet to give
   pub left : Option (List ℕ)
-  -- of these, what the reader has still to give
+  -- those of these bytes that the reader has yet to give
   pub unread : Option (List ℕ)
-  -- how often the reader was asked in all, how often it has failed, and how often it was asked for this bag
+  -- how often the reader was called in all, how often it failed, and how often it was called for this bag
   pub calls : ℕ
   pub failures : ℕ
   pub reads : ℕ
-  -- a read gave no byte: the end of the input has been met
+  -- a read gave no byte: the end of the input was met
   pub met_end : Bool
-  -- how many bytes can still come
+  -- how many more bytes may arrive
   pub room : ℕ
-  -- the end has come, and nothing more will
+  -- the end was met, and no more bytes will arrive
   pub ended : Bool

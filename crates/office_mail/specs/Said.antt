@@ -1,4 +1,4 @@
--- What each message keeps: its sender has the role that its kind needs, and the architectures that it names are known.
+-- The invariant of messages: the sender has the role needed for the kind, and the named architectures are known.
 use Rattle.std.specs.Prelude.{◌≡◌, ℕ, Bool, true, List, Some}
 use Rattle.std.specs.List.{list_all}
 use Rattle.deb_control.specs.declared.binary.Binary.{Binary}
@@ -14,7 +14,7 @@ use Rattle.office_mail_setup.specs.Lists.{Lists}
 use Rattle.office_mail.specs.Read.{is_arch}
 use Rattle.office_mail_setup.specs.Setup.{count_of, place_of_role}
 
--- the kind of what is said
+-- the kind of a body
 abbrev pub kind_of : Body → Kind
 kind_of (Saying (item.Upload source version urgency day)) = kind.Upload
 kind_of (Saying (item.Dropped name arch version)) = kind.Drop
@@ -26,14 +26,14 @@ kind_of (Saying (item.Delays low medium high critical)) = kind.Delays
 kind_of (Saying item.Nothing) = kind.Nothing
 kind_of (Run order) = kind.Run
 
--- each architecture that is named is listed, or `all`
+-- each named architecture is listed or `all`
 abbrev pub knows_named : List (List ℕ) → Body → Bool
 knows_named archs (Saying (item.Dropped name arch version)) = is_arch archs arch
 knows_named archs (Saying (item.Build binaries)) = list_all (λ (b : Binary). is_arch archs b.architecture) binaries
 knows_named archs _ = true
 
--- A message keeps to the setup: where one sender alone has the role that its kind needs, it is from that sender,
--- and it names no architecture that is neither listed nor `all`.
+-- A message respects the setup: if only one sender has the role needed for its kind, it is from that sender, and all
+-- architectures that it names are listed or `all`.
 pub record KeepsTo (setup : Lists) (message : Message) : Type 0 where
   pub sender : (role : Role) → role_needed (kind_of message.body) ≡ Some role → count_of role setup.senders ≡ 1 → message.sender ≡ place_of_role role setup.senders
   pub archs : knows_named setup.archs message.body ≡ true

@@ -1,4 +1,4 @@
-//! Bags: messages one after another, each behind a line that says how long it is.
+//! Bags: messages one after another, each after a line with its length.
 ghost use Rattle.std.specs.Prelude.{◌≡◌, ℕ, ◌+◌, ◌<◌, ◌≤◌, ◌⊎◌, nat_lt, List, [], ◌∷◌, ◌++◌, IsTrue, ◌↔◌, Some, None, Ok, Err, IsSome, IfSome, OnOk, OnErr, IfOk, IfErr, true, false, IsErrOf, vec_len, length, take, drop};
 ghost use Rattle.std.specs.Io.KnownBytes.{Consumes, IsAtEnd, Keeps};
 ghost use Rattle.office_mail.specs.Counts.{HasRisen};
@@ -41,7 +41,7 @@ impl<T: Drop> From<AllocFailed<T>> for BagFault {
     }
 }
 
-/// A reader of messages: each stands behind a line `mail N`, N being its length in bytes.
+/// A reader of messages, each after a line `mail N` with its length N in bytes.
 #[derive(Drop)]
 pub struct Bag<R: Feed> {
     alloc: Global,
@@ -76,7 +76,7 @@ impl<R: Feed> Model for Bag<R> {
 }
 
 impl<R: Feed> Bag<R> {
-    /// Nothing is read yet, and no memory is taken.
+    /// A reader that has read nothing and allocates nothing.
     pub fn new(alloc: Global, reader: R) -> Bag<R>
         ensures left { result.left ≡ R.left reader }
         ensures unread { result.unread ≡ R.left reader }
@@ -99,14 +99,14 @@ impl<R: Feed> Bag<R> {
 
     /// The next message. After a refusal, and after the end, the answer is `Ok(None)`.
     ///
-    /// Of a message of more than 65,536 bytes the first 65,537 are handed out.
-    /// At most 1,000,000 reads are made for a bag, of at most 8,192 bytes each; one that failed isn't made again.
+    /// A message of more than 65,536 bytes is cut: its first 65,537 are returned. At most 1,000,000 reads are made for
+    /// a bag, each of at most 8,192 bytes; a failed read isn't repeated.
     pub fn next(&mut self) -> Result<Option<Vec<u8>>, BagFault>
         ensures message { IfOk result (λ next. IfSome next (λ message. TakesMessage self.old self.new message.items)) }
         ensures plain { result ≡ Ok None → self.old.ended ≡ false → Stops self.old self.new None }
         ensures fault { IfErr result (λ fault. Stops self.old self.new (Some fault)) }
 
-        // A read fails exactly where the answer is ReadFault, but for the last of the reads.
+        // A read fails exactly if the answer is ReadFault, except for the last of the reads.
         ensures cause { IsErrOf result BagFault.ReadFault → ReadFails self.old self.new }
         ensures clean { IsErrOf result BagFault.ReadFault ⊎ (self.new.failures ≡ self.old.failures) }
 
@@ -115,8 +115,8 @@ impl<R: Feed> Bag<R> {
 
         ensures failures { self.old.failures ≤ self.new.failures }
         ensures reads { self.new.reads ≤ 1_000_000 }
-        // A call of the reader is counted as a read, and a read that is counted is a call of the reader that gives 8,192
-        // bytes at most.
+        // Each call of the reader is counted as a read, and each counted read is a call of the reader that gives at
+        // most 8,192 bytes.
         ensures calls { self.new.calls + self.old.reads ≤ self.old.calls + self.new.reads }
         ensures counts { CountsEach self.old self.new }
 
@@ -171,7 +171,7 @@ impl<R: Feed> Bag<R> {
         }
     }
 
-    /// A message of that length. If all of its bytes have come, they are copied at once.
+    /// A message of that length. If all of its bytes have arrived, they are copied at once.
     fn body(&mut self, length: u32) -> Result<Vec<u8>, BagFault>
         ensures whole { IfOk result (λ message. TakesBody self.old self.new length message.items) }
         ensures fault { IfErr result (λ fault. BreaksOff self.old self.new length fault) }
@@ -205,7 +205,7 @@ impl<R: Feed> Bag<R> {
         Ok(message)
     }
 
-    /// The next byte, or none at the end. Once the end is met, no read is made.
+    /// The next byte, or none at the end. Once the end is met, no more reads are made.
     fn next_byte(&mut self) -> Result<Option<u8>, BagFault>
         ensures byte { IfOk result (λ byte. IfSome byte (λ b. Consumes self.old.left self.new.left (b ∷ []))) }
         ensures waits { OnOk result (Waits self.new) }
@@ -237,12 +237,12 @@ impl<R: Feed> Bag<R> {
     }
 }
 
-/// What came is one list of messages, wherever the bag ended: a refusal hides none of them.
+/// The input is one list of messages, wherever the bag ended: a refusal hides none of them.
 pub fn reads_one_way()
     ensures { ReadsOneWay }
 {}
 
-/// The part of a header line that has come.
+/// The part of a header line that has arrived.
 #[derive(Drop)]
 struct Line {
     place: usize,
@@ -250,7 +250,7 @@ struct Line {
     ghost line: { IsLine place value },
 }
 
-/// What one more byte makes of a line.
+/// The effect of one more byte on a line.
 #[derive(Drop)]
 enum LineStep {
     More(Line),
@@ -269,7 +269,7 @@ impl Line {
         Line { place: 0, value: 0 }
     }
 
-    /// What one more byte makes of the line.
+    /// The effect of one more byte on the line.
     fn with(&self, byte: u8) -> LineStep
         ensures { StepsTo self.now.place self.now.value byte result }
     {
@@ -328,7 +328,7 @@ impl Line {
     }
 }
 
-/// A message of so many bytes has come whole, from a place on, and it has no surplus.
+/// A message with this many bytes has arrived completely, from a place on, without surplus.
 fn has_come(pending: &[u8], at: usize, count: u32) -> bool
     requires { at ≤ length pending.now }
     ensures whole { result ≡ true → at + count ≤ length pending.now }
@@ -338,7 +338,7 @@ fn has_come(pending: &[u8], at: usize, count: u32) -> bool
     count <= LONGEST && count <= pending.len() - at
 }
 
-/// So many of the bytes, from a place on.
+/// This many of the bytes, from a place on.
 fn copied(alloc: Global, pending: &[u8], at: usize, count: u32) -> Result<Vec<u8>, BagFault>
     requires { at + count ≤ length pending.now }
     ensures bytes { IfOk result (λ message. message.items ≡ take count (drop at pending.now)) }
@@ -351,7 +351,7 @@ fn copied(alloc: Global, pending: &[u8], at: usize, count: u32) -> Result<Vec<u8
     }
 }
 
-/// Adds a byte to what is handed out of a message, but for a surplus.
+/// Adds a byte to the returned part of a message, unless it is surplus.
 fn push_within_limit(message: &mut Vec<u8>, byte: u8) -> Result<(), BagFault>
     ensures handed { OnOk result ((whole : List ℕ) → message.old.items ≡ handed whole → message.new.items ≡ handed (whole ++ byte ∷ [])) }
     ensures fault { IfErr result (λ fault. fault ≡ BagFault.NoMemory) }
@@ -362,7 +362,7 @@ fn push_within_limit(message: &mut Vec<u8>, byte: u8) -> Result<(), BagFault>
     Ok(())
 }
 
-/// Puts what one read gives in the place of the bytes. False at the end.
+/// Replaces the bytes with those of one read. False at the end.
 fn refill<R: Feed>(reader: &mut R, pending: &mut Vec<u8>) -> Result<bool, BagFault>
     ensures more { OnOk result (Consumes (R.left reader.old) (R.left reader.new) pending.new.items) }
     ensures some { IsErrOf result BagFault.NoMemory ⊎ IsErrOf result BagFault.ReadFault ⊎ (result ≡ Ok (nat_lt 0 (vec_len pending.new))) }

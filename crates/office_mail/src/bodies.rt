@@ -1,4 +1,4 @@
-//! What messages of each kind say.
+//! The content of each kind of message.
 ghost use Rattle.std.specs.Prelude.{◌≡◌, ◌<◌, IfSome, Ok, length};
 ghost use Rattle.deb_control.specs.Binary.{binary_of};
 ghost use Rattle.office_mail.specs.Answers.{Gives, GivesBy};
@@ -17,7 +17,7 @@ use office_mail_setup::{Field, Kind, Setup};
 use std::alloc::Global;
 use testing_rules_items::{Binaries, Item};
 
-/// What the paragraphs say, where the kind is known.
+/// The content of the paragraphs of a known kind.
 #[tactic(auto, unfolding(crate::specs::Read::body_of))]
 pub fn body_of(
     alloc: Global,
@@ -101,8 +101,8 @@ fn each_binary(alloc: Global, paragraphs: &[Paragraph<'_>]) -> Result<Vec<Binary
     Ok(binaries)
 }
 
-/// The binary of a paragraph, beside those of the first paragraphs. A package that is built on two architectures mostly
-/// needs the same on both, so it shares its clauses with one of its name.
+/// The binary of a paragraph, given those of the first paragraphs. A package built on two architectures usually has the
+/// same needs on both, so it shares its clauses with one of its name.
 fn binary_beside(
     alloc: Global,
     paragraph: &Paragraph<'_>,
@@ -120,7 +120,7 @@ fn binary_beside(
     binary_like(alloc, paragraph, before, &binaries[place])
 }
 
-/// Where a binary of this name stands, if there is one.
+/// The place of a binary with this name, if there is one.
 fn place_named(name: &str, binaries: &[Binary]) -> Option<usize>
     ensures { IfSome result (λ place. place < length binaries.now) }
 {
@@ -132,7 +132,7 @@ fn place_named(name: &str, binaries: &[Binary]) -> Option<usize>
     None
 }
 
-/// What was read of a binary, as mail has it.
+/// The result of reading a binary, in the form of mail.
 fn of_binary(read: Result<Binary, BinaryFault>) -> Result<Binary, MailFault>
     ensures { result ≡ of_binary read }
 {
@@ -148,7 +148,7 @@ fn binary_in(alloc: Global, paragraph: &Paragraph<'_>) -> Result<Binary, MailFau
     of_binary(Binary::parse(alloc, paragraph))
 }
 
-/// The binary that a paragraph describes, beside the binary of another paragraph.
+/// The binary that a paragraph describes, given the binary of another paragraph.
 fn binary_like(
     alloc: Global,
     paragraph: &Paragraph<'_>,

@@ -14,7 +14,7 @@ use office_mail_setup::{Field, values};
 use std::alloc::Global;
 use testing_rules_items::{Severity, Urgency};
 
-/// The text of a field that must be there.
+/// The text of a mandatory field.
 #[tactic(auto, unfolding(crate::specs::Fields::required))]
 pub fn required<'a>(paragraph: &Paragraph<'a>, field: Field) -> Result<&'a str, MailFault>
     ensures { GivesBy (λ text. text.now) result (required paragraph.now field) }
@@ -25,7 +25,7 @@ pub fn required<'a>(paragraph: &Paragraph<'a>, field: Field) -> Result<&'a str, 
     }
 }
 
-/// These fields are there, or the first one missing is the fault.
+/// Checks that these fields are given; the first missing one is the fault.
 pub fn has_fields(paragraph: &Paragraph<'_>, fields: &[Field]) -> Result<bool, MailFault>
     ensures { Gives result (has_fields fields.now paragraph.now) }
 {
@@ -112,7 +112,7 @@ pub fn version(alloc: Global, paragraph: &Paragraph<'_>, field: Field) -> Result
     version_from(alloc, field, text)
 }
 
-/// The version of a field that may be absent.
+/// The version in an optional field.
 #[tactic(auto, unfolding(crate::specs::Fields::value_if_there))]
 pub fn version_if_there(
     alloc: Global,

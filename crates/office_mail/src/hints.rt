@@ -17,7 +17,7 @@ use testing_rules_items::{Hint, HintItem, HintItems, Names, are_distinct};
 
 const BAD_HINT: MailFault = MailFault::BadValue(Field::Hint);
 
-/// The hint that a text is.
+/// The hint in a text.
 #[tactic(auto, unfolding(crate::specs::Hints::hint_in))]
 pub fn hint_in(alloc: Global, text: &str) -> Result<Hint, MailFault>
     ensures { Gives result (hint_in text.now) }
@@ -29,7 +29,7 @@ pub fn hint_in(alloc: Global, text: &str) -> Result<Hint, MailFault>
     }
 }
 
-/// The hint that a word and the words after it are.
+/// The hint with this word and the words after it.
 #[tactic(auto, unfolding(crate::specs::Hints::hint_of))]
 fn hint_of(alloc: Global, word: &str, rest: &[&str]) -> Result<Hint, MailFault>
     ensures { Gives result (hint_of word.now (map (λ w. w.now) rest.now)) }
@@ -60,7 +60,7 @@ fn aged_in(alloc: Global, words: &[&str]) -> Result<Hint, MailFault>
     Ok(Hint::AgeDays(days, items))
 }
 
-/// Of what blocks all there is one: `source` alone.
+/// Only one thing can be blocked as a whole: `source`.
 #[tactic(auto, unfolding(crate::specs::Hints::all_in))]
 fn all_in(words: &[&str]) -> Result<Hint, MailFault>
     ensures { Gives result (all_in (map (λ w. w.now) words.now)) }
@@ -75,7 +75,7 @@ fn all_in(words: &[&str]) -> Result<Hint, MailFault>
     }
 }
 
-/// Names of sources, one at least.
+/// Names of sources, at least one.
 #[tactic(auto, unfolding(crate::specs::Hints::names_in))]
 fn names_in(alloc: Global, words: &[&str]) -> Result<Names, MailFault>
     ensures { Gives result (names_in (map (λ w. w.now) words.now)) }
@@ -107,7 +107,7 @@ fn name_in(alloc: Global, word: &str) -> Result<Text, MailFault>
     Ok(Text::from_str(alloc, word)?)
 }
 
-/// Items, one at least.
+/// Items, at least one.
 #[tactic(auto, unfolding(crate::specs::Hints::items_in))]
 fn items_in(alloc: Global, words: &[&str]) -> Result<HintItems, MailFault>
     ensures { Gives result (items_in (map (λ w. w.now) words.now)) }
@@ -145,7 +145,7 @@ fn item_in(alloc: Global, word: &str) -> Result<HintItem, MailFault>
     Ok(HintItem { name, version })
 }
 
-/// What stands before and after the first `/`.
+/// The text before and after the first `/`.
 fn split_item(word: &str) -> Option<(&str, &str)>
     ensures none { IfNone result (list_any is_slash word.now ≡ false) }
     ensures some { IfSome result (λ parts. (list_any is_slash word.now ≡ true) × (parts.0.now ≡ before_first is_slash word.now) × (parts.1.now ≡ after_first is_slash word.now)) }
@@ -157,7 +157,7 @@ fn split_item(word: &str) -> Option<(&str, &str)>
     Some(split_around(word, slash))
 }
 
-/// Items of which no two name the same source.
+/// Items that all name different sources.
 #[tactic(auto, unfolding(crate::specs::Hints::group_in))]
 fn group_in(alloc: Global, words: &[&str]) -> Result<HintItems, MailFault>
     ensures { Gives result (group_in (map (λ w. w.now) words.now)) }

@@ -1,4 +1,4 @@
-//! Laws of mail: the order in which it comes doesn't matter, and later mail changes no run that is ready.
+//! Laws of mail: its order of arrival doesn't matter, and later mail changes no ready run.
 ghost use Rattle.std.specs.Prelude.{◌≡◌, ◌∷◌, ℕ, List, Some, Ok};
 ghost use Rattle.std.specs.FinMap.{empty, get};
 ghost use Rattle.office_mail.specs.declared.message.Message.{Message};
@@ -9,26 +9,26 @@ ghost use Rattle.office_mail.specs.Laws.{CanTake, Delivers, OneText, SameRun, Sa
 ghost use Rattle.office_mail.specs.Runs.{IsReady};
 ghost use Rattle.office_mail.specs.Said.{KeepsTo};
 
-/// Two lists of deliveries with the same well-formed texts, in any order and with any repeats, leave the
-/// same kept mail, if no sender gives one number two texts.
+/// Two lists of deliveries with the same well-formed texts, in any order and with repetitions, lead to the same kept
+/// mail, if no sender has two texts under one number.
 pub fn same_set()
     ensures same { (setup : Lists) (xs ys : List (List ℕ)) → OneText setup xs → OneText setup ys → SameTexts setup xs ys → kept_from setup empty xs ≡ kept_from setup empty ys }
     // Each well-formed text is then kept at its place.
     ensures kept { (setup : Lists) (xs : List (List ℕ)) (text : List ℕ) (message : Message) → OneText setup xs → Delivers setup xs text message → get (kept_from setup empty xs) (place_of message) ≡ Some text }
-    // Whatever of such a list came before it, a well-formed text is held: what is answered to a delivery depends on its text alone.
+    // Whatever part of such a list came before, a well-formed text is accepted: the answer to a delivery depends only
+    // on its text.
     ensures reply { (setup : Lists) (before : List (List ℕ)) (text : List ℕ) (message : Message) → read setup text ≡ Ok message → OneText setup (text ∷ before) → CanTake (kept_from setup empty before) (place_of message) text }
 {}
 
-/// A run that is ready stays ready whatever mail comes later, and sees the same: its orders, its cover, its
-/// date and its covered mail.
+/// A ready run stays ready whatever mail comes later, and sees the same orders, cover, date and covered mail.
 pub fn later_mail()
     ensures run { (setup : Lists) (small large : Kept) (k : ℕ) → Within small large → IsReady setup small k → SameRun setup small large k }
     // Deliveries only add to the kept mail.
     ensures within { (setup : Lists) (kept : Kept) (texts : List (List ℕ)) → Within kept (kept_from setup kept texts) }
 {}
 
-/// Each message keeps to its setup: it is from the one sender of bugs, of the release team or of runs where its
-/// kind is theirs, and names only architectures that are listed, or `all`.
+/// Each message respects its setup: if its kind belongs to bugs, the release team or runs, it is from their only
+/// sender, and it names only listed architectures, or `all`.
 pub fn keeps_to_setup()
     ensures { (setup : Lists) (text : List ℕ) (message : Message) → read setup text ≡ Ok message → KeepsTo setup message }
 {}

@@ -1,4 +1,4 @@
-//! Mail of a migration office: its bags, its setup, its messages and when a run is ready.
+//! Mail of a migration office: its bags, its setup, its messages, and when a run is ready.
 #![tactic(auto)]
 
 mod bag;

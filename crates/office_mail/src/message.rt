@@ -1,4 +1,4 @@
-//! Messages: what a text says, or why it says nothing.
+//! Messages: the content of a text, or why it isn't a message.
 ghost use Rattle.std.specs.Prelude.{◌≡◌};
 ghost use Rattle.office_mail.specs.declared.message.MailFault.TheVariants as fault;
 
@@ -12,7 +12,7 @@ use thiserror::Error;
 /// The greatest number of a message, and so of a run.
 pub const MAX_NUMBER: u32 = 999_999_999;
 
-/// Why a text is no message. The first that applies is given.
+/// Why a text isn't a message. The first fault that applies is reported.
 #[derive(Clone, Copy, Debug, PartialEq, Eq, Error)]
 pub enum MailFault {
     #[error("the text is too long")]
@@ -62,7 +62,7 @@ pub struct RunOrder {
     pub covers: Numbers,
 }
 
-/// What a message says.
+/// The content of a message.
 #[derive(Drop)]
 pub enum Body {
     /// Something about packages, bugs or hints, or nothing.
@@ -72,7 +72,7 @@ pub enum Body {
     Run(RunOrder),
 }
 
-/// A message, under its sender's place in the setup and its number.
+/// A message, with its sender's place in the setup and its number.
 #[derive(Drop)]
 pub struct Message {
     pub sender: u32,

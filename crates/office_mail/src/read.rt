@@ -20,8 +20,8 @@ use office_mail_setup::values::number_in;
 use office_mail_setup::{Field, Kind, Role, Setup, all_paragraphs};
 use std::alloc::Global;
 
-/// The message that a text is: its sender's place in the setup, its number, and what it says. Of the faults the
-/// first that applies is given, in the order in which they are listed; `NoMemory` may come at any place.
+/// The message in a text: its sender's place in the setup, its number, and its content. The first fault that applies is
+/// reported, in the listed order; memory may run out at any point.
 pub fn read_message(alloc: Global, setup: &Setup, text: &[u8]) -> Result<Message, MailFault>
     ensures exact { (result ≡ read setup.now text.now) ⊎ (result ≡ Err MailFault.NoMemory) }
     ensures place { IfOk result (λ message. IsPlace setup.now (place_of message)) }
@@ -71,7 +71,7 @@ fn paragraphs_say(
     message_of(alloc, setup, from, number, kind, first, rest)
 }
 
-/// The fields of the kind are there.
+/// Checks the fields of the kind.
 #[tactic(auto, unfolding(crate::specs::Read::has_fields_of))]
 fn has_fields_of(
     kind: Option<Kind>,
@@ -144,7 +144,7 @@ fn message_of(
     })
 }
 
-/// The place of the sender of a name, and its role.
+/// The place and the role of the sender with a name.
 #[tactic(auto, unfolding(crate::specs::Read::sender_named))]
 fn sender_named(setup: &Setup, name: &str) -> Option<(u32, Role)>
     ensures found { result ≡ sender_named setup.now name.now }
@@ -160,7 +160,7 @@ fn sender_named(setup: &Setup, name: &str) -> Option<(u32, Role)>
     None
 }
 
-/// How many paragraphs may follow the first.
+/// The most paragraphs after the first.
 fn most_paragraphs(kind: Kind) -> usize
     ensures { result ≡ most_paragraphs kind }
 {
@@ -202,7 +202,7 @@ fn knows_arch(setup: &Setup, paragraph: &Paragraph<'_>) -> bool
     }
 }
 
-/// An architecture that is listed, or `all`.
+/// A listed architecture, or `all`.
 fn is_arch(setup: &Setup, name: &str) -> bool
     ensures { result ≡ is_arch setup.now.archs name.now }
 {

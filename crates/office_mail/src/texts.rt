@@ -23,7 +23,7 @@ impl Model for Numbers {
 }
 
 impl Numbers {
-    /// These numbers. It takes no memory.
+    /// These numbers. It allocates nothing.
     pub fn of(numbers: Vec<u32>) -> Numbers
         ensures { result ≡ numbers.items }
     {

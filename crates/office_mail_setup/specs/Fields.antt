@@ -1,11 +1,11 @@
--- The fields of messages: how they are spelled, and where a paragraph has them.
+-- The fields of messages: their spelling, and their text in a paragraph.
 use Rattle.std.specs.Prelude.{ℕ, List, codes, Option}
 use Rattle.deb_control.specs.Paragraphs.{value_of}
 use Rattle.office_mail_setup.specs.declared.field.Field.{Field}
 use Rattle.office_mail_setup.specs.declared.field.Field.TheVariants.{From, Number, Kind, Source, Version, Urgency, Day, Package, Architecture, PreDepends, Depends, Provides, Bug, Severity, Found, Fixed, Hint, Cancels, Low, Medium, High, Critical, Covers}
 use Rattle.office_mail_setup.specs.Steps.{Paragraph}
 
--- how a field is spelled
+-- the spelling of a field
 abbrev pub field_name : Field → List ℕ
 field_name From = codes "From"
 field_name Number = codes "Number"
@@ -31,6 +31,6 @@ field_name High = codes "High"
 field_name Critical = codes "Critical"
 field_name Covers = codes "Covers"
 
--- a field's text, where the paragraph has the field
+-- a field's text, if the paragraph has the field
 abbrev pub text_of : Paragraph → Field → Option (List ℕ)
 text_of p field = value_of p (field_name field)

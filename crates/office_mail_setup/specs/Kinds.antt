@@ -1,4 +1,4 @@
--- The kinds of messages: their names, who sends them, and their fields.
+-- The kinds of messages: their names, senders and fields.
 use Rattle.std.specs.Prelude.{ℕ, Bool, not, if◌then◌else◌, List, [], ◌∷◌, codes, Option, Some, None}
 use Rattle.std.specs.Str.{bytes_eq}
 use Rattle.office_mail_setup.specs.declared.kind.Kind.{Kind}
@@ -9,7 +9,7 @@ use Rattle.office_mail_setup.specs.Setup.{same_role}
 use Rattle.office_mail_setup.specs.declared.field.Field.{Field}
 use Rattle.office_mail_setup.specs.declared.field.Field.TheVariants as field
 
--- the kind of this name
+-- the kind with this name
 unfoldable pub kind_named : List ℕ → Option Kind
 kind_named text =
     if bytes_eq text (codes "upload") then Some kind.Upload
@@ -23,7 +23,7 @@ kind_named text =
     else if bytes_eq text (codes "none") then Some kind.Nothing
     else None
 
--- the role that a kind needs; a message that says nothing needs none
+-- the role needed to send a kind; a message that says nothing needs none
 abbrev pub role_needed : Kind → Option Role
 role_needed kind.Upload = Some Upload
 role_needed kind.Drop = Some Upload
@@ -35,16 +35,16 @@ role_needed kind.Delays = Some Release
 role_needed kind.Run = Some Runs
 role_needed kind.Nothing = None
 
--- a sender has the role that is needed; where none is, it isn't the sender of runs
+-- the sender has the needed role; if none is needed, it isn't the sender of runs
 abbrev pub has_role : Option Role → Role → Bool
 has_role None role = not (same_role Runs role)
 has_role (Some needed) role = same_role needed role
 
--- what a sender of a role may send
+-- what a sender with a role may send
 abbrev pub may_send : Role → Kind → Bool
 may_send role k = has_role (role_needed k) role
 
--- the fields that must be in the first paragraph, beside From, Number and Kind
+-- the fields needed in the first paragraph besides From, Number and Kind
 abbrev pub fields_needed : Kind → List Field
 fields_needed kind.Upload = field.Source ∷ field.Version ∷ field.Urgency ∷ field.Day ∷ []
 fields_needed kind.Drop = field.Package ∷ field.Architecture ∷ field.Version ∷ []
@@ -56,6 +56,6 @@ fields_needed kind.Delays = field.Low ∷ field.Medium ∷ field.High ∷ field.
 fields_needed kind.Run = field.Day ∷ field.Covers ∷ []
 fields_needed kind.Nothing = []
 
--- the fields that must be in each further paragraph of a build
+-- the fields needed in each further paragraph of a build
 abbrev pub binary_fields_needed : List Field
 binary_fields_needed = field.Package ∷ field.Version ∷ field.Architecture ∷ []

@@ -1,4 +1,4 @@
--- The setup of an office: what a setup's text says, or its first fault.
+-- The setup of an office: the content of a setup's text, or its first fault.
 use Rattle.std.specs.Prelude.{ℕ, ◌+◌, ◌≡◌, ◌≤◌, Bool, true, false, ◌&&◌, ◌==◌, nat_le, if◌then◌else◌, List, [], ◌∷◌, length, map, codes, Option, Some, None, Result, Ok}
 use Rattle.std.specs.List.{list_all, count_by}
 use Rattle.std.specs.Str.{bytes_eq}
@@ -19,23 +19,26 @@ use Rattle.testing_rules_items.specs.Archs.{are_archs, IsArchs}
 use Rattle.testing_rules_items.specs.Distinct.{is_distinct}
 use Rattle.testing_rules_items.specs.Words.{most_archs}
 
--- how a field is spelled
+-- the spelling of a field
 abbrev pub setup_field_name : SetupField → List ℕ
 setup_field_name field.Architectures = codes "Architectures"
 setup_field_name field.Sender = codes "Sender"
 setup_field_name field.Role = codes "Role"
 
+-- the value of a field, or the fault that it is missing
 unfoldable pub stated : Paragraph → SetupField → Result (List ℕ) SetupFault
 stated p f = given (value_of p (setup_field_name f)) (MissingField f)
 
--- a sender's name: 1 to 32 lower case letters, digits and hyphens, a letter in front
+-- a sender's name: 1 to 32 lower case letters, digits and hyphens, beginning with a letter
 unfoldable pub is_sender_name : List ℕ → Bool
 is_sender_name [] = false
 is_sender_name (c ∷ cs) = nat_le (char "a") c && nat_le c (char "z") && list_all is_qualifier_char cs && nat_le (length cs) 31
 
+-- senders' names: valid and all different
 unfoldable pub are_senders : List (List ℕ) → Bool
 are_senders names = list_all is_sender_name names && is_distinct names
 
+-- the role with this name (this office decides the names)
 unfoldable pub role_named : List ℕ → Option Role
 role_named text =
     if bytes_eq text (codes "upload") then Some Upload
@@ -45,7 +48,7 @@ role_named text =
     else if bytes_eq text (codes "runs") then Some Runs
     else None
 
--- roles in order
+-- the number of a role
 abbrev pub role_number : Role → ℕ
 role_number Upload = 0
 role_number Build = 1
@@ -53,14 +56,15 @@ role_number Bugs = 2
 role_number Release = 3
 role_number Runs = 4
 
+-- both roles are the same (this office decides which roles exist)
 abbrev pub same_role : Role → Role → Bool
 same_role a b = role_number a == role_number b
 
--- how many senders have a role
+-- the number of senders with a role
 abbrev pub count_of : Role → List Sender → ℕ
 count_of role senders = count_by (λ (s : Sender). same_role role s.role) senders
 
--- uploads and builds have senders, and bugs, the release team and runs have one each
+-- uploads and builds have senders; bugs, the release team and runs have exactly one each
 unfoldable pub are_roles : List Sender → Bool
 are_roles senders =
     nat_le 1 (count_of Upload senders) && nat_le 1 (count_of Build senders)
@@ -70,8 +74,8 @@ are_roles senders =
 abbrev pub names_of : List Sender → List (List ℕ)
 names_of senders = map (λ (s : Sender). s.name) senders
 
--- What every setup keeps: its architectures are good, and so are the names of its senders, 16 at most and none
--- twice, of whom one each has the roles of bugs, the release team and runs, and one at least those of uploads and builds.
+-- The invariant of a setup: its architectures are valid, and so are the names of its senders, at most 16 and all
+-- different. Bugs, the release team and runs have exactly one sender each; uploads and builds have at least one.
 pub record IsSetup (setup : Lists) : Type 0 where
   pub archs : IsArchs setup.archs
   pub few : length setup.senders ≤ 16
@@ -83,22 +87,22 @@ pub record IsSetup (setup : Lists) : Type 0 where
   pub release : count_of Release setup.senders ≡ 1
   pub runs : count_of Runs setup.senders ≡ 1
 
--- what a sender's paragraph states: a name and a role's word
+-- the content of a sender's paragraph: a name and a role's word
 unfoldable pub sender_texts : Paragraph → Result (List ℕ × List ℕ) SetupFault
 sender_texts p = do
   name ← stated p field.Sender
   role ← stated p field.Role
   Ok (name, role)
 
--- the sender that they say
+-- the sender with this name and role
 unfoldable pub sender_in : List ℕ × List ℕ → Result Sender SetupFault
 sender_in s = given (role_named s.1) BadRoles >>= λ role. Ok (record { name = s.0; role = role })
 
--- a text is short enough, and has few enough architectures and senders
+-- a text is short enough, with few enough architectures and senders
 abbrev pub is_small : ℕ → List (List ℕ) → List Sender → Bool
 is_small size archs senders = nat_le (length archs) most_archs && nat_le (length senders) 16 && nat_le size 65_536
 
--- what the fields of a setup say
+-- the setup with these fields
 unfoldable pub setup_by : ℕ → List (List ℕ) → List (List ℕ × List ℕ) → Result Lists SetupFault
 setup_by size archs senders = do
   _ ← needs (are_archs archs) BadArchitecture
@@ -115,11 +119,11 @@ setup_of size paragraphs = do
   senders ← each_of sender_texts (rest_of paragraphs)
   setup_by size (words archs) senders
 
--- the setup that a text is, or its first fault
+-- the setup in a text, or its first fault
 unfoldable pub setup_in : List ℕ → Result Lists SetupFault
 setup_in text = whole (reading text) BadParagraph >>= λ paragraphs. setup_of (length text) paragraphs
 
--- the place of the first sender of a role; the number of senders where there is none
+-- the place of the first sender with a role, or the number of senders if there is none
 abbrev pub place_of_role : Role → List Sender → ℕ
 place_of_role role [] = 0
 place_of_role role (sender ∷ senders) = if same_role role sender.role then 0 else place_of_role role senders + 1

@@ -15,7 +15,7 @@ use Rattle.testing_rules_items.specs.declared.item.Urgency.TheVariants.{Low, Med
 use Rattle.testing_rules_items.specs.declared.item.Severity.{Severity}
 use Rattle.testing_rules_items.specs.declared.item.Severity.TheVariants as severity
 
--- the value, where it passes
+-- the value if it passes, else none
 abbrev pub some_if : {A : Type 0} → Bool → A → Option A
 some_if passes value = if passes then Some value else None
 
@@ -24,7 +24,7 @@ unfoldable pub is_number : List ℕ → Bool
 is_number [] = false
 is_number (c ∷ cs) = list_all is_ascii_digit (c ∷ cs) && (not (c == char "0") || length cs == 0)
 
--- the number that a text spells, where it is from low to high
+-- the number in a text, if it is from low to high
 unfoldable pub number_in : ℕ → ℕ → List ℕ → Option ℕ
 number_in low high text =
     some_if (is_number text && nat_le low (digits_value 10 text) && nat_le (digits_value 10 text) high) (digits_value 10 text)
@@ -33,7 +33,7 @@ number_in low high text =
 abbrev pub days_in : List ℕ → Option ℕ
 days_in text = number_in 0 9_999 text
 
--- the words of a text, which white separates
+-- the words of a text, separated by white
 unfoldable pub words : List ℕ → List (List ℕ)
 words text = filter not_empty (slice_split is_white text)
 
@@ -43,24 +43,25 @@ is_day_form text =
     length text == 10 && slice_index text 4 == char "-" && slice_index text 7 == char "-"
     && list_all is_ascii_digit (take 4 text) && list_all is_ascii_digit (take 2 (drop 5 text)) && list_all is_ascii_digit (take 2 (drop 8 text))
 
--- which has these parts
+-- the text has these parts
 pub record DayForm (text : List ℕ) : Type 0 where
   pub size : length text ≡ 10
   pub year : list_all is_ascii_digit (take 4 text) ≡ true
   pub month : list_all is_ascii_digit (take 2 (drop 5 text)) ≡ true
   pub day : list_all is_ascii_digit (take 2 (drop 8 text)) ≡ true
 
--- the day that a text spells as YYYY-MM-DD: a real one, from 1970-01-01 to 9999-12-31 (ISO 8601)
+-- the day in a text YYYY-MM-DD: a real one, from 1970-01-01 to 9999-12-31 (ISO 8601)
 unfoldable pub day_in : List ℕ → Option Date
 day_in text =
     if is_day_form text
     then day_if_real (digits_value 10 (take 4 text)) (digits_value 10 (take 2 (drop 5 text))) (digits_value 10 (take 2 (drop 8 text)))
     else None
 
--- a package name (Debian Policy 5.6.1) and a version (Debian Policy 5.6.12) are their own values
+-- a package name (Debian Policy 5.6.1), whose value is its text
 abbrev pub package_in : List ℕ → Option (List ℕ)
 package_in text = some_if (is_package_name text) text
 
+-- a version (Debian Policy 5.6.12), whose value is its text
 abbrev pub version_in : List ℕ → Option (List ℕ)
 version_in text = some_if (is_version text) text
 
@@ -74,10 +75,11 @@ urgency_named word =
     else if str_eq_ignore_ascii_case word (codes "critical") then Some Critical
     else None
 
--- it goes to the first space or tab, behind which any commentary may stand, or to the end
+-- an urgency ends at the first space or tab, where commentary may begin, or at the end
 abbrev pub ends_urgency : ℕ → Bool
 ends_urgency c = c == char " " || c == char "\t"
 
+-- the urgency at the front of a text (Debian Policy 5.6.17)
 unfoldable pub urgency_in : List ℕ → Option Urgency
 urgency_in text = urgency_named (before_first ends_urgency text)
 

@@ -31,7 +31,7 @@ pub enum Field {
 }
 
 impl Field {
-    /// How it is spelled.
+    /// Its spelling.
     pub fn name(self) -> &'static str
         ensures { result.now ≡ field_name self }
     {

@@ -20,7 +20,7 @@ pub enum Kind {
 }
 
 impl Kind {
-    /// The kind of this name.
+    /// The kind with this name.
     #[tactic(auto, unfolding(crate::specs::Kinds::kind_named))]
     pub fn named(name: &str) -> Option<Kind>
         ensures { result ≡ kind_named name.now }
@@ -39,7 +39,7 @@ impl Kind {
         }
     }
 
-    /// The fields that must be in the first paragraph, beside From, Number and Kind.
+    /// The fields needed in the first paragraph besides From, Number and Kind.
     pub fn fields_needed(self) -> &'static [Field]
         ensures { result.now ≡ fields_needed self }
     {
@@ -58,7 +58,7 @@ impl Kind {
 }
 
 impl Role {
-    /// Whether a sender of this role may send such messages.
+    /// Whether a sender with this role may send such messages.
     pub fn may_send(self, kind: Kind) -> bool
         ensures { result ≡ may_send self kind }
     {

@@ -1,4 +1,4 @@
-//! Who sends mail to an office: setups, roles, the kinds of messages with their fields, and what fields spell.
+//! Who sends mail to an office: setups, roles, the kinds of messages with their fields, and the values of fields.
 #![tactic(auto)]
 
 mod field;

@@ -1,4 +1,4 @@
-//! Who sends mail to the office, and for which architectures it decides.
+//! Who sends mail to the office, and the architectures for which it decides.
 ghost use Rattle.std.specs.Prelude.{◌≡◌, ◌<◌, ◌≤◌, IfOk, length};
 ghost use Rattle.office_mail_setup.specs.declared.setup.SetupFault.TheVariants as fault;
 ghost use Rattle.office_mail_setup.specs.SetupAnswers.{SetupGives};
@@ -30,7 +30,7 @@ impl Role {
         matches!(self, Role::Runs)
     }
 
-    /// The role of this name.
+    /// The role with this name.
     #[tactic(auto, unfolding(crate::specs::Setup::role_named))]
     pub fn named(name: &str) -> Option<Role>
         ensures { result ≡ role_named name.now }
@@ -75,7 +75,7 @@ pub enum SetupField {
 }
 
 impl SetupField {
-    /// How it is spelled.
+    /// Its spelling.
     pub fn name(self) -> &'static str
         ensures { result.now ≡ setup_field_name self }
     {
@@ -87,7 +87,7 @@ impl SetupField {
     }
 }
 
-/// Why a text is no setup. The first that applies is given.
+/// Why a text isn't a setup. The first fault that applies is reported.
 #[derive(Clone, Copy, Debug, PartialEq, Eq, Error)]
 pub enum SetupFault {
     #[error("a paragraph can't be read")]
@@ -149,15 +149,15 @@ impl Model for Setup {
 }
 
 impl Setup {
-    /// The setup that a text is. Of the faults the first that applies is given, in the order in which they are
-    /// listed; `NoMemory` may come at any place.
+    /// The setup in a text. The first fault that applies is reported, in the listed order; memory may run out at any
+    /// point.
     pub fn parse(alloc: Global, text: &[u8]) -> Result<Setup, SetupFault>
         ensures { SetupGives result (setup_said text.now) }
     {
         setup_in(alloc, text)
     }
 
-    /// A setup of these lists. It takes no memory.
+    /// A setup of these lists. It allocates nothing.
     pub(crate) fn of(archs: Archs, senders: Vec<Sender>) -> Setup
         requires { IsSetup (record { archs = archs; senders = senders.items }) }
         ensures { result ≡ record { archs = archs; senders = senders.items } }

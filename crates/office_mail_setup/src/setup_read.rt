@@ -15,14 +15,14 @@ use deb_control::{Paragraph, ParagraphFault, Text, is_qualifier_char};
 use std::alloc::{AllocError, Global};
 use testing_rules_items::{Archs, are_archs, are_distinct};
 
-/// What a sender's paragraph states.
+/// The content of a sender's paragraph.
 #[derive(Clone, Copy)]
 struct SenderLine<'a> {
     name: &'a str,
     role: &'a str,
 }
 
-/// The setup that a text is, or its first fault.
+/// The setup in a text, or its first fault.
 #[tactic(auto, unfolding(crate::specs::Setup::setup_in))]
 pub fn setup_in(alloc: Global, text: &[u8]) -> Result<Setup, SetupFault>
     ensures { SetupGives result (setup_in text.now) }

@@ -29,7 +29,7 @@ fn are_digits(text: &[u8]) -> bool
     text.iter().all(|c| c.is_ascii_digit())
 }
 
-/// The number that a text spells, where it is from `low` to `high`.
+/// The number in a text, if it is from `low` to `high`.
 #[tactic(auto, unfolding(crate::specs::Values::number_in))]
 pub fn number_in(low: u32, high: u32, text: &str) -> Option<u32>
     ensures { result ≡ number_in low high text.now }
@@ -60,7 +60,7 @@ fn within(low: u32, high: u32, value: u32) -> Option<u32>
     }
 }
 
-/// The words of a text, which white separates.
+/// The words of a text, separated by white.
 pub fn words<'a>(alloc: Global, text: &'a str) -> Result<Vec<&'a str>, AllocError>
     ensures { IfOk result (λ v. map (λ w. w.now) v.items ≡ words text.now) }
 {
@@ -74,7 +74,7 @@ pub fn words<'a>(alloc: Global, text: &'a str) -> Result<Vec<&'a str>, AllocErro
     Ok(words)
 }
 
-/// What stands before the first white, and the text from there on.
+/// The text before the first white, and the rest from there on.
 fn split_word(text: &str) -> (&str, &str)
     ensures word { result.0.now ≡ before_first is_white text.now }
     ensures rest { result.1.now ≡ drop (position_or_len is_white text.now) text.now }
@@ -91,7 +91,7 @@ fn white_at(bytes: &[u8]) -> Option<usize>
     bytes.iter().position(|c| is_white(*c))
 }
 
-/// The day that a text spells as YYYY-MM-DD, from 1970-01-01 to 9999-12-31.
+/// The day in a text YYYY-MM-DD, from 1970-01-01 to 9999-12-31.
 #[tactic(auto, unfolding(crate::specs::Values::day_in))]
 pub fn day_in(text: &str) -> Option<Date>
     ensures { result ≡ day_in text.now }
@@ -120,7 +120,7 @@ fn is_day_form(text: &[u8]) -> bool
         && are_digits(&text[8..10])
 }
 
-/// The number that four digits write.
+/// The number written with four digits.
 fn four_digits(digits: &[u8]) -> u16
     requires digits { list_all is_ascii_digit digits.now ≡ true }
     requires four { length digits.now ≡ 4 }
@@ -133,7 +133,7 @@ fn four_digits(digits: &[u8]) -> u16
     }
 }
 
-/// The number that two digits write.
+/// The number written with two digits.
 fn two_digits(digits: &[u8]) -> u16
     requires digits { list_all is_ascii_digit digits.now ≡ true }
     requires two { length digits.now ≡ 2 }
@@ -166,7 +166,7 @@ fn real_day(year: u16, month: u16, day: u16) -> Option<Date>
     Date::new(year as i16, month as i8, day as i8).ok()
 }
 
-/// The urgency that a text begins with, where the text's end, a space or a tab follows it.
+/// The urgency at the front of a text, before the text's end, a space or a tab.
 #[tactic(auto, unfolding(crate::specs::Values::urgency_in))]
 pub fn urgency_in(text: &str) -> Option<Urgency>
     ensures { result ≡ urgency_in text.now }

@@ -5,11 +5,11 @@ use Rattle.office_store.specs.declared.conf.ConfFault.TheVariants.{Refused, Unre
 use Rattle.office_mail_setup.specs.declared.setup.SetupFault.{SetupFault}
 use Rattle.office_mail_setup.specs.declared.setup.SetupFault.TheVariants.{BadParagraph, MissingField, BadArchitecture, BadSender, BadRoles, TooMany, NoMemory}
 
--- of a file no more is read than one byte beyond the longest setup
+-- at most one byte more than the longest setup is read from a file
 unfoldable pub front : List ℕ → List ℕ
 front bytes = take 65_537 bytes
 
--- the exit status for a setup that is refused: 4 for want of memory, else 3
+-- the exit status for a refused setup: 4 if memory ran out, else 3
 abbrev pub status_of_fault : SetupFault → ℕ
 status_of_fault NoMemory = 4
 status_of_fault BadParagraph = 3
@@ -19,7 +19,7 @@ status_of_fault BadSender = 3
 status_of_fault BadRoles = 3
 status_of_fault TooMany = 3
 
--- the exit status where there is no setup: 4 where its file can't be read
+-- the exit status without a setup: 4 if its file can't be read
 abbrev pub status_of_conf : ConfFault → ℕ
 status_of_conf (Unreadable fault) = 4
 status_of_conf (Refused fault) = status_of_fault fault

@@ -1,5 +1,5 @@
 -- Steps: no contract of a call that users make rests on this file.
--- How a store of schema 1 is read, and how it is written anew.
+-- How a store of schema 1 is read and rewritten.
 use Rattle.std.specs.Prelude.{◌≡◌, ◌≤◌, ◌+◌, ◌==◌, ℕ, List, [], ◌∷◌, max, nat_le, if◌then◌else◌, is_some, slice_index, Option, Some, None, option_and_then}
 use Rattle.sqlite.specs.Order.{Row, column}
 use Rattle.sqlite.specs.State.{State}
@@ -20,19 +20,19 @@ use Rattle.office_store_tables.specs.FactSteps.{AddsDelays}
 use Rattle.office_store.specs.Opening.{text_before, lists_by}
 use Rattle.office_store.specs.Migrating.{order_of, KeepsDelays}
 
--- ---- what the office says of itself
+-- ---- the office's row
 
 abbrev pub count_by : Option ℕ → ℕ
 count_by None = 0
 count_by (Some n) = if nat_le n 4_294_967_295 then n else 0
 
--- the count of runs that the only shown row of the office has, 0 where it has none of 32 bits
+-- the count of runs in the only shown row of the office, or 0 if it isn't a number of 32 bits
 abbrev pub count_shown : List Row → ℕ
 count_shown [] = 0
 count_shown (row ∷ []) = count_by (number_in (column row 3))
 count_shown (a ∷ b ∷ rows) = 0
 
--- the office's only row is of schema 1, and says this setup and so many finished runs
+-- the office's only row has schema 1, this setup and this number of finished runs
 pub record IsJudged (setup : Lists) (rows : List Row) (finished : ℕ) : Type 0 where
   pub setup_is : lists_by (text_before rows) ≡ Some setup
   pub said : Said
@@ -43,7 +43,7 @@ pub record IsJudged (setup : Lists) (rows : List Row) (finished : ℕ) : Type 0 
 
 -- ---- the letters of a sender
 
--- the message that a letter is
+-- the message in a letter
 abbrev pub own_letter : Lists → ℕ → Letter → Option Message
 own_letter setup sender letter = own_by sender letter.number (read setup letter.text)
 
@@ -51,22 +51,23 @@ abbrev pub stated_by : ℕ → Option RunOrder → Option ℕ
 stated_by sender None = None
 stated_by sender (Some order) = Some (slice_index order.covers sender)
 
--- What the letter after so many orders states for the release team; nothing where it has another number, or is no order.
+-- The number that the letter after this many orders states for the release team; nothing if its number differs or it
+-- isn't an order.
 unfoldable pub next_stated : Lists → ℕ → Letter → Option ℕ
 next_stated setup count letter = if letter.number == count + 1 then stated_by (release_place setup) (order_of (own_letter setup (runs setup) letter)) else None
 
--- The greatest number that these letters, and so many orders before them, state for the release team. There is none where one
--- of so many numbers is missing, or a letter is no order.
+-- The greatest number that these letters, and this many orders before them, state for the release team. There is none
+-- if one of these numbers is missing, or a letter isn't an order.
 unfoldable pub cover_on : Lists → ℕ → ℕ → ℕ → List Letter → Option ℕ
 cover_on setup finished count cover [] = if count == finished then Some cover else None
 cover_on setup finished count cover (letter ∷ letters) = option_and_then (λ stated. cover_on setup finished (count + 1) (max cover stated) letters) (next_stated setup count letter)
 
--- the delays that a message tells, if there is one
+-- the delays set by a message, if there is one
 abbrev pub delays_told : ℕ → ℕ → Option Message → Option DelaysIn
 delays_told sender number None = None
 delays_told sender number (Some message) = delays_in_body sender number message.body
 
--- what is known of the last delays once a message of the release team is read
+-- what is known about the last delays after reading a message of the release team
 abbrev pub told_by : ℕ → ℕ → Option ℕ → Option Message → Option (Option ℕ)
 told_by sender number last None = None
 told_by sender number last (Some message) = Some (if is_some (delays_told sender number (Some message)) then Some number else last)
@@ -74,25 +75,26 @@ told_by sender number last (Some message) = Some (if is_some (delays_told sender
 unfoldable pub next_told : Lists → Option ℕ → Letter → Option (Option ℕ)
 next_told setup last letter = told_by (release_place setup) letter.number last (own_letter setup (release_place setup) letter)
 
--- The number of the last of these letters that tells delays, or of the one before them. There is none where a letter is no
--- message of the release team and of its number.
+-- The number of the last of these letters that sets delays, or the one before them. There is none if a letter isn't a
+-- message of the release team with its number.
 unfoldable pub told_on : Lists → Option ℕ → List Letter → Option (Option ℕ)
 told_on setup last [] = Some last
 told_on setup last (letter ∷ letters) = option_and_then (λ now. told_on setup now letters) (next_told setup last letter)
 
--- ---- what is written
+-- ---- the written tables
 
--- the number of the last delays, if there is one, was put in, and the other tables stand
+-- the number of the last delays, if there is one, was added, and the other tables are unchanged
 abbrev pub PutsLast : Trees → Trees → Option ℕ → Type 0
 PutsLast db next None = rows_in next ≡ rows_in db
 PutsLast db next (Some number) = AddsDelays db next number
 
--- the table of the last delays was made, with no row, in a transaction that is under way
+-- the table of the last delays was made, without rows, in an open transaction
 pub record Widens (old new : State) : Type 0 where
   pub on : WentOn old new
   pub rows : rows_in new.now.trees ≡ record (rows_in old.now.trees) { delays = [] }
 
--- the number of the last delays, if there is one, was put in, the office says this alone, and the other tables stand
+-- the number of the last delays, if there is one, was added, the office says only this, and the other tables are
+-- unchanged
 pub record WritesAnew (db next : Trees) (last : Option ℕ) (said : Said) : Type 0 where
   pub office : SaysAlone (db 0) → (row : Row) × (next 0 ≡ row ∷ []) × (office_in row ≡ Some (1, said))
   pub delays : db 10 ≡ [] → KeepsDelays last (next 10)

@@ -1,4 +1,4 @@
--- What an opened database holds.
+-- The content of an opened database.
 use Rattle.std.specs.Prelude.{◌≡◌, ◌≢◌, ◌⊎◌, IsTrue, ◌&&◌, ◌==◌, nat_le, if◌then◌else◌, ℕ, List, [], ◌∷◌, Option, Some, None}
 use Rattle.std.specs.Result.{result_ok}
 use Rattle.sqlite.specs.Effect.{Database}
@@ -18,44 +18,46 @@ use Rattle.office_store_tables.specs.SetupText.{setup_text}
 use Rattle.office_store_tables.specs.Fresh.{IsEmptyFor}
 use Rattle.office_store.specs.Migrating.{AreMessages, Migrates}
 
--- what a fault of the store is told as
+-- the result for a fault of the store
 abbrev pub open_fault : KeepFault → OpenFault
 open_fault NoMemory = opening.NoMemory
 open_fault (Store cause) = opening.Store cause
 
--- the setup's text that the office's row says, where its id is 1, its schema's number this, and its count of runs one of 32 bits
+-- the setup's text in the office's row, if its id is 1, its schema has this number, and its count of runs fits in 32
+-- bits
 abbrev pub text_by : ℕ → Option (ℕ × Said) → Option (List ℕ)
 text_by number None = None
 text_by number (Some (id, said)) = if id == 1 && said.schema == number && nat_le said.finished 4_294_967_295 then Some said.setup else None
 
--- what a row says where its id and its copy of the rowid are shown as one
+-- the content of a row whose id is shown with its copy of the rowid as one
 abbrev pub shown_office : Row → Option (ℕ × Said)
 shown_office row = office_by (number_in (column row 0)) (number_in (column row 1)) (text_in (column row 2)) (number_in (column row 3))
 
--- the setup's text that is kept, where the office has one row alone
+-- the kept setup's text, if the office has exactly one row
 abbrev pub text_of_one : ℕ → (Row → Option (ℕ × Said)) → List Row → Option (List ℕ)
 text_of_one number says [] = None
 text_of_one number says (row ∷ []) = text_by number (says row)
 text_of_one number says (a ∷ b ∷ rows) = None
 
+-- the kept setup's text, for schema number 2
 abbrev pub kept_text : List Row → Option (List ℕ)
 kept_text rows = text_of_one 2 office_in rows
 
--- the same, where the schema's number is 1
+-- the same for schema number 1
 abbrev pub text_before : List Row → Option (List ℕ)
 text_before rows = text_of_one 1 office_in rows
 
--- the setup that a text is, if it is one
+-- the setup in a text, if it is one
 abbrev pub lists_by : Option (List ℕ) → Option Lists
 lists_by None = None
 lists_by (Some text) = result_ok (setup_in text)
 
--- The database has the office's tables and no others, and was made for this setup.
+-- The database has exactly the office's tables, and was made for this setup.
 pub record IsKeptFor (setup : Lists) (db : Database) : Type 0 where
   pub schema : db.schema ≡ office_schema
   pub setup_is : lists_by (kept_text (db.trees 0)) ≡ Some setup
 
--- The database has the office's six tables of schema 1 and no others, with that number, and was made for this setup.
+-- The database has exactly the office's six tables of schema 1, with that number, and was made for this setup.
 pub record IsKeptBefore (setup : Lists) (db : Database) : Type 0 where
   pub schema : db.schema ≡ schema_before
   pub setup_is : lists_by (text_before (db.trees 0)) ≡ Some setup
@@ -67,18 +69,18 @@ pub record IsNewFor (setup : Lists) (old new : Database) : Type 0 where
   pub blank : IsBlank new.trees (record { schema = 2; setup = setup_text setup; finished = 0 })
   pub empty : IsEmptyFor setup new.trees
 
--- A database of schema 1 that was made for this setup got the seventh table, and the number 2.
+-- A database of schema 1, made for this setup, got the seventh table and the number 2.
 pub record IsMigrated (setup : Lists) (old new : Database) : Type 0 where
   pub was : IsKeptBefore setup old
   pub kept : IsKeptFor setup new
   pub migrates : Migrates setup old.trees new.trees
 
--- What opening made of a database: it was new, or it was made for this setup and stands as it was, or it was migrated.
+-- How opening changed a database: it was new, or was made for this setup and is unchanged, or was migrated.
 abbrev pub IsOpened : Lists → Database → Database → Type 0
 IsOpened setup old new = IsNewFor setup old new ⊎ (IsKeptFor setup old × (new ≡ old)) ⊎ IsMigrated setup old new
 
--- It is of schema 1 and was made for this setup, and where each letter of its mail has a place of its own, an order of its
--- finished runs is missing, or a text up to their cover is no message of its own sender and number.
+-- It has schema 1 and was made for this setup. If each letter of its mail has its own place, an order of its finished
+-- runs is missing, or a text up to their cover isn't a message with its sender and number.
 pub record IsUnreadable (setup : Lists) (db : Database) : Type 0 where
   pub kept : IsKeptBefore setup db
   pub lacks : (said : Said) → said_in (db.trees 0) ≡ Some said → IsWhole (kept_rows (db.trees 1)) (db.trees 1) → AreMessages setup (kept_rows (db.trees 1)) said.finished → ⊥
@@ -89,21 +91,22 @@ pub record IsKeptForOther (setup : Lists) (db : Database) : Type 0 where
   pub kept : IsKeptFor other db ⊎ IsKeptBefore other db
   pub differs : other ≢ setup
 
--- it has tables, and wasn't made for any setup
+-- it has tables, but wasn't made for any setup
 pub record IsUnknown (db : Database) : Type 0 where
   pub used : db.schema ≢ no_schema
   pub unkept : (setup : Lists) → IsKeptFor setup db → ⊥
   pub unkept_before : (setup : Lists) → IsKeptBefore setup db → ⊥
 
--- it has no table at all, or the office's seven and no others, or the six of schema 1 and no others
+-- it has no tables, exactly the office's seven, or exactly the six of schema 1
 abbrev pub IsAlone : Database → Type 0
 IsAlone db = (db.schema ≡ no_schema) ⊎ (db.schema ≡ office_schema) ⊎ (db.schema ≡ schema_before)
 
--- it has none of the office's tables, each of them, or each of schema 1
+-- it has none of the office's tables, all of them, or all of schema 1
 abbrev pub IsTakeable : Schema → Type 0
 IsTakeable schema = IsTrue (has_none schema) ⊎ HasEach schema ⊎ HasEachBefore schema
 
--- It opens as it was: where it is opened it holds what it held, and only want of memory or a refusal of the database's own keeps it shut.
+-- It opens as it was: an opened one has the same content, and only memory running out or a refusal of the database
+-- itself keeps it closed.
 pub record OpensAsLeft (setup : Lists) (db : Database) : Type 0 where
   pub same : (new : Database) → IsOpened setup db new → new ≡ db
   pub own : IsKeptForOther setup db → ⊥

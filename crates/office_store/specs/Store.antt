@@ -16,7 +16,7 @@ use Rattle.office_store.specs.declared.opening.OpenFault.TheVariants as opening
 use Rattle.office_store.specs.declared.store.FileFault.{FileFault}
 use Rattle.office_store.specs.declared.store.FileFault.TheVariants as fault
 
--- what a fault of opening the tables is told as
+-- the result for a fault in opening the tables
 abbrev pub told : OpenFault → FileFault
 told opening.NoMemory = fault.NoMemory
 told opening.OtherSetup = fault.OtherSetup
@@ -28,15 +28,15 @@ told (opening.Store (Sqlite error)) = fault.Failed error
 abbrev pub status_of_store : FileFault → ℕ
 status_of_store fault = 4
 
--- the database that the files held was opened, and it has the tables of an office with this setup: new ones, or as they were left, or migrated
+-- the database in the files was opened, and has the tables of an office with this setup: new, unchanged or migrated
 pub record FindsStore {D : Type 0} {g : Ghosts D} (image : Image) (setup : Lists) (now : Held (FileStore D g)) : Type 0 where
   pub was : Held (FileStore D g)
   pub opened : files.IsOpened was
   pub found : FindsIn image (file_state was)
   pub office : IsOpened setup (file_state was).now (file_state now).now
 
--- the database that the files held was opened, it had none of the office's tables, each of them, or each of schema 1, and the
--- store is trusted if no other tables stood there
+-- the database in the files was opened. It had none of the office's tables, all of them, or all of schema 1, and the
+-- store is trusted if there were no other tables
 pub record OpensStore {D : Type 0} {g : Ghosts D} (image : Image) (now : Held (FileStore D g)) : Type 0 where
   pub was : Held (FileStore D g)
   pub opened : files.IsOpened was

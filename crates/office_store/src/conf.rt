@@ -12,7 +12,7 @@ use thiserror::Error;
 /// One byte more than the longest setup has.
 const ENOUGH: u64 = 65_537;
 
-/// Why there is no setup in a file.
+/// Why a file has no setup.
 #[derive(Clone, Copy, Debug, Error)]
 pub enum ConfFault {
     #[error("the file can't be read: {0}")]
@@ -21,7 +21,7 @@ pub enum ConfFault {
     Refused(SetupFault),
 }
 
-/// The setup in a file. Of a file that is too long for a setup no more is read than shows it.
+/// The setup in a file. If the file is too long for a setup, only enough is read to see this.
 pub fn read_setup(rt: &HostRuntime, path: &str) -> Result<Setup, ConfFault> {
     let file = fs::open(rt, path).map_err(ConfFault::Unreadable)?;
     let text = read_front(rt.alloc(), file).map_err(ConfFault::Unreadable)?;
@@ -31,7 +31,7 @@ pub fn read_setup(rt: &HostRuntime, path: &str) -> Result<Setup, ConfFault> {
     }
 }
 
-/// What a reader gives, but for what stands beyond the longest setup and one byte more.
+/// The bytes of a reader, up to one more than the longest setup.
 fn read_front<R: Read + Drop>(alloc: Global, reader: R) -> io::Result<Vec<u8>>
     ensures { IfOk result (λ bytes. IfSome (R.remaining reader) (λ all. bytes.items ≡ front all)) }
 {
@@ -40,7 +40,7 @@ fn read_front<R: Read + Drop>(alloc: Global, reader: R) -> io::Result<Vec<u8>>
     Ok(bytes)
 }
 
-/// The exit status for a setup's fault: 4 for want of memory, 3 for any other.
+/// The exit status for a setup's fault: 4 if memory ran out, 3 for any other.
 pub fn setup_status(fault: &SetupFault) -> u8
     ensures { result ≡ status_of_fault fault.now }
 {
@@ -50,7 +50,7 @@ pub fn setup_status(fault: &SetupFault) -> u8
     }
 }
 
-/// The exit status where there is no setup: 4 where the file can't be read.
+/// The exit status without a setup: 4 if the file can't be read.
 pub fn conf_status(fault: &ConfFault) -> u8
     ensures { result ≡ status_of_conf fault.now }
 {

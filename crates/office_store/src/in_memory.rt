@@ -1,4 +1,4 @@
-//! The testing that a keeper over tables has in memory for the next run, beside what the tables hold.
+//! The testing that a keeper over tables keeps in memory for the next run, besides the tables' content.
 ghost use Rattle.std.specs.Prelude.{◌≡◌, ◌≢◌, ◌⊎◌, Err, Some, None, IfOk, IfSome, OnOk, OnErr};
 ghost use Rattle.std.specs.List.{list_all};
 ghost use Rattle.std.specs.Str.{IsUtf8};
@@ -23,14 +23,14 @@ use testing_rules_items::{ALL, Archs};
 use testing_rules_model::RowIn;
 use testing_rules_suites::Testing;
 
-/// Whether a row is of a listed architecture or of `all`.
+/// Whether a row has a listed architecture or `all`.
 fn is_listed(archs: &Archs, row: &RowIn) -> bool
     ensures { result ≡ is_arch_place archs.now row.now.arch }
 {
     row.arch < archs.len() || row.arch == ALL
 }
 
-/// Whether each row is of a listed architecture or of `all`.
+/// Whether each row has a listed architecture or `all`.
 fn are_listed(archs: &Archs, rows: &[RowIn]) -> bool
     ensures { result ≡ list_all (λ row. is_arch_place archs.now row.arch) rows.now }
 {
@@ -42,8 +42,7 @@ fn are_listed(archs: &Archs, rows: &[RowIn]) -> bool
     true
 }
 
-/// Equal testing with the suites that go with it; none where a row is of another architecture than those of the list and
-/// `all`.
+/// Equal testing with its suites, or none if a row has an architecture other than the listed ones and `all`.
 fn share_listed(archs: &Archs, testing: &mut Testing) -> Result<Option<Testing>, NoMemory>
     ensures same { testing.new ≡ testing.old }
     ensures shared { IfOk result (λ given. IfSome given (λ t. t ≡ testing.old)) }
@@ -55,7 +54,7 @@ fn share_listed(archs: &Archs, testing: &mut Testing) -> Result<Option<Testing>,
     Ok(Some(testing.share()?))
 }
 
-/// Equal testing with the suites that go with it, of the testing in memory, where there is one.
+/// Equal testing with its suites, from the testing in memory, if there is one.
 fn share(setup: &Setup, in_memory: &mut Option<Testing>) -> Result<Option<Testing>, NoMemory>
     ensures same { in_memory.new ≡ in_memory.old }
     ensures shared { IfOk result (λ given. IfSome given (λ t. in_memory.old ≡ Some t)) }
@@ -67,7 +66,7 @@ fn share(setup: &Setup, in_memory: &mut Option<Testing>) -> Result<Option<Testin
     }
 }
 
-/// Testing for the next run: the one in memory, with the suites that go with it, or else as the tables have it.
+/// Testing for the next run: the one in memory with its suites, or else the one in the tables.
 pub(crate) fn next_testing<S: Alter>(
     alloc: Global,
     conn: &mut Connection<S>,
@@ -87,7 +86,7 @@ pub(crate) fn next_testing<S: Alter>(
     }
 }
 
-/// The testing that a run left, without the rest. It takes no memory.
+/// The testing after a run, without the rest. It allocates nothing.
 fn testing_left(done: Finished) -> Testing
     ensures { result ≡ done.testing }
 {
@@ -100,8 +99,8 @@ fn testing_left(done: Finished) -> Testing
     testing
 }
 
-/// Makes a run finished in the tables, all of them or none, and then has the testing that it left in memory. Where the
-/// tables refuse it, there is none in memory.
+/// Finishes a run in all of the tables or none, and then keeps the testing after it in memory. If the tables refuse it,
+/// none is kept in memory.
 pub(crate) fn finish<S: Alter>(
     conn: &mut Connection<S>,
     setup: &Setup,

@@ -1,4 +1,4 @@
-//! What the migration of a store of schema 1 leaves, and what an office left opens as.
+//! The result of migrating a store of schema 1, and how the store of a stopped office opens.
 ghost use Rattle.std.specs.Prelude.{◌≡◌};
 ghost use Rattle.sqlite.specs.Effect.{Database};
 ghost use Rattle.sqlite.specs.Tree.{Trees};
@@ -11,16 +11,16 @@ ghost use Rattle.office_store.specs.Opening.{OpensAsLeft};
 ghost use Rattle.office_store.specs.Migrating.{Migrates, IsLegibleBefore, content_before};
 ghost use Rattle.office_store_tables.specs.TableContent.{content_in};
 
-/// A migrated store holds what it held, with the row of the last delays that its finished runs cover; and where its tables read
-/// as an office of schema 1 wrote them, they read as an office writes them.
+/// A migrated store has the same content, with the row of the last delays covered by its finished runs. If its tables
+/// were what an office of schema 1 wrote, they are what an office writes.
 pub fn migrated_content()
     ensures content { (setup : Lists) (old new : Trees) → Migrates setup old new → GetsLast setup (content_before setup old) (content_in setup new) }
     ensures legible { (setup : Lists) (old new : Trees) → IsSetup setup → IsLegibleBefore setup old → Migrates setup old new → IsLegible setup new }
 {}
 
-/// What a sound office left opens as it was: of a database that has the office's tables and no others, and reads as an office
-/// with this setup writes it, `Tables::open` with this setup answers no `OtherSetup`, no `UnknownSchema` and no `BadRow`, and
-/// where it opens it, nothing is changed.
+/// The store of a sound office opens as it was left. If a database has exactly the office's tables, written by an
+/// office with this setup, `Tables::open` with this setup never answers `OtherSetup`, `UnknownSchema` or `BadRow`; and
+/// if it opens it, nothing changes.
 pub fn left_opens()
     ensures { (setup : Lists) (db : Database) → db.schema ≡ office_schema → IsLegible setup db.trees → OpensAsLeft setup db }
 {}

@@ -1,5 +1,5 @@
-//! The office's store in tables of sqlite, which are made, found as they were left, or migrated from schema 1: its kept
-//! mail, the reports of its finished runs and its testing suite; and the files of the setup and of the store.
+//! The office's store in tables of sqlite, which are made, opened as they were left, or migrated from schema 1. It has
+//! the kept mail, the reports of the finished runs and the testing suite. Also the files of the setup and of the store.
 #![tactic(auto)]
 
 mod among;

@@ -36,7 +36,7 @@ use sqlite::{Alter, Connection, Error, Row, Transaction, params};
 use std::alloc::Global;
 use testing_rules_items::Item;
 
-/// Makes the table of the last delays beside the six.
+/// Makes the table of the last delays, in addition to the six.
 fn widen<S: Alter>(tx: &mut Transaction<'_, S>) -> Result<usize, Error>
     requires building { IsTrusted (state S.Store tx.old.conn.now) → IsBuilding schema_before (state S.Store tx.old.conn.now) }
     ensures steps { StepsWithin S.Store tx.old.conn tx.new.conn result }
@@ -92,7 +92,7 @@ fn letters_to<S: Alter>(
     by_number(letters)
 }
 
-/// The count of runs that a shown row of the office has, 0 where it has none of 32 bits.
+/// The count of runs in a shown row of the office, or 0 if it isn't a number of 32 bits.
 fn count_at(row: &Row) -> u32
     ensures { result ≡ count_by (number_in (column row.now 3)) }
 {
@@ -108,7 +108,7 @@ fn count_at(row: &Row) -> u32
     }
 }
 
-/// The count of runs that the only row shows, 0 where there is no such row.
+/// The count of runs in the only row, or 0 without one.
 fn count_shown(rows: &[Row]) -> u32
     ensures { result ≡ count_shown rows.now }
 {
@@ -118,7 +118,7 @@ fn count_shown(rows: &[Row]) -> u32
     }
 }
 
-/// How many runs the only row of the office shows to be finished, where it is of schema 1 and says this setup.
+/// The number of finished runs in the only row of the office, if it has schema 1 and this setup.
 fn count_judged(alloc: Global, rows: &[Row], setup: &Setup) -> Result<u32, OpenFault>
     ensures ok { IfOk result (λ finished. (lists_by (text_of_one 1 shown_office rows.now) ≡ Some setup.now) × (finished ≡ count_shown rows.now)) }
     ensures other { result ≡ Err OpenFault.OtherSetup → (kept : Lists) × (lists_by (text_of_one 1 shown_office rows.now) ≡ Some kept) × (kept ≢ setup.now) }
@@ -129,7 +129,7 @@ fn count_judged(alloc: Global, rows: &[Row], setup: &Setup) -> Result<u32, OpenF
     Ok(count_shown(rows))
 }
 
-/// How many runs are finished, where the office's only row is of schema 1 and says this setup.
+/// The number of finished runs, if the office's only row has schema 1 and this setup.
 fn judged<S: Alter>(
     alloc: Global,
     tx: &mut Transaction<'_, S>,
@@ -147,7 +147,7 @@ fn judged<S: Alter>(
     count_judged(alloc, rows.as_slice(), setup)
 }
 
-/// What an order states for the release team, 0 where it has no entry.
+/// What an order states for the release team, or 0 without an entry.
 fn stated_by(order: &RunOrder, release: u32) -> u32
     ensures { Some result ≡ stated_by release (Some order.now) }
 {
@@ -159,7 +159,7 @@ fn stated_by(order: &RunOrder, release: u32) -> u32
         .unwrap_or(0)
 }
 
-/// What the run order that a message is states for the release team; a message that is none is refused.
+/// What the run order in a message states for the release team; another message is refused.
 fn stated_in(message: Message, release: u32) -> Result<u32, KeepFault>
     ensures ok { IfOk result (λ stated. stated_by release (order_in_body message.body) ≡ Some stated) }
     ensures bad { result ≡ Err (KeepFault.Store BadRow) → stated_by release (order_in_body message.body) ≡ None }
@@ -177,7 +177,7 @@ fn stated_in(message: Message, release: u32) -> Result<u32, KeepFault>
     }
 }
 
-/// What the letter after so many orders states for the release team.
+/// What the letter after this many orders states for the release team.
 #[tactic(auto, unfolding(crate::specs::MigratingSteps::next_stated))]
 fn next_stated(alloc: Global, setup: &Setup, count: u32, letter: &Letter) -> Result<u32, KeepFault>
     ensures ok { IfOk result (λ stated. next_stated setup.now count letter.now ≡ Some stated) }
@@ -204,7 +204,7 @@ fn greater(a: u32, b: u32) -> u32
     if a < b { b } else { a }
 }
 
-/// The greatest number that these orders state for the release team. Each has to be an order, and none may be missing.
+/// The greatest number that these orders state for the release team. Each must be an order, and none may be missing.
 #[tactic(auto, unfolding(crate::specs::MigratingSteps::cover_on))]
 fn cover_of(
     alloc: Global,
@@ -229,14 +229,14 @@ fn cover_of(
     }
 }
 
-/// Whether a message tells delays.
+/// Whether a message sets delays.
 fn tells_delays(message: &Message, sender: u32, number: u32) -> bool
     ensures { result ≡ is_some (delays_in_body sender number message.now.body) }
 {
     matches!(&message.body, Body::Item(Item::Delays { .. }))
 }
 
-/// The number of the last delays once a letter of the release team is read.
+/// The number of the last delays after reading a letter of the release team.
 #[tactic(auto, unfolding(crate::specs::MigratingSteps::next_told))]
 fn next_told(
     alloc: Global,
@@ -258,7 +258,7 @@ fn next_told(
     }
 }
 
-/// The number of the last of these letters that tells delays. Each has to be a message of the release team.
+/// The number of the last of these letters that sets delays. Each must be a message of the release team.
 #[tactic(auto, unfolding(crate::specs::MigratingSteps::told_on))]
 fn last_told(alloc: Global, setup: &Setup, letters: &[Letter]) -> Result<Option<u32>, KeepFault>
     ensures ok { IfOk result (λ last. told_on setup.now None letters.now ≡ Some last) }
@@ -288,7 +288,7 @@ fn covered<S: Alter>(
     cover_of(alloc, setup, finished, orders.as_slice())
 }
 
-/// The number of the last delays that the release team tells up to a cover.
+/// The number of the last delays that the release team set up to a cover.
 fn last_delays_number<S: Alter>(
     alloc: Global,
     tx: &mut Transaction<'_, S>,
@@ -305,7 +305,7 @@ fn last_delays_number<S: Alter>(
     last_told(alloc, setup, letters.as_slice())
 }
 
-/// The number of the last delays that the finished runs cover, if there are any.
+/// The number of the last delays covered by the finished runs, if there are any.
 fn find_last<S: Alter>(
     alloc: Global,
     tx: &mut Transaction<'_, S>,
@@ -322,7 +322,7 @@ fn find_last<S: Alter>(
     last_delays_number(alloc, tx, setup, to)
 }
 
-/// Puts in the number of the last delays, if there is one.
+/// Adds the number of the last delays, if there is one.
 fn put_last<S: Alter>(tx: &mut Transaction<'_, S>, last: Option<u32>) -> Result<(), Error>
     requires inside { BeginsInside S.Store tx.old.conn }
     ensures steps { StepsWithin S.Store tx.old.conn tx.new.conn result }
@@ -337,7 +337,7 @@ fn put_last<S: Alter>(tx: &mut Transaction<'_, S>, last: Option<u32>) -> Result<
     }
 }
 
-/// Puts in what the office says of itself, with the number of schema 2.
+/// Adds the office's row, with schema number 2.
 fn add_migrated<S: Alter>(
     tx: &mut Transaction<'_, S>,
     setup: &str,
@@ -350,7 +350,7 @@ fn add_migrated<S: Alter>(
     add_office(tx, 2, setup, finished)
 }
 
-/// Writes what schema 2 has beside: the number of the last delays, and the schema's number in what the office says.
+/// Writes what schema 2 adds: the number of the last delays, and the schema's number in the office's row.
 fn write_anew<S: Alter>(
     tx: &mut Transaction<'_, S>,
     last: Option<u32>,
@@ -390,8 +390,9 @@ fn change_schema<S: Alter>(
     Ok(added)
 }
 
-/// Migrates a store of schema 1, all or nothing: one that was made for another setup, that has another number, or whose orders
-/// and release mail up to their cover aren't all messages of their own senders and numbers, is refused.
+/// Migrates a store of schema 1, all or nothing. It is refused if it was made for another setup, if it has another
+/// schema number, or if one of its orders, or of the release mail up to their cover, isn't a message with its sender
+/// and number.
 pub(crate) fn migrate<S: Alter>(
     alloc: Global,
     conn: &mut Connection<S>,

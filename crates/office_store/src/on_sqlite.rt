@@ -17,8 +17,8 @@ use std::marker::Model;
 use testing_rules_model::FactRows;
 use testing_rules_suites::Testing;
 
-/// The office's tables over a connection. The testing that a run leaves stays in memory for the next run, with the suites
-/// that speed it; a store that was just opened has none there, and reads its tables.
+/// The office's tables over a connection. The testing after a run stays in memory for the next run, with its suites,
+/// which speed it up. A newly opened store has none in memory, and reads its tables.
 pub struct Tables<S: Alter> {
     alloc: Global,
     conn: Connection<S>,
@@ -55,7 +55,7 @@ fn count<T>(refusals: &mut u64, answer: Result<T, KeepFault>) -> Result<T, KeepF
 }
 
 impl<S: Alter> Tables<S> {
-    /// The office's tables over a connection that has them, and no others. There is no testing in memory.
+    /// The office's tables over a connection that has exactly these. There is no testing in memory.
     pub(crate) fn over(alloc: Global, conn: Connection<S>, setup: Setup) -> Tables<S>
         requires { IsTrusted (state S.Store conn) → IsOurs (state S.Store conn) }
         ensures { result ≡ record { conn = conn; setup = setup; refusals = 0; in_memory = None } }
@@ -69,7 +69,7 @@ impl<S: Alter> Tables<S> {
         }
     }
 
-    /// The connection, with nothing changed.
+    /// The connection, unchanged.
     pub fn into_connection(self) -> Connection<S>
         ensures same { result ≡ self.conn }
         ensures ours { IsTrusted (state S.Store result) → IsOurs (state S.Store result) }
@@ -92,7 +92,7 @@ impl<S: Alter> Keeper for Tables<S> {
 
     ghost setup = { λ t. t.setup };
 
-    // What is in memory is no part of it.
+    // The testing in memory is not part of it.
     ghost content = { λ t. content_in t.setup (state S.Store t.conn).now.trees };
 
     ghost is_legible = { λ t. IsLegibleStore t.setup (state S.Store t.conn).now.trees t.in_memory };
@@ -115,7 +115,7 @@ impl<S: Alter> Keeper for Tables<S> {
         )
     }
 
-    // One commit keeps them all, and waits for the disk once. More texts than these would save little.
+    // One commit keeps them all, with a single wait for the disk. More texts than these would save little.
     fn keeps_together(&self) -> usize {
         64
     }
@@ -169,7 +169,7 @@ impl<S: Alter> Keeper for Tables<S> {
         )
     }
 
-    // Testing in memory is let go: the tables alone are read.
+    // Drops the testing in memory: only the tables are read.
     fn is_whole(&mut self, texts: u64) -> Result<bool, KeepFault> {
         self.in_memory = None;
         count(

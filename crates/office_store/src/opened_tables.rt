@@ -1,4 +1,4 @@
-//! The keeper over an office's tables in a database, fresh or kept.
+//! The keeper over an office's tables in a new or existing database.
 ghost use Rattle.std.specs.Prelude.{◌≡◌, None, IfOk, IfErr, OnOk};
 ghost use Rattle.sqlite.specs.Held.{state};
 ghost use Rattle.sqlite.specs.State.{HasCleanDisk};
@@ -15,20 +15,20 @@ use sqlite::{Alter, Connection};
 use std::alloc::Global;
 
 impl<S: Alter> Tables<S> {
-    /// The office's tables in a database. One that has none of them gets them, with this setup, no mail and no run; one
-    /// that was made for this setup goes on as it was left. One of schema 1 that was made for this setup is migrated, all
-    /// or nothing: it gets the seventh table, with the last delays that its finished runs cover, and the schema's number
-    /// 2. Tables, views and indexes of other names don't count, and stay. `OtherSetup` comes where the database was made
-    /// for other architectures or senders, by names, roles or order. `UnknownSchema` comes where it has some of the
-    /// office's seven tables, or a view or an index of such a name, but wasn't made for any setup: it has neither all
-    /// seven, column by column, nor all but `fact_delays`, or the office's table hasn't just one row, with id 1, the
-    /// schema's number, which is 2 for seven tables and 1 for six, and a text that is a setup. `Store` with `BadRow` comes
-    /// where a store of schema 1 lacks an order of its finished runs, or one of them, or a text of the release team up to
-    /// their cover, isn't a message of its own sender and number. A connection in a transaction is refused by `Store`. A
-    /// refusal hands the connection back and leaves the database as it was.
+    /// Opens the office's tables in a database. If it has none of them, it gets them, with this setup, no mail and no
+    /// run. If it was made for this setup, it opens as it was left. A database of schema 1 made for this setup is
+    /// migrated, all or nothing: it gets the seventh table, with the last delays covered by its finished runs, and
+    /// schema number 2. Tables, views and indexes with other names don't count, and stay. `OtherSetup` means that the
+    /// database was made for other architectures or senders, by names, roles or order. `UnknownSchema` means that it
+    /// has some of the office's seven tables, or a view or an index with such a name, but wasn't made for any setup: it
+    /// has neither all seven, column by column, nor all but `fact_delays`; or the office's table doesn't have exactly
+    /// one row, with id 1, schema number 2 for seven tables or 1 for six, and a setup as its text. `Store` with
+    /// `BadRow` means that a store of schema 1 has no order for a finished run, or that an order, or a text of the
+    /// release team up to the orders' cover, isn't a message with its sender and number. A connection in a transaction
+    /// is refused with `Store`. A refusal returns the connection and leaves the database unchanged.
     ///
-    /// Where other tables, views or indexes stand there too, nothing is promised of what is kept, only that each call
-    /// returns: such a connection gets a limit of 2^64-1 on the steps of a statement, and with one it isn't trusted.
+    /// If there are other tables, views or indexes too, nothing is promised about the content, only that each call
+    /// returns: such a connection gets a limit of 2^64-1 on the steps of a statement, and a limited one isn't trusted.
     pub fn open(
         alloc: Global,
         conn: Connection<S>,

@@ -1,4 +1,4 @@
-//! Opening an office's tables in a database, fresh or kept.
+//! Opening an office's tables in a new or existing database.
 ghost use Rattle.std.specs.Prelude.{◌≡◌, ◌≢◌, ◌⊎◌, false, Some, None, Err, IfOk, IfErr, OnOk, OnErr};
 ghost use Rattle.std.specs.Option.{option_copied};
 ghost use Rattle.sqlite.specs.Order.{column};
@@ -32,7 +32,7 @@ use std::alloc::{AllocError, Global};
 #[derive(Clone, Copy, Debug, PartialEq, Eq)]
 pub enum OpenFault {
     NoMemory,
-    /// The database's own refusal.
+    /// A refusal by the database.
     Store(Cause),
     /// The database was made for a setup with other architectures or senders, by names, roles or order.
     OtherSetup,
@@ -87,7 +87,7 @@ fn text_at<'a>(row: &'a Row, at: usize) -> Option<&'a [u8]>
     }
 }
 
-/// The setup's text in a row of the office, or none where the row isn't one of the schema of this number.
+/// The setup's text in a row of the office, or none if the row doesn't have this schema number.
 fn row_text<'a>(row: &'a Row, expected: u64) -> Option<&'a [u8]>
     ensures { option_copied result ≡ text_by expected (shown_office row.now) }
 {
@@ -112,7 +112,7 @@ fn only_text<'a>(rows: &'a [Row], expected: u64) -> Option<&'a [u8]>
     }
 }
 
-/// The setup that a text is, or none.
+/// The setup in a text, or none.
 fn setup_of(alloc: Global, text: &[u8]) -> Result<Option<Setup>, OpenFault>
     ensures value { IfOk result (λ setup. setup ≡ lists_by (Some text.now)) }
     ensures err { IfErr result (λ e. e ≡ OpenFault.NoMemory) }
@@ -124,7 +124,7 @@ fn setup_of(alloc: Global, text: &[u8]) -> Result<Option<Setup>, OpenFault>
     }
 }
 
-/// The setup that the only row of the office keeps, or none.
+/// The setup in the only row of the office, or none.
 fn kept_setup(alloc: Global, rows: &[Row], expected: u64) -> Result<Option<Setup>, OpenFault>
     ensures value { IfOk result (λ setup. setup ≡ lists_by (text_of_one expected shown_office rows.now)) }
     ensures err { IfErr result (λ e. e ≡ OpenFault.NoMemory) }
@@ -135,7 +135,7 @@ fn kept_setup(alloc: Global, rows: &[Row], expected: u64) -> Result<Option<Setup
     }
 }
 
-/// Whether the rows of the office are those of one with this setup, of the schema of this number.
+/// Whether the rows of the office are those of one with this setup and this schema number.
 pub(crate) fn judge(
     alloc: Global,
     rows: &[Row],
@@ -167,7 +167,7 @@ fn same_or_other(alloc: Global, kept: &Setup, setup: &Setup) -> Result<(), OpenF
     }
 }
 
-/// Goes on over the office's tables, where they are kept for this setup.
+/// Opens the office's tables if they are kept for this setup.
 fn go_on<S: Alter>(alloc: Global, conn: &mut Connection<S>, setup: &Setup) -> Result<(), OpenFault>
     requires ours { BeginsOurs S.Store conn.old }
     ensures reads { ReadsOnly S.Store conn.old conn.new result }
@@ -199,12 +199,12 @@ fn begin<S: Alter>(alloc: Global, conn: &mut Connection<S>, setup: &Setup) -> Re
     Ok(())
 }
 
-/// Makes the office's tables beside others, or finds or migrates them there.
+/// Makes the office's tables in addition to others, or finds or migrates them there.
 ///
-/// What a statement does to the seven tables is proved where no others stand beside them. So nothing may be promised here
-/// of what is kept. Each such promise asks that the connection is trusted, and one with a limit on the steps of a
-/// statement isn't: that is why a limit is set. It is 2^64-1 steps, which no statement reaches, so that each statement
-/// does what it does without one.
+/// The effect of a statement on the seven tables is proved only if there are no others. So nothing may be promised here
+/// about the content. Each such promise requires a trusted connection, and one with a limit on the steps of a statement
+/// isn't trusted: that is why a limit is set. It is 2^64-1 steps, which no statement reaches, so that each statement
+/// works as it does without a limit.
 fn prepare_among<S: Alter>(
     alloc: Global,
     conn: &mut Connection<S>,

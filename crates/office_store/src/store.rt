@@ -1,4 +1,4 @@
-//! The store in a file: its tables are opened, and closed.
+//! The store in a file: opening and closing its tables.
 
 ghost use Rattle.std.specs.Prelude.{◌≡◌, None, IfOk, OnOk};
 ghost use Rattle.sqlite.specs.Files as files;
@@ -18,25 +18,25 @@ use sqlite_disk::Disk;
 use std::alloc::Global;
 use thiserror::Error;
 
-/// Why there is no store in a file, or why one wasn't closed.
+/// Why a file has no store, or why a store wasn't closed.
 #[derive(Clone, Copy, Debug, PartialEq, Eq, Error)]
 pub enum FileFault {
     #[error("the store can't be opened: out of memory: give the program more memory")]
     NoMemory,
-    /// The file isn't there and can't be made, is in use, or is no sound database.
+    /// The file is missing and can't be made, is in use, or isn't a sound database.
     #[error("the store can't be opened: {0}: {remedy}", remedy = remedy(.0))]
     Unopened(sqlite::Error),
     #[error("the store was made for another setup: name that setup, or another file")]
     OtherSetup,
     #[error("the file has other tables than a store that this program reads: name another file")]
     UnknownSchema,
-    /// A store of an earlier version, which can't be migrated.
+    /// A store of an earlier version that can't be migrated.
     #[error("the store is of an earlier version, and lacks an order, or has a text among its orders and its release mail that is no message of its own: put a copy in its place")]
     Unreadable,
     /// The database was opened, and then refused to make or to read the tables.
     #[error("the store failed: {0}: {remedy}", remedy = remedy(.0))]
     Failed(sqlite::Error),
-    /// What was kept stands in the log beside the file.
+    /// The content is in the log next to the file.
     #[error("the store's log wasn't copied into its file: {0}: {remedy}: what was kept stands, so leave the log beside it", remedy = remedy(.0))]
     Unclosed(sqlite::Error),
 }
@@ -73,7 +73,7 @@ pub fn store_status(fault: &FileFault) -> u8
     }
 }
 
-/// What a fault of opening the tables is told as.
+/// The file's fault for a fault in opening tables.
 fn told(fault: OpenFault) -> FileFault
     ensures { result ≡ told fault }
 {
@@ -86,7 +86,7 @@ fn told(fault: OpenFault) -> FileFault
     }
 }
 
-/// The office's tables over a connection. One that is refused is dropped, with its database as it was.
+/// The office's tables over a connection. A refused connection is dropped, with its database unchanged.
 pub fn open_tables<S: Alter + Drop>(
     alloc: Global,
     conn: Connection<S>,
@@ -106,7 +106,7 @@ pub fn open_tables<S: Alter + Drop>(
     }
 }
 
-/// The database in a file, which is made where there is none. `S` says what the file and its log hold.
+/// The database in a file, made if it doesn't exist. `S` says what the file and its log contain.
 fn open_database<S: Start>(
     rt: &HostRuntime,
     path: &str,
@@ -122,7 +122,7 @@ fn open_database<S: Start>(
     }
 }
 
-/// The store in a file, which is made where there is none. `S` says what the file and its log hold.
+/// The store in a file, made if it doesn't exist. `S` says what the file and its log contain.
 pub fn open_store<S: Start>(
     rt: &HostRuntime,
     path: &str,

@@ -4,7 +4,7 @@ use Rattle.office_mail.specs.Counts.{HasRisen}
 use Rattle.office_store_keeper.specs.declared.faults.KeepFault.{KeepFault}
 use Rattle.office_store_keeper.specs.declared.faults.KeepFault.TheVariants.{NoMemory, Store}
 
--- a refusal of the store is counted, and nothing else is
+-- a refusal of the store is counted, and no other result
 abbrev pub Counted : {T : Type 0} → ℕ → ℕ → Result T KeepFault → Type 0
 Counted before after (Ok value) = after ≡ before
 Counted before after (Err NoMemory) = after ≡ before

@@ -1,4 +1,4 @@
--- The last delays that finished runs cover.
+-- The last delays covered by finished runs.
 use Rattle.std.specs.Prelude.{◌≡◌, ◌≤◌, ℕ, length, Option, Some, None, IsSome}
 use Rattle.std.specs.FinMap.{insert}
 use Rattle.testing_rules_model.specs.Covered.{CoveredItem, delays_of}
@@ -17,18 +17,18 @@ use Rattle.office_store_keeper.specs.Content.{Content}
 use Rattle.office_store_keeper.specs.FactSet.{FactSet}
 use Rattle.office_store_keeper.specs.Provenance.{IsKept}
 
--- the delays that a message tells
+-- the delays set by a message
 abbrev pub delays_in_body : ℕ → ℕ → Body → Option DelaysIn
 delays_in_body sender number (Item item) = let m : CoveredItem = record { sender = sender; number = number; item = item } in delays_of m
 delays_in_body sender number (Run order) = None
 
--- the release team's message of this number is kept, and tells delays
+-- the release team's message with this number is kept and sets delays
 pub record TellsDelays (setup : Lists) (kept : Kept) (number : ℕ) : Type 0 where
   pub message : Message
   pub is_kept : IsKept setup kept (place_of_role Release setup.senders, number) message
   pub tells : IsSome (delays_in_body (place_of_role Release setup.senders) number message.body)
 
--- of the numbers up to a cover the greatest one under which the release team tells delays, if there is one
+-- the greatest number up to a cover whose message of the release team sets delays, if there is one
 abbrev pub IsLastTold : Lists → Kept → ℕ → Option ℕ → Type 0
 IsLastTold setup kept cover None = (n : ℕ) → 1 ≤ n → n ≤ cover → TellsDelays setup kept n → ⊥
 IsLastTold setup kept cover (Some last) = (1 ≤ last) × (last ≤ cover) × TellsDelays setup kept last × ((n : ℕ) → 1 ≤ n → n ≤ cover → TellsDelays setup kept n → n ≤ last)
@@ -42,7 +42,8 @@ abbrev pub with_last : Lists → Option ℕ → FactSet → FactSet
 with_last setup None facts = facts
 with_last setup (Some number) facts = insert facts (release_delays setup number) tt
 
--- The content is the same, with the row of the last delays that the release team tells up to the cover of the finished runs.
+-- The content is the same, with the row of the last delays that the release team set up to the cover of the finished
+-- runs.
 pub record GetsLast (setup : Lists) (old new : Content) : Type 0 where
   pub last : Option ℕ
   pub last_is : IsLastTold setup old.kept (cover setup old.kept (length old.reports) (place_of_role Release setup.senders)) last

@@ -1,4 +1,4 @@
--- What contracts see of a text that came by mail.
+-- How contracts see a text that came by mail.
 use Rattle.std.specs.Prelude.{List, ℕ}
 use Rattle.office_store_keeper.specs.declared.values.Bytes.{Bytes}
 use Rattle.office_store_keeper.specs.declared.values.Bytes.TheVariants.{Own, Shared}

@@ -13,7 +13,7 @@ use Rattle.office_store_keeper.specs.FactSet.{is_among, set_of_rows}
 use Rattle.office_store_keeper.specs.Provenance.{KnowsArchs}
 
 pub record MemoryState : Type 0 where
-  -- the setup that it was made for
+  -- the setup that the store was made for
   pub setup : Lists
   -- the texts with their places, by place
   pub mail : List (Place × List ℕ)
@@ -22,23 +22,23 @@ pub record MemoryState : Type 0 where
   -- the rows of facts, in any order
   pub facts : List FactRow
 
--- the texts at their places
+-- the kept texts at their places
 abbrev pub kept_in : List (Place × List ℕ) → Kept
 kept_in mail = from_entries mail
 
--- a text at a place of its sender, with its number
+-- a text at a sender's place, with its number
 abbrev pub letter_of : Place × List ℕ → Letter
 letter_of e = record { number = e.0.1; text = e.1 }
 
--- the rows that aren't among those that are gone
+-- the rows that aren't gone
 abbrev pub rows_left : List FactRow → List FactRow → List FactRow
 rows_left gone rows = filter (λ r. not (is_among r gone)) rows
 
--- what the store in memory holds
+-- the content of the store in memory
 abbrev pub content_of : MemoryState → Content
 content_of s = record { kept = kept_in s.mail; reports = s.runs; testing = s.testing; facts = set_of_rows s.facts }
 
--- runs can be numbered, and testing has architectures of the setup
+-- runs can be numbered, and testing has only architectures of the setup
 pub record IsMemoryState (setup : Lists) (runs : List Reports) (testing : Suite) : Type 0 where
   pub few : length runs ≤ 4_294_967_295
   pub known : KnowsArchs setup.archs testing.rows

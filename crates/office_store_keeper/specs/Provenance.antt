@@ -17,11 +17,11 @@ use Rattle.office_mail.specs.Kept.{Kept, Place, place_of, placed}
 use Rattle.office_mail.specs.Read.{read}
 use Rattle.office_store_keeper.specs.Content.{Content, item_from_one}
 
--- each kept text is a message, and stands under its own sender and number
+-- each kept text is a message at the place of its own sender and number
 abbrev pub AreOwnTexts : Lists → Kept → Type 0
 AreOwnTexts setup kept = (p : Place) (text : List ℕ) → get kept p ≡ Some text → placed setup text ≡ Some (p, text)
 
--- the source and its version that an upload names
+-- the source and version named by an item, if it is an upload
 abbrev pub upload_in_item : Item → Option (List ℕ × List ℕ)
 upload_in_item (Upload source version urgency day) = Some (source, version)
 upload_in_item (Dropped name arch version) = None
@@ -32,11 +32,12 @@ upload_in_item (Unhint number) = None
 upload_in_item (Delays low medium high critical) = None
 upload_in_item Nothing = None
 
+-- the same for a body
 abbrev pub upload_in : Body → Option (List ℕ × List ℕ)
 upload_in (Saying item) = upload_in_item item
 upload_in (Run order) = None
 
--- the binary of a build at a place, of which the first is 1
+-- the binary at a place of an item, counted from 1, if it is a build
 abbrev pub binary_in_item : ℕ → Item → Option Binary
 binary_in_item place (Upload source version urgency day) = None
 binary_in_item place (Dropped name arch version) = None
@@ -47,11 +48,12 @@ binary_in_item place (Unhint number) = None
 binary_in_item place (Delays low medium high critical) = None
 binary_in_item place Nothing = None
 
+-- the same for a body
 abbrev pub binary_in : ℕ → Body → Option Binary
 binary_in place (Saying item) = binary_in_item place item
 binary_in place (Run order) = None
 
--- a message is kept under its own sender and number
+-- a message is kept at its own sender and number
 pub record IsKept (setup : Lists) (kept : Kept) (p : Place) (message : Message) : Type 0 where
   pub text : List ℕ
   pub stands : get kept p ≡ Some text
@@ -64,7 +66,7 @@ pub record GivesSource (setup : Lists) (kept : Kept) (source : SourceIn) : Type 
   pub is_kept : IsKept setup kept (source.sender, source.number) message
   pub says : upload_in message.body ≡ Some (source.name, source.version)
 
--- a kept build has the row's binary at its place, and the row's architecture is the binary's
+-- a kept build has the row's binary at its place, and the row has the binary's architecture
 pub record GivesRow (setup : Lists) (kept : Kept) (row : RowIn) : Type 0 where
   pub message : Message
   pub is_kept : IsKept setup kept (row.sender, row.number) message
@@ -72,7 +74,7 @@ pub record GivesRow (setup : Lists) (kept : Kept) (row : RowIn) : Type 0 where
   pub known : IsArchPlace setup.archs row.arch
   pub arch : arch_name setup.archs row.arch ≡ row.binary.architecture
 
--- what a new testing has and the kept one hasn't is given by kept messages
+-- kept messages give what a new testing has and the kept one hasn't
 pub record IsGiven (setup : Lists) (content : Content) (testing : Suite) : Type 0 where
   pub sources : (source : SourceIn) → Contains testing.sources source → Contains content.testing.sources source ⊎ GivesSource setup content.kept source
   pub rows : (row : RowIn) → Contains testing.rows row → Contains content.testing.rows row ⊎ GivesRow setup content.kept row

@@ -31,7 +31,7 @@ pub fn rows_in_order(alloc: Global, rows: &[FactRow]) -> Result<FactRows, NoMemo
     Ok(FactRows::of(once))
 }
 
-/// How a row lies to another.
+/// How a row compares with another.
 fn order_of(row: &FactRow, other: &FactRow) -> Ordering
     ensures { result ≡ row_order row.now other.now }
 {
@@ -52,8 +52,8 @@ fn place_near(gone: &[FactRow], row: &FactRow, guess: usize) -> Result<usize, us
     )
 }
 
-/// Puts a row behind those that are left, if it isn't among those that are gone. It answers the place among those where
-/// the next row may be. The guessed place is tried first.
+/// Adds a row to the remaining ones, unless it is gone. Returns the likely place of the next row among those that are
+/// gone. The guessed place is tried first.
 fn put_if_left(
     left: &mut Vec<FactRow>,
     gone: &[FactRow],
@@ -72,7 +72,7 @@ fn put_if_left(
     }
 }
 
-/// Puts the rows that aren't among those that are gone behind those that are left.
+/// Adds the rows that aren't gone to the remaining ones.
 fn put_remaining(
     left: &mut Vec<FactRow>,
     rows: &[FactRow],
@@ -92,7 +92,7 @@ fn put_remaining(
     Ok(())
 }
 
-/// The rows without those that are gone, and those that are put behind them.
+/// The rows without those that are gone, followed by those that are put.
 pub fn rows_after(
     alloc: Global,
     rows: &[FactRow],

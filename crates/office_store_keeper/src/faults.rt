@@ -10,9 +10,9 @@ use std::alloc::{AllocError, AllocFailed};
 /// Why the store refused.
 #[derive(Clone, Copy, Debug, PartialEq, Eq)]
 pub enum Cause {
-    /// The tables' own refusal.
+    /// A refusal by SQLite.
     Sqlite(Error),
-    /// A row that isn't one that an office writes, or a kept text that isn't a message of its own sender and number.
+    /// A row that no office writes, or a kept text that isn't a message with its sender and number.
     BadRow,
 }
 

@@ -14,29 +14,29 @@ use crate::values::{Finished, Letter, MailText, NewLetter, Reports};
 use testing_rules_model::FactRows;
 use testing_rules_suites::Testing;
 
-/// A store of the office: kept mail, the reports of finished runs, testing, and the rows of the facts that go with them.
-/// What its calls make of these is known while `is_trusted` holds: nobody else writes what is kept, it is read back as it
-/// was written, and no fault has shut the store. A fault of the store is answered only where its count of refusals rises.
+/// A store of the office: kept mail, the reports of finished runs, testing, and the rows of its facts. The effect of
+/// its calls is known while `is_trusted` holds: no other program writes the store, it is read back as it was written,
+/// and no fault has closed it. A call reports a fault of the store only if the store's count of refusals rises.
 pub trait Keeper {
-    // Nobody else writes what is kept, and it is read back as it was written.
+    // No other program writes the store, and it is read back as it was written.
     ghost is_clean: { Self → Type 0 };
 
-    // That, and no fault has shut the store.
+    // The same, and no fault has closed the store.
     ghost is_trusted: { Self → Type 0 };
 
-    // The lists of the setup that it was made for.
+    // The lists of the setup that the store was made for.
     ghost setup: { Self → Lists };
 
-    // What is kept. It is known only of a store that is trusted.
+    // The kept content. It is known only for a trusted store.
     ghost content: { Self → Content };
 
-    // What is kept reads as an office writes it.
+    // The kept content is what an office writes.
     ghost is_legible: { Self → Type 0 };
 
-    // How often the store refused. It stays at the greatest `u64`.
+    // How often the store refused. The count saturates.
     ghost refusals: { Self → ℕ };
 
-    // How often the disk failed. It stays at the greatest `u64`.
+    // How often the disk failed. The count saturates.
     ghost disk_faults: { Self → ℕ };
 
     /// The kept text, or none.
@@ -53,7 +53,7 @@ pub trait Keeper {
         ensures bad { is_trusted self.new → is_legible self.old → AreOwnTexts (setup self.old) (content self.old).kept → result ≢ Err (KeepFault.Store Cause.BadRow) }
         ensures counted { Counted (refusals self.old) (refusals self.new) result };
 
-    /// Keeps a text under a free number. A store in memory shares its bytes, if others may.
+    /// Keeps a text under a free number. A store in memory shares its bytes, if possible.
     fn keep(&mut self, sender: u32, number: u32, text: &MailText) -> Result<(), KeepFault>
         requires free { is_trusted self.old → get (content self.old).kept (sender, number) ≡ None }
         ensures kept { is_trusted self.new → is_legible self.old → OnOk result (content self.new ≡ with_text (content self.old) sender number text.now) }
@@ -71,13 +71,13 @@ pub trait Keeper {
         ensures bad { is_trusted self.new → is_legible self.old → AreOwnTexts (setup self.old) (content self.old).kept → result ≢ Err (KeepFault.Store Cause.BadRow) }
         ensures counted { Counted (refusals self.old) (refusals self.new) result };
 
-    /// How many texts this store keeps best together.
+    /// The best number of texts to keep together.
     fn keeps_together(&self) -> usize {
         1
     }
 
-    /// Keeps these texts under free numbers, all or none of them, and answers whether it did. A store that keeps texts
-    /// best one by one keeps none.
+    /// Keeps these texts under free numbers, all or none, and says whether it did. A store that works best with single
+    /// texts keeps none.
     fn keep_all(&mut self, letters: &[NewLetter]) -> Result<bool, KeepFault>
         requires free { is_trusted self.old → AreFree (content self.old).kept letters.now }
         ensures kept { is_trusted self.new → is_legible self.old → IfOk result (λ all. content self.new ≡ (if all then with_mail (content self.old) letters.now else content self.old)) }
@@ -98,7 +98,7 @@ pub trait Keeper {
         Ok(false)
     }
 
-    /// How many runs are finished.
+    /// The number of finished runs.
     fn finished(&mut self) -> Result<u32, KeepFault>
         ensures value { is_trusted self.new → IfOk result (λ n. n ≡ length (content self.old).reports) }
         ensures same { is_trusted self.new → content self.new ≡ content self.old }
@@ -140,9 +140,9 @@ pub trait Keeper {
         ensures bad { is_trusted self.new → is_legible self.old → AreOwnTexts (setup self.old) (content self.old).kept → result ≢ Err (KeepFault.Store Cause.BadRow) }
         ensures counted { Counted (refusals self.old) (refusals self.new) result };
 
-    /// Makes the next run finished, with its reports, its testing and what changed of the rows of facts, all at once.
-    /// Testing is kept as it is handed over where each entry that the kept one hasn't names a kept message that gives it,
-    /// and the rows of facts where a store has a place for them.
+    /// Finishes the next run, with its reports, its testing and the changes to the rows of facts, all at once. Testing
+    /// is kept as given if a kept message gives each entry that the kept one hasn't; the rows of facts are kept if a
+    /// store has a place for them.
     fn finish(&mut self, run: u32, done: &Finished) -> Result<(), KeepFault>
         requires next { is_trusted self.old → run ≡ length (content self.old).reports + 1 }
         requires known { is_trusted self.old → KnowsArchs (setup self.old).archs done.now.testing.rows }
@@ -161,7 +161,7 @@ pub trait Keeper {
         ensures bad { is_trusted self.new → is_legible self.old → AreOwnTexts (setup self.old) (content self.old).kept → result ≢ Err (KeepFault.Store Cause.BadRow) }
         ensures counted { Counted (refusals self.old) (refusals self.new) result };
 
-    /// The two reports of a finished run; none of another.
+    /// The two reports of a finished run, or none for another run.
     fn reports(&mut self, run: u32) -> Result<Option<Reports>, KeepFault>
         ensures value { is_trusted self.new → IfOk result (λ reports. reports ≡ item_from_one run (content self.old).reports) }
         ensures same { is_trusted self.new → content self.new ≡ content self.old }
@@ -175,8 +175,8 @@ pub trait Keeper {
         ensures bad { is_trusted self.new → is_legible self.old → AreOwnTexts (setup self.old) (content self.old).kept → result ≢ Err (KeepFault.Store Cause.BadRow) }
         ensures counted { Counted (refusals self.old) (refusals self.new) result };
 
-    /// The testing suite, as the last finished run left it. Also of a store that isn't trusted it has architectures of
-    /// the setup and `all` alone.
+    /// The testing suite after the last finished run. Even in an untrusted store it has only architectures of the setup
+    /// and `all`.
     fn testing(&mut self) -> Result<Testing, KeepFault>
         ensures value { is_trusted self.new → IfOk result (λ testing. testing ≡ (content self.old).testing) }
         ensures archs { IfOk result (λ testing. KnowsArchs (setup self.new).archs testing.rows) }
@@ -191,7 +191,7 @@ pub trait Keeper {
         ensures bad { is_trusted self.new → is_legible self.old → AreOwnTexts (setup self.old) (content self.old).kept → result ≢ Err (KeepFault.Store Cause.BadRow) }
         ensures counted { Counted (refusals self.old) (refusals self.new) result };
 
-    /// The rows of the facts of the mail that the finished runs cover, by kind, sender, number and place.
+    /// The rows of the facts in the mail covered by the finished runs, by kind, sender, number and place.
     fn facts(&mut self) -> Result<FactRows, KeepFault>
         ensures value { is_trusted self.new → IfOk result (λ rows. rows ≡ rows_in (content self.old).facts) }
         ensures same { is_trusted self.new → content self.new ≡ content self.old }
@@ -205,8 +205,8 @@ pub trait Keeper {
         ensures bad { is_trusted self.new → is_legible self.old → AreOwnTexts (setup self.old) (content self.old).kept → result ≢ Err (KeepFault.Store Cause.BadRow) }
         ensures counted { Counted (refusals self.old) (refusals self.new) result };
 
-    /// Whether what is kept reads as an office writes it, and so many texts are kept. Where more are named than are kept, the
-    /// answer says nothing.
+    /// Whether the content is what an office writes, with this many kept texts. If more are named than are kept, the
+    /// answer means nothing.
     fn is_whole(&mut self, texts: u64) -> Result<bool, KeepFault>
         ensures whole { is_trusted self.new → texts ≤ len (content self.old).kept → IfOk result (λ whole. IsTrue whole ↔ (is_legible self.new × (len (content self.old).kept ≡ texts))) }
         ensures same { is_trusted self.new → content self.new ≡ content self.old }
@@ -220,8 +220,8 @@ pub trait Keeper {
         ensures bad { is_trusted self.new → is_legible self.old → AreOwnTexts (setup self.old) (content self.old).kept → result ≢ Err (KeepFault.Store Cause.BadRow) }
         ensures counted { Counted (refusals self.old) (refusals self.new) result };
 
-    /// Makes the next run finished, as `finish` does, with what it is handed to keep. A store that needs no more than
-    /// the value itself has no copy to make.
+    /// Finishes the next run like `finish`, taking its result by value. A store that only needs the value itself copies
+    /// nothing.
     fn take_finished(&mut self, run: u32, done: Finished) -> Result<(), KeepFault>
         requires next { is_trusted self.old → run ≡ length (content self.old).reports + 1 }
         requires known { is_trusted self.old → KnowsArchs (setup self.old).archs done.testing.rows }
@@ -245,7 +245,7 @@ pub trait Keeper {
         finished
     }
 
-    /// The testing suite for the next run, as `testing`: a store that has what speeds that run hands it out along with it.
+    /// The testing suite for the next run, like `testing`: a store that keeps what speeds up that run passes it on too.
     fn next_testing(&mut self) -> Result<Testing, KeepFault>
         ensures value { is_trusted self.new → is_legible self.new → IfOk result (λ testing. testing ≡ (content self.old).testing) }
         ensures archs { IfOk result (λ testing. KnowsArchs (setup self.new).archs testing.rows) }
@@ -263,8 +263,8 @@ pub trait Keeper {
         self.testing()
     }
 
-    /// Takes a testing back that `next_testing` handed out and that no run changed: a store that keeps what speeds the next
-    /// run has it again. It changes nothing else.
+    /// Takes back a testing from `next_testing` that no run changed: a store that keeps what speeds up the next run has
+    /// it again. Nothing else changes.
     fn give_back(&mut self, testing: Testing)
         requires same { is_trusted self.old → is_legible self.old → testing ≡ (content self.old).testing }
         ensures same { is_trusted self.new → content self.new ≡ content self.old }

@@ -1,4 +1,4 @@
-//! What a store of the office does, behind one trait that says what each call makes of it, and the store in memory.
+//! The store of the office as one trait that says what each call does, and the store in memory.
 #![tactic(auto)]
 
 mod fact_rows;

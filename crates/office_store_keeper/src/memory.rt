@@ -23,8 +23,8 @@ use std::mem;
 use testing_rules_model::{FactRow, FactRows};
 use testing_rules_suites::Testing;
 
-/// Kept mail by sender and number, with reports, testing and the rows of facts in any order. It fails for want of memory
-/// alone.
+/// Kept mail by sender and number, with reports, testing and the rows of facts in any order. It fails only if memory
+/// runs out.
 pub struct Plain {
     alloc: Global,
     setup: Setup,
@@ -72,7 +72,7 @@ impl Plain {
         })
     }
 
-    /// How many texts are kept. It takes no memory.
+    /// The number of kept texts. It allocates nothing.
     pub fn texts(&self) -> u64
         ensures { result ≡ len (kept_in self.now.mail) }
     {
@@ -80,7 +80,7 @@ impl Plain {
     }
 }
 
-/// How many texts these are.
+/// The number of these texts.
 fn count(mail: &BTreeMap<(u32, u32), MailText>) -> u64
     ensures { result ≡ len (kept_in mail.now.entries) }
 {
@@ -103,10 +103,10 @@ fn share_text(
     }
 }
 
-/// For so many letters room is taken at once. A caller that wants more of them is rare.
+/// Room for this many letters is allocated at once. A caller rarely wants more.
 const AT_ONCE: u32 = 255;
 
-/// The letters of a sender from one number to another, by number, where the first isn't above the second.
+/// The letters of a sender from one number to another, by number, if the first isn't above the second.
 fn letters_between(
     alloc: Global,
     mail: &BTreeMap<(u32, u32), MailText>,
@@ -173,7 +173,7 @@ fn reports_of(runs: &[Reports], run: u32) -> Option<&Reports>
     runs.get(run as usize - 1)
 }
 
-/// Puts the reports of one run more behind those of the runs before.
+/// Adds the reports of one more run after the earlier ones.
 fn put_reports(runs: &mut Vec<Reports>, reports: Reports) -> Result<(), KeepFault>
     ensures done { OnOk result (runs.new.items ≡ runs.old.items ++ reports ∷ []) }
     ensures err { OnErr result (runs.new.items ≡ runs.old.items) }
@@ -183,14 +183,14 @@ fn put_reports(runs: &mut Vec<Reports>, reports: Reports) -> Result<(), KeepFaul
     Ok(())
 }
 
-/// Puts a value in the place of the one before.
+/// Replaces a value.
 fn put<T: Drop>(place: &mut T, value: T)
     ensures { place.new ≡ value }
 {
     drop(mem::replace(place, value));
 }
 
-/// Keeps what one run more leaves, with the rows of facts as they are then, or nothing.
+/// Keeps the result of one more run, with the new rows of facts, or nothing.
 fn put_run(
     runs: &mut Vec<Reports>,
     testing: &mut Testing,
@@ -219,7 +219,7 @@ fn put_run(
     }
 }
 
-/// Keeps what one run more leaves, or nothing.
+/// Keeps the result of one more run, or nothing.
 fn keep_run(
     alloc: Global,
     runs: &mut Vec<Reports>,
@@ -258,7 +258,7 @@ fn keep_run(
     }
 }
 
-/// Copies of the reports and of the testing that a run leaves.
+/// Copies of the reports and of the testing in a run's result.
 fn copies_of(alloc: Global, done: &Finished) -> Result<(Reports, Testing), NoMemory>
     ensures { IfOk result (λ copies. (copies.0 ≡ reports_in done.now) × (copies.1 ≡ done.now.testing)) }
 {
@@ -272,7 +272,7 @@ fn copies_of(alloc: Global, done: &Finished) -> Result<(Reports, Testing), NoMem
     }
 }
 
-/// Keeps a copy of what one run more leaves, or nothing.
+/// Keeps a copy of the result of one more run, or nothing.
 fn keep_copy(
     alloc: Global,
     runs: &mut Vec<Reports>,
@@ -308,7 +308,7 @@ impl Keeper for Plain {
 
     ghost is_legible = { λ _. ⊤ };
 
-    // It never refuses, so by the clauses on this count it never answers that the store failed.
+    // It never refuses, so by the clauses on this count it never reports a fault of the store.
     ghost refusals = { λ _. 0 };
 
     ghost disk_faults = { λ _. 0 };

@@ -1,4 +1,4 @@
-//! What is kept: the texts of mail, the reports of runs, and the testing suite that a run leaves.
+//! The kept values: the texts of mail, the reports of runs, and the testing suite after a run.
 ghost use Rattle.std.specs.Prelude.{◌≡◌, IfOk};
 ghost use Rattle.office_store_keeper.specs.Content.{reports_in};
 
@@ -9,7 +9,7 @@ use std::rc::Rc;
 use testing_rules_model::FactChanges;
 use testing_rules_suites::Testing;
 
-/// Where a text has its bytes: in a vector of its own, or in one that it shares with equal texts.
+/// Where the bytes of a text are: in its own vector, or in one shared with equal texts.
 #[derive(Drop)]
 enum Bytes {
     Own(Vec<u8>),
@@ -37,7 +37,7 @@ impl Model for MailText {
 }
 
 impl MailText {
-    /// A text of these bytes. It takes no memory.
+    /// A text of these bytes. It allocates nothing.
     pub fn of(bytes: Vec<u8>) -> MailText
         ensures { result ≡ bytes.items }
     {
@@ -46,7 +46,7 @@ impl MailText {
         }
     }
 
-    /// A copy of these bytes, which others may share from here on.
+    /// A copy of these bytes that others may share from here on.
     pub fn shared(alloc: Global, bytes: &[u8]) -> Result<MailText, AllocError>
         ensures { IfOk result (λ text. text ≡ bytes.now) }
     {
@@ -56,7 +56,7 @@ impl MailText {
         })
     }
 
-    /// An equal text. It shares the bytes if others may, and else it copies them.
+    /// An equal text. It shares the bytes if possible, else it copies them.
     pub fn share(&self, alloc: Global) -> Result<MailText, AllocError>
         ensures { IfOk result (λ text. text ≡ self.now) }
     {
@@ -67,7 +67,7 @@ impl MailText {
         Ok(MailText { bytes })
     }
 
-    /// The bytes. It takes no memory.
+    /// The bytes. It allocates nothing.
     pub fn as_slice(&self) -> &[u8]
         ensures { result.now ≡ self.now }
     {
@@ -85,7 +85,7 @@ pub struct Letter {
     pub text: MailText,
 }
 
-/// A text that is to be kept, with its sender's place and its number.
+/// A text to be kept, with its sender's place and its number.
 #[derive(Drop)]
 pub struct NewLetter {
     pub sender: u32,
@@ -112,7 +112,7 @@ impl Reports {
     }
 }
 
-/// What a finished run leaves: the testing suite, the two reports, and what changed of the rows of facts.
+/// The result of a finished run: the testing suite, the two reports, and the changes to the rows of facts.
 #[derive(Drop)]
 pub struct Finished {
     pub testing: Testing,
@@ -122,7 +122,7 @@ pub struct Finished {
 }
 
 impl Finished {
-    /// The reports alone.
+    /// Only the reports.
     pub fn reports(&self, alloc: Global) -> Result<Reports, NoMemory>
         ensures { IfOk result (λ reports. reports ≡ reports_in self.now) }
     {

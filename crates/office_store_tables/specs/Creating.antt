@@ -1,11 +1,11 @@
--- The tables of an office as they are when they are made.
+-- The new tables of an office.
 use Rattle.std.specs.Prelude.{◌≡◌, [], ◌∷◌, Some}
 use Rattle.sqlite.specs.Order.{Row}
 use Rattle.sqlite.specs.Tree.{Trees}
 use Rattle.office_store_testing_tables.specs.declared.said.Said.{Said}
 use Rattle.office_store_tables.specs.Tables.{office_in, said_in}
 
--- the tables stand: the office says this in its one row, and all else is empty
+-- the tables are new: the office's only row says this, and all other tables are empty
 pub record IsBlank (db : Trees) (said : Said) : Type 0 where
   pub row : Row
   pub one : db 0 ≡ row ∷ []

@@ -1,5 +1,5 @@
 -- Steps: no contract of a call that users make rests on this file.
--- How the tables of an office are made in a fresh database, one after another.
+-- How an office's tables are made in a new database, one after another.
 use Rattle.std.specs.Prelude.{◌≡◌, [], IsTrue}
 use Rattle.sqlite.specs.Change.{created, next_tree, KeepsRows}
 use Rattle.sqlite.specs.Schema.{Schema}
@@ -26,12 +26,12 @@ schema_of_five = created schema_of_four testing_row
 abbrev pub schema_of_six : Schema
 schema_of_six = created schema_of_five fact
 
--- this schema stands so far, in a transaction that is under way
+-- this is the schema so far, in an open transaction
 pub record IsBuilding (schema : Schema) (s : State) : Type 0 where
   pub schema_is : s.now.schema ≡ schema
   pub begun : IsTrue s.in_transaction
 
--- a table was made, with no row; the tables before it have theirs, and nothing was committed
+-- a table was made, without rows; the earlier tables keep theirs, and nothing was committed
 pub record Makes (schema : Schema) (table : Table) (old new : State) : Type 0 where
   pub schema_is : new.now.schema ≡ created schema table
   pub begun : IsTrue new.in_transaction
@@ -39,7 +39,7 @@ pub record Makes (schema : Schema) (table : Table) (old new : State) : Type 0 wh
   pub empty : new.now.trees (next_tree schema) ≡ []
   pub others : KeepsRows schema.tables old.now.trees new.now.trees
 
--- the seven tables were made, with no row
+-- the seven tables were made, without rows
 pub record MakesAll (old new : State) : Type 0 where
   pub schema_is : new.now.schema ≡ created schema_of_six fact_delays
   pub begun : IsTrue new.in_transaction

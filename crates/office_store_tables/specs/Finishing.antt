@@ -1,5 +1,5 @@
 -- Steps: no contract of a call that users make rests on this file.
--- What a finished run makes of the tables.
+-- The effect of a finished run on the tables.
 use Rattle.std.specs.Prelude.{◌≡◌, ℕ, length, map, Some, None}
 use Rattle.std.specs.FinMap.{get, insert, from_entries}
 use Rattle.sqlite.specs.Tree.{Trees}
@@ -13,13 +13,12 @@ use Rattle.office_store_testing_tables.specs.EntrySteps.{source_entry, row_entry
 use Rattle.office_store_keeper.specs.FactSet.{facts_after}
 use Rattle.office_store_testing_tables.specs.FactSteps.{CanStandEach, MovesFacts}
 
--- the office says so many runs instead, and else the same
+-- the office says this number of runs instead, and otherwise the same
 abbrev pub with_count : ℕ → Said → Said
 with_count run said = record { schema = said.schema; setup = said.setup; finished = run }
 
--- The run is finished with its reports, which it hadn't before, beside the earlier ones; the tables of testing have
--- exactly the new entries; the facts are changed as it says; the office says this; the mail stands; and tables that are
--- whole stay so.
+-- The run is newly finished, its reports added to the earlier ones; the tables of testing have exactly the new entries;
+-- the facts change as it says; the office says this; the mail is unchanged; and whole tables stay whole.
 pub record WritesRun (release : ℕ) (db next : Trees) (run : ℕ) (done : Finished) (said : Said) : Type 0 where
   pub reported : run_map (next 3) ≡ insert (run_map (db 3)) run (reports_in done)
   pub new : get (run_map (db 3)) run ≡ None
@@ -33,7 +32,7 @@ pub record WritesRun (release : ℕ) (db next : Trees) (run : ℕ) (done : Finis
   pub whole_sources : IsWhole (source_map (db 4)) (db 4) → IsWhole (source_map (next 4)) (next 4)
   pub whole_rows : IsWhole (entry_map (db 6)) (db 6) → IsWhole (entry_map (next 6)) (next 6)
 
--- the same, where the office says what it said but for the count
+-- the same, and the office says what it said except for the count
 pub record FinishesRun (release : ℕ) (db next : Trees) (run : ℕ) (done : Finished) : Type 0 where
   pub said : Said
   pub said_is : said_in (db 0) ≡ Some said

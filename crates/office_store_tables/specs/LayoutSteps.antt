@@ -1,12 +1,12 @@
 -- Steps: no contract of a call that users make rests on this file.
--- How a schema is told to be that of the office: its tables and indexes, one by one.
+-- How a schema is recognised as the office's: its tables and indexes, one by one.
 use Rattle.sqlite.specs.Table.{Table}
 use Rattle.sqlite_schema.specs.declared.schema.Index.{Index}
 use Rattle.sqlite_value.specs.Keys.{plain}
 use Rattle.std.specs.Prelude.{true, false, [], ◌∷◌, Some, None, codes, List, ℕ, ◌≡◌}
 use Rattle.office_store_tables.specs.Layout.{office, mail, run, testing_source, testing_row, fact, fact_delays, standing}
 
--- a table has no CHECK, no default that is computed, and no AUTOINCREMENT
+-- a table without CHECK, computed defaults and AUTOINCREMENT
 pub record IsBare (table : Table) : Type 0 where
   pub checks : table.checks ≡ []
   pub computed : table.computed ≡ []

@@ -1,8 +1,8 @@
--- A database that a refused call left alone.
+-- A database that a refused call didn't change.
 use Rattle.std.specs.Prelude.{◌≡◌}
 use Rattle.sqlite.specs.State.{State}
 
--- the database stands as it was, as the last commit left it too, in a transaction only where it was in one
+-- the database is unchanged, and so is its last commit; it is in a transaction only if it was in one
 pub record IsAsItWas (old new : State) : Type 0 where
   pub now : new.now ≡ old.now
   pub committed : new.committed ≡ old.committed

@@ -9,7 +9,7 @@ use office_store_testing_tables::fact_changes::{add_each, drop_each};
 use sqlite::{Alter, Transaction};
 use testing_rules_model::FactChanges;
 
-/// Takes out the facts that are gone.
+/// Removes the facts that are gone.
 fn drop_gone<S: Alter>(
     tx: &mut Transaction<'_, S>,
     release: u32,
@@ -23,7 +23,7 @@ fn drop_gone<S: Alter>(
     drop_each(tx, release, changes.gone.as_slice())
 }
 
-/// Takes out the facts that are gone, then puts in the new ones.
+/// Removes the facts that are gone, then adds the new ones.
 pub(crate) fn change_facts<S: Alter>(
     tx: &mut Transaction<'_, S>,
     release: u32,

@@ -1,4 +1,4 @@
-//! A finished run, in one transaction over the tables.
+//! Finishes a run in one transaction over the tables.
 ghost use Rattle.std.specs.Prelude.{◌≡◌, ◌≢◌, Err, OnOk, OnErr};
 ghost use Rattle.std.specs.Str.{IsUtf8};
 ghost use Rattle.sqlite.specs.Held.{state};
@@ -19,7 +19,7 @@ use office_store_testing_tables::said::Said;
 use office_store_testing_tables::testing::{set_rows, set_sources};
 use sqlite::{Alter, Connection, Error, Transaction};
 
-/// The steps of a finished run, a table at a time.
+/// The steps that finish a run, table by table.
 fn write_run<S: Alter>(
     tx: &mut Transaction<'_, S>,
     release: u32,
@@ -72,7 +72,7 @@ fn commit_run<S: Alter>(
     Ok(())
 }
 
-/// Makes a run finished: all its tables, or none.
+/// Finishes a run: in all its tables, or in none.
 pub fn finish<S: Alter>(
     conn: &mut Connection<S>,
     setup: &Setup,

@@ -1,4 +1,4 @@
-//! Whether a database has the office's tables and nothing else, and which of them it has where others stand beside them.
+//! Whether a database has exactly the office's tables, and which of them it has if there are others.
 ghost use Rattle.std.specs.Prelude.{◌≡◌, ◌↔◌, [], ◌∷◌, codes, IsTrue, IfOk};
 ghost use Rattle.std.specs.Option.{option_copied};
 ghost use Rattle.office_store_tables.specs.Layout.{column_by, to_mail, office, mail, run, testing_source, testing_row, fact, fact_delays, no_schema, schema_before, office_schema, standing, is_free, has_none, table_by, IsFound};
@@ -32,7 +32,7 @@ fn has_no_term(alloc: Global, terms: &Terms) -> Result<bool, AllocError>
     Ok(lent.roots.is_empty())
 }
 
-/// Whether a table has no more than columns, keys and references.
+/// Whether a table has nothing but columns, keys and references.
 fn is_bare(alloc: Global, table: &Table) -> Result<bool, AllocError>
     ensures { IfOk result (λ bare. IsTrue bare ↔ IsBare table.now) }
 {
@@ -72,7 +72,7 @@ fn are_places(places: &Items<usize>, expected: &[usize]) -> bool
     places.as_slice() == expected
 }
 
-/// Whether there is one key, the columns at these places.
+/// Whether there is exactly one key, the columns at these places.
 fn is_only_key(keys: &[Items<usize>], places: &[usize]) -> bool
     ensures { IsTrue result ↔ (keys.now ≡ places.now ∷ []) }
 {
@@ -82,7 +82,7 @@ fn is_only_key(keys: &[Items<usize>], places: &[usize]) -> bool
     }
 }
 
-/// Whether there is one order, by the bytes and rising.
+/// Whether there is exactly one order, by the bytes and ascending.
 fn is_only_order(orders: &[Order]) -> bool
     ensures { IsTrue result ↔ (orders.now ≡ plain ∷ []) }
 {
@@ -102,7 +102,7 @@ fn is_keyed(table: &Table, places: &[usize]) -> bool
         && is_only_order(table.orders.as_slice())
 }
 
-/// Whether a table refers to the mail alone, by the columns at these places.
+/// Whether a table refers only to the mail, by the columns at these places.
 fn refers_to_mail(references: &[Reference], places: &[usize]) -> bool
     ensures { IsTrue result ↔ (references.now ≡ to_mail places.now ∷ []) }
 {
@@ -129,7 +129,7 @@ fn name_mail(columns: &[Bytes]) -> bool
     }
 }
 
-/// Whether a reference is one to the mail, by the columns at these places.
+/// Whether a reference is to the mail, by the columns at these places.
 fn is_to_mail(reference: &Reference, places: &[usize]) -> bool
     ensures { IsTrue result ↔ (reference.now ≡ to_mail places.now) }
 {
@@ -436,7 +436,7 @@ fn are_indexes(indexes: &[Index]) -> bool
     }
 }
 
-/// Whether a database has the office's seven tables with the indexes of their keys, and nothing else.
+/// Whether a database has exactly the office's seven tables with the indexes of their keys.
 #[tactic(auto, using(crate::proofs::SchemaLemmas::whole, crate::proofs::SchemaLemmas::parts))]
 pub fn has_tables(alloc: Global, schema: &Schema) -> Result<bool, AllocError>
     ensures { IfOk result (λ same. IsTrue same ↔ (schema.now ≡ office_schema)) }
@@ -446,7 +446,7 @@ pub fn has_tables(alloc: Global, schema: &Schema) -> Result<bool, AllocError>
     Ok(tables && indexes && schema.views.is_empty())
 }
 
-/// Whether a database has the office's six tables of schema 1 with the indexes of their keys, and nothing else.
+/// Whether a database has exactly the office's six tables of schema 1 with the indexes of their keys.
 #[tactic(auto, using(crate::proofs::SchemaLemmas::whole_before, crate::proofs::SchemaLemmas::parts_before))]
 pub fn has_tables_before(alloc: Global, schema: &Schema) -> Result<bool, AllocError>
     ensures { IfOk result (λ same. IsTrue same ↔ (schema.now ≡ schema_before)) }
@@ -485,7 +485,7 @@ pub fn has_none(schema: &Schema) -> bool
         && is_free(schema, b"fact_delays")
 }
 
-/// The table of a name.
+/// The table with a name.
 fn table_by<'a>(schema: &'a Schema, name: &[u8]) -> Option<&'a Table>
     ensures { option_copied result ≡ table_by name.now schema.now }
 {
@@ -493,7 +493,7 @@ fn table_by<'a>(schema: &'a Schema, name: &[u8]) -> Option<&'a Table>
     schema.tables.as_slice().get(at)
 }
 
-/// Whether the office's table is there, in whatever tree.
+/// Whether the office's table exists, in any tree.
 pub fn has_office(alloc: Global, schema: &Schema) -> Result<bool, AllocError>
     ensures { IfOk result (λ has. IsTrue has ↔ IsFound office (table_by (codes "office") schema.now)) }
 {
@@ -503,7 +503,7 @@ pub fn has_office(alloc: Global, schema: &Schema) -> Result<bool, AllocError>
     }
 }
 
-/// Whether the table of mail is there, in whatever tree.
+/// Whether the table of mail exists, in any tree.
 pub fn has_mail(alloc: Global, schema: &Schema) -> Result<bool, AllocError>
     ensures { IfOk result (λ has. IsTrue has ↔ IsFound mail (table_by (codes "mail") schema.now)) }
 {
@@ -513,7 +513,7 @@ pub fn has_mail(alloc: Global, schema: &Schema) -> Result<bool, AllocError>
     }
 }
 
-/// Whether the table of finished runs is there, in whatever tree.
+/// Whether the table of finished runs exists, in any tree.
 pub fn has_run(alloc: Global, schema: &Schema) -> Result<bool, AllocError>
     ensures { IfOk result (λ has. IsTrue has ↔ IsFound run (table_by (codes "run") schema.now)) }
 {
@@ -523,7 +523,7 @@ pub fn has_run(alloc: Global, schema: &Schema) -> Result<bool, AllocError>
     }
 }
 
-/// Whether the table of testing's sources is there, in whatever tree.
+/// Whether the table of testing's sources exists, in any tree.
 pub fn has_testing_source(alloc: Global, schema: &Schema) -> Result<bool, AllocError>
     ensures { IfOk result (λ has. IsTrue has ↔ IsFound testing_source (table_by (codes "testing_source") schema.now)) }
 {
@@ -533,7 +533,7 @@ pub fn has_testing_source(alloc: Global, schema: &Schema) -> Result<bool, AllocE
     }
 }
 
-/// Whether the table of testing's rows is there, in whatever tree.
+/// Whether the table of testing's rows exists, in any tree.
 pub fn has_testing_row(alloc: Global, schema: &Schema) -> Result<bool, AllocError>
     ensures { IfOk result (λ has. IsTrue has ↔ IsFound testing_row (table_by (codes "testing_row") schema.now)) }
 {
@@ -543,7 +543,7 @@ pub fn has_testing_row(alloc: Global, schema: &Schema) -> Result<bool, AllocErro
     }
 }
 
-/// Whether the table of facts is there, in whatever tree.
+/// Whether the table of facts exists, in any tree.
 pub fn has_fact(alloc: Global, schema: &Schema) -> Result<bool, AllocError>
     ensures { IfOk result (λ has. IsTrue has ↔ IsFound fact (table_by (codes "fact") schema.now)) }
 {
@@ -553,7 +553,7 @@ pub fn has_fact(alloc: Global, schema: &Schema) -> Result<bool, AllocError>
     }
 }
 
-/// Whether the table of the number of the last delays is there, in whatever tree.
+/// Whether the table of the number of the last delays exists, in any tree.
 pub fn has_fact_delays(alloc: Global, schema: &Schema) -> Result<bool, AllocError>
     ensures { IfOk result (λ has. IsTrue has ↔ IsFound fact_delays (table_by (codes "fact_delays") schema.now)) }
 {

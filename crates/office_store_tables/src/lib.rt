@@ -1,5 +1,5 @@
-//! The tables of an office in sqlite: how they are made and recognized, the text of the setup that they keep, and the calls
-//! that read and change them.
+//! The tables of an office in sqlite: how they are made and recognised, the text of their setup, and the calls that
+//! read and change them.
 #![tactic(auto)]
 
 pub mod fact_changes;

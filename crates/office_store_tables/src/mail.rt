@@ -45,7 +45,8 @@ fn only_number(rows: &[Row], sender: u32) -> Result<Option<u32>, KeepFault>
     }
 }
 
-/// The least kept number of a sender from one number on, or none. Its row is read whole: one without a text is no letter.
+/// The least kept number of a sender from one number on, or none. The whole row is read: without a text it isn't a
+/// letter.
 pub fn next_number<S: Alter>(
     conn: &mut Connection<S>,
     sender: u32,
@@ -69,7 +70,7 @@ fn rowids<S: Alter>(conn: &mut Connection<S>) -> Result<Vec<Row>, Error>
     conn.query_all("SELECT rowid FROM mail", &[])
 }
 
-/// How many rows the table has, whether each is a letter or not.
+/// The number of rows of the table, whether they are letters or not.
 pub fn count<S: Alter>(conn: &mut Connection<S>) -> Result<u64, KeepFault>
     requires ours { BeginsOurs S.Store conn.old }
     ensures reads { ReadsOnly S.Store conn.old conn.new result }
@@ -154,7 +155,7 @@ fn eight_values(letters: &[NewLetter]) -> [[ValueRef<'_>; 3]; 8]
     }
 }
 
-/// Adds eight texts to the mail by one statement.
+/// Adds eight texts to the mail with one statement.
 fn add_eight<S: Alter>(tx: &mut Transaction<'_, S>, letters: &[NewLetter]) -> Result<usize, Error>
     requires inside { BeginsInside S.Store tx.old.conn }
     requires eight { length letters.now ≡ 8 }
@@ -168,7 +169,7 @@ fn add_eight<S: Alter>(tx: &mut Transaction<'_, S>, letters: &[NewLetter]) -> Re
     )
 }
 
-/// Adds the first of these texts to the mail, and says how many: eight by one statement, or one where there are fewer.
+/// Adds the first of these texts to the mail, and says how many: eight with one statement, or one if there are fewer.
 fn add_first<S: Alter>(tx: &mut Transaction<'_, S>, letters: &[NewLetter]) -> Result<usize, Error>
     requires inside { BeginsInside S.Store tx.old.conn }
     requires some { 0 < length letters.now }

@@ -1,4 +1,4 @@
-//! Whether the tables read as an office writes them.
+//! Whether the tables are what an office writes.
 ghost use Rattle.std.specs.Prelude.{◌≡◌, ◌≢◌, ◌≤◌, ◌↔◌, Ok, Err, IsTrue, IfOk};
 ghost use Rattle.std.specs.FinMap.{len};
 ghost use Rattle.sqlite.specs.Held.{state};
@@ -32,7 +32,7 @@ fn is_setup(alloc: Global, text: &str, setup: &Setup) -> Result<bool, KeepFault>
     }
 }
 
-/// How many runs are finished by what an office says, where it is of the schema's number 2 and of this setup.
+/// The number of finished runs that an office of schema number 2 and of this setup states, or none for another.
 fn count_said(alloc: Global, said: &Said, setup: &Setup) -> Result<Option<u32>, KeepFault>
     ensures own { IfOk result (λ count. IsSaidFor setup.now said.now count) }
     ensures bad { result ≢ Err (KeepFault.Store Cause.BadRow) }
@@ -45,7 +45,7 @@ fn count_said(alloc: Global, said: &Said, setup: &Setup) -> Result<Option<u32>, 
     }
 }
 
-/// How many runs are finished by the office's only row, where it is of the schema's number 2 and of this setup.
+/// The number of finished runs in the office's only row, if it has schema number 2 and this setup.
 fn own_count<S: Alter>(
     alloc: Global,
     conn: &mut Connection<S>,
@@ -79,7 +79,7 @@ fn read_entries<S: Alter>(
     Ok(())
 }
 
-/// Whether the tables but the office's read as an office writes them that finished so many runs, and so many texts are kept.
+/// Whether the tables besides the office's are what an office writes with this many finished runs and kept texts.
 fn is_rest_whole<S: Alter>(
     alloc: Global,
     conn: &mut Connection<S>,
@@ -104,8 +104,8 @@ fn is_rest_whole<S: Alter>(
     Ok(true)
 }
 
-/// Whether the tables read as an office with this setup writes them, and so many texts are kept. Where more are named than
-/// are kept, the answer says nothing.
+/// Whether the tables are what an office with this setup writes, with this many kept texts. If more are named than are
+/// kept, the answer means nothing.
 pub fn is_whole<S: Alter>(
     alloc: Global,
     conn: &mut Connection<S>,

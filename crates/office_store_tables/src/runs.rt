@@ -24,7 +24,7 @@ use office_store_testing_tables::said::Said;
 use office_store_testing_tables::shown::number_in;
 use sqlite::{Alter, Connection, Error, Row, Transaction, params};
 
-/// What a row of the office says, whose id is 1.
+/// The content of the office's row with the id 1.
 fn said_in(row: &Row) -> Result<Said, KeepFault>
     ensures bad { result ≡ Err (KeepFault.Store Cause.BadRow) → (said : SaidNow) → said.schema < 4_294_967_296 → said.finished < 4_294_967_296 → IsUtf8 said.setup → row.now ≢ Int (pos 1) ∷ Int (pos said.schema) ∷ Words said.setup ∷ Int (pos said.finished) ∷ [] }
     ensures ok { IfOk result (λ said. (column row.now 0 ≡ Int (pos 1)) × (column row.now 1 ≡ Int (pos said.schema)) × (column row.now 2 ≡ Words said.setup) × (column row.now 3 ≡ Int (pos said.finished))) }
@@ -44,7 +44,7 @@ fn said_in(row: &Row) -> Result<Said, KeepFault>
     })
 }
 
-/// What the only row says.
+/// The content of the only row.
 fn only_said(rows: &[Row]) -> Result<Said, KeepFault>
     ensures ok { IfOk result (λ said. IsOnlyOffice said rows.now) }
     ensures fits { IfOk result (λ said. (said.schema < 4_294_967_296) × (said.finished < 4_294_967_296) × IsUtf8 said.setup) }
@@ -65,7 +65,7 @@ pub fn office_rows<S: Alter>(conn: &mut Connection<S>) -> Result<Vec<Row>, Error
     conn.query_all("SELECT id, schema, setup, finished FROM office", &[])
 }
 
-/// What the office says of itself.
+/// The content of the office's row.
 pub(crate) fn said<S: Alter>(conn: &mut Connection<S>) -> Result<Said, KeepFault>
     requires ours { BeginsOurs S.Store conn.old }
     ensures reads { ReadsOnly S.Store conn.old conn.new result }
@@ -77,7 +77,7 @@ pub(crate) fn said<S: Alter>(conn: &mut Connection<S>) -> Result<Said, KeepFault
     only_said(rows.as_slice())
 }
 
-/// How many runs are finished.
+/// The number of finished runs.
 pub fn finished<S: Alter>(conn: &mut Connection<S>) -> Result<u32, KeepFault>
     requires ours { BeginsOurs S.Store conn.old }
     ensures reads { ReadsOnly S.Store conn.old conn.new result }
@@ -132,7 +132,7 @@ fn run_rows<S: Alter>(conn: &mut Connection<S>, run: u32) -> Result<Vec<Row>, Er
     )
 }
 
-/// The reports that stand under a run's number, or none.
+/// The reports under a run's number, or none.
 fn recorded<S: Alter>(conn: &mut Connection<S>, run: u32) -> Result<Option<Reports>, KeepFault>
     requires ours { BeginsOurs S.Store conn.old }
     ensures reads { ReadsOnly S.Store conn.old conn.new result }
@@ -144,7 +144,7 @@ fn recorded<S: Alter>(conn: &mut Connection<S>, run: u32) -> Result<Option<Repor
     only_reports(rows.as_slice(), run)
 }
 
-/// The two reports of a finished run; none of another.
+/// The two reports of a finished run, or none for another run.
 pub fn reports<S: Alter>(conn: &mut Connection<S>, run: u32) -> Result<Option<Reports>, KeepFault>
     requires ours { BeginsOurs S.Store conn.old }
     ensures reads { ReadsOnly S.Store conn.old conn.new result }
@@ -193,7 +193,7 @@ fn are_recorded<S: Alter>(conn: &mut Connection<S>, runs: u32) -> Result<bool, K
     Ok(true)
 }
 
-/// The numbers of the runs that have a row, in any order.
+/// The numbers of the runs with a row, in any order.
 fn numbers<S: Alter>(conn: &mut Connection<S>) -> Result<Vec<Row>, Error>
     requires ours { BeginsOurs S.Store conn.old }
     ensures reads { ReadsOnly S.Store conn.old conn.new result }
@@ -202,7 +202,7 @@ fn numbers<S: Alter>(conn: &mut Connection<S>) -> Result<Vec<Row>, Error>
     conn.query_all("SELECT number FROM run", &[])
 }
 
-/// Whether the table has so many rows.
+/// Whether the table has this many rows.
 fn has_rows<S: Alter>(conn: &mut Connection<S>, runs: u32) -> Result<bool, KeepFault>
     requires ours { BeginsOurs S.Store conn.old }
     ensures reads { ReadsOnly S.Store conn.old conn.new result }
@@ -213,7 +213,7 @@ fn has_rows<S: Alter>(conn: &mut Connection<S>, runs: u32) -> Result<bool, KeepF
     Ok(rows.len() == runs as usize)
 }
 
-/// Whether the table has the reports of each run up to a number, and of no other.
+/// Whether the table has the reports of exactly the runs up to a number.
 pub(crate) fn are_reported<S: Alter>(conn: &mut Connection<S>, runs: u32) -> Result<bool, KeepFault>
     requires ours { BeginsOurs S.Store conn.old }
     ensures reads { ReadsOnly S.Store conn.old conn.new result }
@@ -244,7 +244,7 @@ fn add_run<S: Alter>(
     )
 }
 
-/// Takes out what the office says of itself.
+/// Removes the office's row.
 pub fn clear_office<S: Alter>(tx: &mut Transaction<'_, S>) -> Result<usize, Error>
     requires inside { BeginsInside S.Store tx.old.conn }
     ensures steps { StepsWithin S.Store tx.old.conn tx.new.conn result }
@@ -253,7 +253,7 @@ pub fn clear_office<S: Alter>(tx: &mut Transaction<'_, S>) -> Result<usize, Erro
     tx.execute("DELETE FROM office", &[])
 }
 
-/// Puts in what the office says of itself.
+/// Adds the office's row.
 pub fn add_office<S: Alter>(
     tx: &mut Transaction<'_, S>,
     schema: u32,
@@ -270,7 +270,7 @@ pub fn add_office<S: Alter>(
     )
 }
 
-/// Puts a run into the tables of runs and of the office.
+/// Adds a run to the tables of runs and of the office.
 pub(crate) fn record_run<S: Alter>(
     tx: &mut Transaction<'_, S>,
     number: u32,

@@ -1,4 +1,4 @@
-//! The office's tables in a fresh database.
+//! The office's tables in a new database.
 ghost use Rattle.std.specs.Prelude.{◌≡◌, ◌≢◌, Err, OnOk, OnErr};
 ghost use Rattle.sqlite.specs.Held.{state};
 ghost use Rattle.sqlite.specs.State.{HasCleanDisk};
@@ -145,8 +145,7 @@ fn create_all<S: Alter>(tx: &mut Transaction<'_, S>) -> Result<usize, Error>
     Ok(made)
 }
 
-/// Makes the seven tables, and puts in what the office says of itself: the schema's number 2, the setup's text, and that
-/// no run is finished.
+/// Makes the seven tables, and adds the office's row: schema number 2, the setup's text, and no finished runs.
 fn write_office<S: Alter>(tx: &mut Transaction<'_, S>, setup: &str) -> Result<usize, Error>
     requires building { IsTrusted (state S.Store tx.old.conn.now) → IsBuilding no_schema (state S.Store tx.old.conn.now) }
     ensures steps { StepsWithin S.Store tx.old.conn tx.new.conn result }
@@ -157,7 +156,7 @@ fn write_office<S: Alter>(tx: &mut Transaction<'_, S>, setup: &str) -> Result<us
     Ok(added)
 }
 
-/// Makes the office's tables in a database that has none of them, all or none. A connection that is in a transaction is
+/// Makes the office's tables in a database that has none of them, all or none. A connection in a transaction is
 /// refused.
 pub fn create<S: Alter>(conn: &mut Connection<S>, setup: &str) -> Result<(), KeepFault>
     requires fresh { IsTrusted (state S.Store conn.old) → (state S.Store conn.old).now.schema ≡ no_schema }

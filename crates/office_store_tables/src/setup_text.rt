@@ -1,4 +1,4 @@
-//! The text of a setup, by which a store knows the setup that it was made for.
+//! The text of a setup, from which a store knows the setup that it was made for.
 ghost use Rattle.std.specs.Prelude.{◌≡◌, ◌++◌, ◌↔◌, flat_map, IfOk, OnOk, IsTrue};
 ghost use Rattle.std.specs.String.{string_bytes};
 ghost use Rattle.office_mail.specs.Setup.{IsSetup};
@@ -8,7 +8,7 @@ use deb_control::Text;
 use office_mail::{Role, Sender, Setup};
 use std::alloc::{AllocError, Global};
 
-/// How a role is spelled.
+/// The spelling of a role.
 fn role_word(role: Role) -> &'static str
     ensures { result.now ≡ role_word role }
 {
@@ -57,7 +57,7 @@ fn push_senders(text: &mut String, senders: &[Sender]) -> Result<(), AllocError>
     Ok(())
 }
 
-/// The text of a setup: a line of its architectures, and a paragraph for each sender. `Setup::parse` gives the setup
+/// The text of a setup: a line with its architectures, and a paragraph for each sender. `Setup::parse` reads the setup
 /// back.
 #[tactic(auto, unfolding(crate::specs::SetupText::setup_text))]
 pub fn setup_text(alloc: Global, setup: &Setup) -> Result<String, AllocError>
@@ -73,7 +73,7 @@ pub fn setup_text(alloc: Global, setup: &Setup) -> Result<String, AllocError>
     Ok(text)
 }
 
-/// Whether two texts are one.
+/// Whether two texts are the same.
 fn same_text(first: &str, second: &str) -> bool
     ensures { IsTrue result ↔ (first.now ≡ second.now) }
 {

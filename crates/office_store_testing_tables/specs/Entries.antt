@@ -1,4 +1,4 @@
--- The tables of testing, and what they say.
+-- The tables of testing, and their content.
 use Rattle.std.specs.Prelude.{ℕ, ℤ, List, filter_map, Option, Some, None}
 use Rattle.std.specs.FinMap.{FinMap, from_entries}
 use Rattle.sqlite.specs.Order.{Row, column}
@@ -19,6 +19,7 @@ integer_in (Blob bytes) = None
 
 -- ---- sources
 
+-- the content of a row of sources from its columns, if all are readable
 abbrev pub source_by : Option ℤ → Option (List ℕ) → Option ℕ → Option ℕ → Option (List ℕ × Place)
 source_by None name sender number = None
 source_by (Some rowid) None sender number = None
@@ -26,16 +27,17 @@ source_by (Some rowid) (Some name) None number = None
 source_by (Some rowid) (Some name) (Some sender) None = None
 source_by (Some rowid) (Some name) (Some sender) (Some number) = Some (name, (sender, number))
 
--- what a row of testing's sources says: a name, and the place of the message that gave it
+-- the content of a row of testing's sources: a name, and the place of the message that gave it
 unfoldable pub source_in : Row → Option (List ℕ × Place)
 source_in row = source_by (integer_in (column row 0)) (text_in (column row 1)) (small_in (column row 2)) (small_in (column row 3))
 
--- the sources that the rows keep, by their names
+-- the sources in the rows, by their names
 abbrev pub source_map : List Row → FinMap byte_cmp Place
 source_map rows = from_entries (filter_map source_in rows)
 
 -- ---- rows
 
+-- the content of a row of rows from its columns, if all are readable
 abbrev pub row_by : Option ℤ → Option ℕ → Option (List ℕ) → Option ℕ → Option ℕ → Option ℕ → Option ((ℕ × List ℕ) × (Place × ℕ))
 row_by None arch name sender number place = None
 row_by (Some rowid) None name sender number place = None
@@ -45,10 +47,11 @@ row_by (Some rowid) (Some arch) (Some name) (Some sender) None place = None
 row_by (Some rowid) (Some arch) (Some name) (Some sender) (Some number) None = None
 row_by (Some rowid) (Some arch) (Some name) (Some sender) (Some number) (Some place) = Some ((arch, name), ((sender, number), place))
 
--- what a row of testing's rows says: an architecture and a name, and the place of the message and of the paragraph that gave it
+-- the content of a row of testing's rows: an architecture and a name, and the place of the message and of the paragraph
+-- that gave it
 unfoldable pub entry_in : Row → Option ((ℕ × List ℕ) × (Place × ℕ))
 entry_in row = row_by (integer_in (column row 0)) (small_in (column row 1)) (text_in (column row 2)) (small_in (column row 3)) (small_in (column row 4)) (small_in (column row 5))
 
--- the rows of testing that the rows keep, by architecture and name
+-- the rows of testing in the table's rows, by architecture and name
 abbrev pub entry_map : List Row → FinMap row_cmp (Place × ℕ)
 entry_map rows = from_entries (filter_map entry_in rows)

@@ -1,5 +1,5 @@
 -- Steps: no contract of a call that users make rests on this file.
--- What the statements on the tables of facts show and make of them.
+-- What the statements on the tables of facts show, and how they change them.
 use Rattle.std.specs.Prelude.{◌≡◌, ◌≢◌, ◌≤◌, ◌<◌, ◌⊎◌, ◌&&◌, Bool, true, false, not, ℕ, ℤ, pos, List, [], ◌∷◌, length, map, filter, Option, Some, None, ⊤}
 use Rattle.std.specs.FinMap.{insert, remove}
 use Rattle.std.specs.Ordering.{is_eq}
@@ -19,19 +19,19 @@ use Rattle.office_store_testing_tables.specs.TableSteps.{rows_in}
 use Rattle.office_store_testing_tables.specs.Legible.{AreRead}
 use Rattle.office_store_testing_tables.specs.FactTables.{fact_entry, may_stand, fact_of, fact_in, delays_of, delays_by, delays_in, facts_in}
 
--- what is shown of a row of facts: its rowid and its columns
+-- the shown part of a row of facts: its rowid and its columns
 abbrev pub fact_columns : Row → Row
 fact_columns row = column row 0 ∷ column row 1 ∷ column row 2 ∷ column row 3 ∷ column row 4 ∷ []
 
--- what is shown of a row of the last delays: all but its copy of the rowid
+-- the shown part of a row of the last delays: all but its copy of the rowid
 abbrev pub delays_columns : Row → Row
 delays_columns row = column row 0 ∷ column row 2 ∷ []
 
--- what a shown row of the last delays says
+-- the content of a shown row of the last delays
 unfoldable pub shown_delays : ℕ → Row → Option (FactRow × ⊤)
 shown_delays release row = delays_by release (number_in (column row 0)) (small_in (column row 1))
 
--- what is made of the rows of the last delays that are shown: what the only one says, if there is one
+-- the result from the shown rows of the last delays: the content of the only one, if there is one
 abbrev pub IsOnlyDelays : ℕ → Option FactRow → List Row → Type 0
 IsOnlyDelays release None rows = rows ≡ []
 IsOnlyDelays release (Some fact) rows = (row : Row) × (rows ≡ row ∷ []) × (shown_delays release row ≡ Some (fact_entry fact))
@@ -50,57 +50,57 @@ is_delays number row = is_eq (value_cmp (column row 2) (Int (pos number)))
 abbrev pub id_columns : Row → Row
 id_columns row = column row 0 ∷ []
 
--- what is made of the rowids that are shown: the only one, or none
+-- the result from the shown rowids: the only one, or none
 abbrev pub IsOnlyId : Option ℤ → List Row → Type 0
 IsOnlyId None rows = rows ≡ []
 IsOnlyId (Some id) rows = (row : Row) × (rows ≡ row ∷ []) × (column row 0 ≡ Int id)
 
--- a look-up of the rows that pass a test gave this rowid, or none
+-- a look-up of the rows that pass a test found this rowid, or none
 pub record IsFound (test : Row → Bool) (rows : List Row) (id : Option ℤ) : Type 0 where
   pub shown : List Row
   pub are : IsPermutation (map id_columns (filter test rows)) shown
   pub only : IsOnlyId id shown
 
--- so many rows had the rowid, and where that was one it is taken out
+-- this many rows had the rowid, and if it was one, that row is removed
 pub record TakesOut (rows next : List Row) (id : ℤ) (count : ℕ) : Type 0 where
   pub counted : count ≡ length (filter (has_rowid id) rows)
   pub left : (row : Row) → filter (has_rowid id) rows ≡ row ∷ [] → rowid row ≡ Int id → next ≡ without_rowid id rows
 
--- rows of facts were taken out by their rowid, and the other tables stand
+-- the rows of facts with this rowid were removed, and the other tables are unchanged
 pub record TakesFact (db next : Trees) (id : ℤ) (count : ℕ) : Type 0 where
   pub taken : TakesOut (db 8) (next 8) id count
   pub rest : rows_in next ≡ record (rows_in db) { facts = next 8 }
 
--- the same of the last delays
+-- the same for the last delays
 pub record TakesDelays (db next : Trees) (id : ℤ) (count : ℕ) : Type 0 where
   pub taken : TakesOut (db 10) (next 10) id count
   pub rest : rows_in next ≡ record (rows_in db) { delays = next 10 }
 
--- one fact's row was put in, with a rowid of its own, and the other tables stand
+-- one fact's row was added, with a new rowid, and the other tables are unchanged
 pub record AddsFact (db next : Trees) (fact : FactRow) : Type 0 where
   pub row : Row
   pub says : fact_in row ≡ fact_of fact
   pub free : is_taken (db 8) row ≡ false
   pub put : rows_in next ≡ record (rows_in db) { facts = put_row row (db 8) }
 
--- the values that a statement takes for a fact
+-- a statement's values for a fact
 abbrev pub fact_parameters : FactRow → Row
 fact_parameters fact = Int (pos (number_of fact.kind)) ∷ Int (pos fact.sender) ∷ Int (pos fact.number) ∷ Int (pos fact.place) ∷ []
 
--- the numbers of a fact have 32 bits; that of its kind has always
+-- the numbers of a fact fit in 32 bits; the number of its kind always does
 abbrev pub FitsFact : FactRow → Type 0
 FitsFact fact = (fact.sender < 4_294_967_296) × (fact.number < 4_294_967_296) × (fact.place < 4_294_967_296)
 
--- a fact that isn't the last delays
+-- a fact other than the last delays
 abbrev pub is_no_delays : FactRow → Bool
 is_no_delays fact = not (is_kind fact.kind Delays)
 
--- rows of these facts were put in one by one, and the other tables stand
+-- rows of these facts were added one by one, and the other tables are unchanged
 abbrev pub AddsFacts : Trees → Trees → List FactRow → Type 0
 AddsFacts db next [] = next ≡ db
 AddsFacts db next (fact ∷ facts) = (mid : Trees) × AddsFact db mid fact × AddsFacts mid next facts
 
--- a row of the last delays was put in, with the rowid 1, and the other tables stand
+-- a row of the last delays was added, with the rowid 1, and the other tables are unchanged
 pub record AddsDelays (db next : Trees) (number : ℕ) : Type 0 where
   pub row : Row
   pub id : rowid row ≡ Int (pos 1)
@@ -108,55 +108,56 @@ pub record AddsDelays (db next : Trees) (number : ℕ) : Type 0 where
   pub free : is_taken (db 10) row ≡ false
   pub put : rows_in next ≡ record (rows_in db) { delays = put_row row (db 10) }
 
--- both tables have a place for the fact
+-- the tables have a place for the fact
 abbrev pub CanStand : ℕ → FactRow → Type 0
 CanStand release fact = (may_stand fact.kind fact.place ≡ true) ⊎ (fact ≡ delays_of release fact.number)
 
+-- the tables have a place for each fact
 abbrev pub CanStandEach : ℕ → List FactRow → Type 0
 CanStandEach release facts = (fact : FactRow) → Has facts fact → CanStand release fact
 
--- what both tables say is moved so, and they read as they did
+-- the facts in both tables change in this way, and the tables stay readable
 pub record MovesFacts (release : ℕ) (db next : Trees) (made : FactSet → FactSet) : Type 0 where
   pub has : facts_in release (next 8) (next 10) ≡ made (facts_in release (db 8) (db 10))
   pub reads : AreRead release (db 8) (db 10) → AreRead release (next 8) (next 10)
 
--- the tables of facts alone may have changed
+-- only the tables of facts may have changed
 pub record KeepsOthers (db next : Trees) : Type 0 where
   pub rest : rows_in next ≡ record (rows_in db) { facts = next 8; delays = next 10 }
 
--- no row of the table says the fact any more, and each that says another is left
+-- no row of the table says this fact, and every row that says another is left
 pub record Leaves (reads : Row → Option (FactRow × ⊤)) (fact : FactRow) (rows next : List Row) : Type 0 where
   pub gone : (row : Row) → Has next row → reads row ≡ Some (fact_entry fact) → ⊥
   pub had : (row : Row) → Has next row → Has rows row
   pub others : (row : Row) (other : FactRow) → Has rows row → reads row ≡ Some (fact_entry other) → other ≢ fact → Has next row
   pub fewer : length next ≤ length rows
 
--- a fact is taken out of the table of facts, and the other tables stand
+-- a fact is removed from the table of facts, and the other tables are unchanged
 pub record DropsFact (db next : Trees) (fact : FactRow) : Type 0 where
   pub leaves : Leaves fact_in fact (db 8) (next 8)
   pub rest : rows_in next ≡ record (rows_in db) { facts = next 8 }
 
--- the delays under a number are taken out of their table, and the other tables stand
+-- the delays under a number are removed from their table, and the other tables are unchanged
 pub record DropsDelays (db next : Trees) (number : ℕ) : Type 0 where
   pub leaves : (release : ℕ) → Leaves (delays_in release) (delays_of release number) (db 10) (next 10)
   pub rest : rows_in next ≡ record (rows_in db) { delays = next 10 }
 
--- one fact is taken out
+-- one fact is removed
 pub record DropsOne (release : ℕ) (db next : Trees) (fact : FactRow) : Type 0 where
   pub moves : MovesFacts release db next (λ facts. remove facts fact)
   pub others : KeepsOthers db next
 
--- one fact is put in, where there is a place for it
+-- one fact is added, if there is a place for it
 pub record AddsOne (release : ℕ) (db next : Trees) (fact : FactRow) : Type 0 where
   pub moves : CanStand release fact → MovesFacts release db next (λ facts. insert facts fact tt)
   pub others : KeepsOthers db next
 
--- these facts are taken out
+-- these facts are removed
 pub record DropsEach (release : ℕ) (db next : Trees) (facts : List FactRow) : Type 0 where
   pub moves : MovesFacts release db next (without_rows facts)
   pub others : KeepsOthers db next
 
--- these facts are put in, where there is a place for each
+-- these facts are added, if there is a place for each
 pub record AddsEach (release : ℕ) (db next : Trees) (facts : List FactRow) : Type 0 where
   pub moves : CanStandEach release facts → MovesFacts release db next (with_rows facts)
   pub others : KeepsOthers db next

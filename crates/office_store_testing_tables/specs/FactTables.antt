@@ -1,4 +1,4 @@
--- The tables of facts, and what they say.
+-- The tables of facts, and their content.
 use Rattle.std.specs.Prelude.{◌&&◌, ◌||◌, ◌==◌, ◌++◌, not, if◌then◌else◌, Bool, ℕ, ℤ, List, filter_map, Option, Some, None, ⊤}
 use Rattle.std.specs.FinMap.{from_entries}
 use Rattle.sqlite.specs.declared.types.Value.{Value}
@@ -15,11 +15,12 @@ use Rattle.office_store_testing_tables.specs.Entries.{integer_in}
 abbrev pub fact_entry : FactRow → FactRow × ⊤
 fact_entry fact = (fact, tt)
 
--- the kind whose number a value is
+-- the kind whose number is this value
 abbrev pub kind_by : Option ℕ → Option FactKind
 kind_by None = None
 kind_by (Some number) = kind_of number
 
+-- the kind in a column
 abbrev pub kind_in : Value → Option FactKind
 kind_in value = kind_by (small_in value)
 
@@ -27,9 +28,11 @@ kind_in value = kind_by (small_in value)
 abbrev pub may_stand : FactKind → ℕ → Bool
 may_stand kind place = not (is_kind kind Delays) && (is_kind kind Build || (place == 0))
 
+-- a fact, if the table of facts may have its row
 abbrev pub fact_of : FactRow → Option (FactRow × ⊤)
 fact_of fact = if may_stand fact.kind fact.place then Some (fact_entry fact) else None
 
+-- the content of a row of facts from its columns, if all are readable
 abbrev pub fact_by : Option ℤ → Option FactKind → Option ℕ → Option ℕ → Option ℕ → Option (FactRow × ⊤)
 fact_by None kind sender number place = None
 fact_by (Some rowid) None sender number place = None
@@ -38,23 +41,24 @@ fact_by (Some rowid) (Some kind) (Some sender) None place = None
 fact_by (Some rowid) (Some kind) (Some sender) (Some number) None = None
 fact_by (Some rowid) (Some kind) (Some sender) (Some number) (Some place) = fact_of (record { kind = kind; sender = sender; number = number; place = place })
 
--- what a row of the table of facts says
+-- the content of a row of the table of facts
 unfoldable pub fact_in : Row → Option (FactRow × ⊤)
 fact_in row = fact_by (integer_in (column row 0)) (kind_in (column row 1)) (small_in (column row 2)) (small_in (column row 3)) (small_in (column row 4))
 
--- the fact of the delays under a number of the release team, which has this place
+-- the fact of the delays under a number of the release team at this place
 abbrev pub delays_of : ℕ → ℕ → FactRow
 delays_of release number = record { kind = Delays; sender = release; number = number; place = 0 }
 
+-- the content of a row of the last delays from its columns, if its id is 1
 abbrev pub delays_by : ℕ → Option ℕ → Option ℕ → Option (FactRow × ⊤)
 delays_by release None number = None
 delays_by release (Some id) None = None
 delays_by release (Some id) (Some number) = if id == 1 then Some (fact_entry (delays_of release number)) else None
 
--- what a row of the table of the last delays says, whose id is 1
+-- the content of the row with the id 1 in the table of the last delays
 unfoldable pub delays_in : ℕ → Row → Option (FactRow × ⊤)
 delays_in release row = delays_by release (number_in (column row 0)) (small_in (column row 2))
 
--- the facts that the rows of both tables say
+-- the facts in the rows of both tables
 unfoldable pub facts_in : ℕ → List Row → List Row → FactSet
 facts_in release facts delays = from_entries (filter_map fact_in facts ++ filter_map (delays_in release) delays)

@@ -1,4 +1,4 @@
--- Tables that read as an office writes them.
+-- Tables in the form in which an office writes them.
 use Rattle.std.specs.Prelude.{◌≡◌, ◌<◌, ◌≤◌, ℕ, List, length, Some, IsSome, Ok}
 use Rattle.std.specs.FinMap.{get}
 use Rattle.std.specs.Str.{IsUtf8}
@@ -16,7 +16,7 @@ use Rattle.office_store_testing_tables.specs.Entries.{source_map, entry_map}
 use Rattle.office_store_testing_tables.specs.FactTables.{fact_in, delays_in}
 use Rattle.office_store_testing_tables.specs.TableContent.{source_at, row_at, release_place}
 
--- the office's only row says so
+-- the content of the office's only row
 pub record SaysOnce (rows : List Row) : Type 0 where
   pub said : Said
   pub is : said_in rows ≡ Some said
@@ -25,7 +25,7 @@ pub record SaysOnce (rows : List Row) : Type 0 where
   pub finished : said.finished < 4_294_967_296
   pub setup : IsUtf8 said.setup
 
--- the reports of the runs up to a number, and no others: each of these runs has them, and there are as many rows as runs
+-- the reports of exactly the runs up to a number: each run has them, and there are as many rows as runs
 pub record AreReported (rows : List Row) (finished : ℕ) : Type 0 where
   pub each : (run : ℕ) → 1 ≤ run → run ≤ finished → IsSome (get (run_map rows) run)
   pub count : length rows ≡ finished
@@ -38,13 +38,13 @@ pub record AreNamed (setup : Lists) (db : Trees) : Type 0 where
   pub rows : IsWhole (entry_map (db 6)) (db 6)
   pub row : (key : ℕ × List ℕ) (value : Place × ℕ) → get (entry_map (db 6)) key ≡ Some value → IsSome (row_at setup (kept_rows (db 1)) (key, value))
 
--- each row of both tables reads, and there is one of the last delays at most
+-- each row of both tables is readable, and there is at most one of the last delays
 pub record AreRead (release : ℕ) (facts delays : List Row) : Type 0 where
   pub fact : (row : Row) → Has facts row → IsSome (fact_in row)
   pub delay : (row : Row) → Has delays row → IsSome (delays_in release row)
   pub one : length delays ≤ 1
 
--- the tables read as an office with this setup writes them, with the schema's number 2
+-- the tables are what an office with this setup writes, with schema number 2
 pub record IsLegible (setup : Lists) (db : Trees) : Type 0 where
   pub office : SaysOnce (db 0)
   pub schema : office.said.schema ≡ 2

@@ -1,5 +1,5 @@
 -- Steps: no contract of a call that users make rests on this file.
--- Texts of mail that are loaded together.
+-- Texts of mail loaded together.
 use Rattle.std.specs.Prelude.{◌≡◌, ℕ, List, Some, Contains}
 use Rattle.std.specs.FinMap.{get}
 use Rattle.office_mail.specs.Kept.{Kept}

@@ -16,7 +16,7 @@ abbrev pub read_binary : ℕ → Option KeptAt → Option Binary
 read_binary place None = None
 read_binary place (Some kept) = binary_in place kept.message.body
 
--- the source that an upload at this place brings
+-- the source brought by an upload at this place
 abbrev pub brought : ℕ → ℕ → Option (List ℕ × List ℕ) → Option SourceIn
 brought sender number None = None
 brought sender number (Some upload) = Some (record { name = upload.0; version = upload.1; sender = sender; number = number })

@@ -1,5 +1,5 @@
 -- Steps: no contract of a call that users make rests on this file.
--- What the statements on mail, on the office and on runs show of the tables and make of them.
+-- What the statements on mail, on the office and on runs show of the tables, and how they change them.
 use Rattle.std.specs.Ordering.{is_eq, is_ge, is_le, is_lt}
 use Rattle.std.specs.Prelude.{◌≡◌, ◌≤◌, ◌<◌, ◌+◌, ◌⊎◌, ◌&&◌, Bool, Contains, length, filter, filter_map, ℕ, pos, List, [], ◌∷◌, Option, Some, None, IsTrue, IsSome, true, false, nat_le}
 use Rattle.std.specs.FinMap.{get, insert}
@@ -17,17 +17,17 @@ use Rattle.office_mail.specs.Kept.{Kept, Place}
 use Rattle.office_store_testing_tables.specs.Layout.{office_schema}
 use Rattle.office_store_testing_tables.specs.Tables.{IsOurs, IsWhole, number_in, bytes_in, letter_by, letter_in, office_in, said_in, run_in, run_map}
 
--- a call has left the tables as they were
+-- a call left the tables unchanged
 pub record Same (old new : State) : Type 0 where
   pub ours : IsOurs new
   pub now : new.now ≡ old.now
 
--- the seven tables, in a transaction that is under way
+-- the seven tables, in an open transaction
 pub record IsInside (s : State) : Type 0 where
   pub schema : s.now.schema ≡ office_schema
   pub begun : IsTrue s.in_transaction
 
--- a step within a transaction went well: it is still under way, and nothing was committed
+-- a step within a transaction succeeded: the transaction is still open, and nothing was committed
 pub record WentOn (old new : State) : Type 0 where
   pub inside : IsInside new
   pub committed : new.committed ≡ old.committed
@@ -42,11 +42,11 @@ pub record Rows : Type 0 where
   pub facts : List Row
   pub delays : List Row
 
--- where the tables stand
+-- the places of the tables' rows
 abbrev pub rows_in : Trees → Rows
 rows_in db = record { office = db 0; mail = db 1; runs = db 3; sources = db 4; rows = db 6; facts = db 8; delays = db 10 }
 
--- what is shown of a row where its rowid alone is asked for, as the number of a run
+-- the shown part of a row if only its rowid is asked for, like a run's number
 abbrev pub rowid_column : Row → Row
 rowid_column row = column row 0 ∷ []
 
@@ -56,15 +56,15 @@ rowid_column row = column row 0 ∷ []
 abbrev pub is_at : ℕ → ℕ → Row → Bool
 is_at sender number row = is_eq (value_cmp (column row 1) (Int (pos sender))) && is_eq (value_cmp (column row 2) (Int (pos number)))
 
--- what is shown of a row of mail: its sender's place, its number and its text
+-- the shown part of a row of mail: its sender's place, its number and its text
 abbrev pub letter_columns : Row → Row
 letter_columns row = column row 1 ∷ column row 2 ∷ column row 3 ∷ []
 
--- the row compares, as SQL does, as one with this place and a number from one to another
+-- the row compares in SQL as one with this place and a number from one to another (this office decides the query)
 abbrev pub is_between : ℕ → ℕ → ℕ → Row → Bool
 is_between sender from to row = is_eq (value_cmp (column row 1) (Int (pos sender))) && (is_ge (value_cmp (column row 2) (Int (pos from))) && is_le (value_cmp (column row 2) (Int (pos to))))
 
--- what a shown row of mail says
+-- the content of a shown row of mail
 unfoldable pub shown_letter : Row → Option (Place × List ℕ)
 shown_letter row = letter_by (number_in (column row 0)) (number_in (column row 1)) (bytes_in (column row 2))
 
@@ -72,42 +72,42 @@ shown_letter row = letter_by (number_in (column row 0)) (number_in (column row 1
 abbrev pub ShowsLetters : ℕ → List Row → Type 0
 ShowsLetters sender rows = (row : Row) → Contains rows row → (number : ℕ) × (text : List ℕ) × (number < 4_294_967_296) × (row ≡ Int (pos sender) ∷ Int (pos number) ∷ Blob text ∷ [])
 
--- a letter of this sender, as the table of mail has it
+-- a letter of this sender in the form of the table of mail
 abbrev pub letter_entry : ℕ → Letter → Place × List ℕ
 letter_entry sender letter = ((sender, letter.number), letter.text)
 
--- whether the first letter's number is from this one on, and each other is above the one before
+-- whether the first letter's number is at least this one, and each later number is above the one before
 abbrev pub rises_from : ℕ → List Letter → Bool
 rises_from least [] = true
 rises_from least (letter ∷ letters) = nat_le least letter.number && rises_from (letter.number + 1) letters
 
--- what a look-up makes of the rows that it is shown: the text of the only one, or none
+-- the result of a look-up from its shown rows: the text of the only one, or none
 abbrev pub IsOnly : ℕ → ℕ → Option (List ℕ) → List Row → Type 0
 IsOnly sender number None rows = rows ≡ []
 IsOnly sender number (Some text) rows =
     (row : Row) × (rows ≡ row ∷ []) × (column row 0 ≡ Int (pos sender)) × (column row 1 ≡ Int (pos number)) × (column row 2 ≡ Blob text)
 
--- the row compares, as SQL does, as one with this place and a number from one on
+-- the row compares in SQL as one with this place and a number from one on
 abbrev pub is_from : ℕ → ℕ → Row → Bool
 is_from sender from row = is_eq (value_cmp (column row 1) (Int (pos sender))) && is_ge (value_cmp (column row 2) (Int (pos from)))
 
--- a row of the sender with a number from one on, and none of these has a number below its own
+-- a row of the sender with a number from one on, the least of these numbers
 pub record IsLeast (sender from : ℕ) (table : List Row) (row : Row) : Type 0 where
   pub stands : Has table row
   pub passes : is_from sender from row ≡ true
   pub least : (other : Row) → Has table other → is_from sender from other ≡ true → is_lt (value_cmp (column other 2) (column row 2)) ≡ false
 
--- what is shown where the least number from one on is asked for: nothing where there is none, and else its row alone
+-- what is shown for the least number from one on: nothing if there is none, else its row alone
 abbrev pub ShowsLeast : ℕ → ℕ → List Row → List Row → Type 0
 ShowsLeast sender from table rows =
     ((rows ≡ []) × ((row : Row) → Has table row → is_from sender from row ≡ false)) ⊎ ((row : Row) × IsLeast sender from table row × (rows ≡ letter_columns row ∷ []))
 
--- what a look-up makes of the rows that it is shown: the number of the only one, or none
+-- the result of a look-up from its shown rows: the number of the only one, or none
 abbrev pub IsOnlyNumber : ℕ → Option ℕ → List Row → Type 0
 IsOnlyNumber sender None rows = rows ≡ []
 IsOnlyNumber sender (Some number) rows = (text : List ℕ) × IsOnly sender number (Some text) rows
 
--- each kept number has 32 bits
+-- each kept number fits in 32 bits
 abbrev pub AreSmall : Kept → Type 0
 AreSmall kept = (p : Place) → IsSome (get kept p) → p.1 < 4_294_967_296
 
@@ -115,41 +115,41 @@ AreSmall kept = (p : Place) → IsSome (get kept p) → p.1 < 4_294_967_296
 abbrev pub AreLetters : List Row → Type 0
 AreLetters rows = (row : Row) → Has rows row → (entry : Place × List ℕ) × (letter_in row ≡ Some entry)
 
--- no two rows of mail have one sender and one number
+-- no two rows of mail have the same sender and number
 abbrev pub AreApart : List Row → Type 0
 AreApart rows = (sender number : ℕ) → length (filter (is_at sender number) rows) ≤ 1
 
--- the mail isn't as an office keeps it
+-- the mail isn't in the form that an office keeps
 abbrev pub IsCrowded : List Row → Type 0
 IsCrowded rows = AreLetters rows → AreApart rows → ⊥
 
--- one row was put into the mail, with a rowid of its own, and the other tables stand
+-- one row was added to the mail, with a new rowid, and the other tables are unchanged
 pub record AddsLetter (db next : Trees) (sender number : ℕ) (text : List ℕ) : Type 0 where
   pub row : Row
   pub says : letter_in row ≡ Some ((sender, number), text)
   pub free : is_taken (db 1) row ≡ false
   pub put : rows_in next ≡ record (rows_in db) { mail = put_row row (db 1) }
 
--- the values that a statement takes for a letter
+-- a statement's values for a letter
 abbrev pub letter_parameters : NewLetter → Row
 letter_parameters letter = Int (pos letter.sender) ∷ Int (pos letter.number) ∷ Blob letter.text ∷ []
 
--- rows of these letters were put into the mail one by one, and the other tables stand
+-- rows of these letters were added to the mail one by one, and the other tables are unchanged
 abbrev pub AddsLetters : Trees → Trees → List NewLetter → Type 0
 AddsLetters db next [] = next ≡ db
 AddsLetters db next (l ∷ ls) = (mid : Trees) × AddsLetter db mid l.sender l.number l.text × AddsLetters mid next ls
 
--- ---- what the office says of itself
+-- ---- the office's row
 
--- one row says what the office says of itself, and there is no other
+-- the only row says what the office says of itself
 abbrev pub SaysAlone : List Row → Type 0
 SaysAlone rows = (length rows ≡ 1) × IsSome (said_in rows)
 
--- what is shown of a row of the office: all but its copy of the rowid
+-- the shown part of a row of the office: all but its copy of the rowid
 abbrev pub office_columns : Row → Row
 office_columns row = column row 0 ∷ column row 2 ∷ column row 3 ∷ column row 4 ∷ []
 
--- what is made of the rows that are shown: what the only one says
+-- the result from the shown rows: the content of the only one
 abbrev pub IsOnlyOffice : Said → List Row → Type 0
 IsOnlyOffice said rows =
     (row : Row) × (rows ≡ row ∷ []) × (column row 0 ≡ Int (pos 1)) × (column row 1 ≡ Int (pos said.schema)) × (column row 2 ≡ Text said.setup) × (column row 3 ≡ Int (pos said.finished))
@@ -160,40 +160,40 @@ IsOnlyOffice said rows =
 abbrev pub is_run : ℕ → Row → Bool
 is_run run row = is_eq (value_cmp (column row 0) (Int (pos run)))
 
--- what is shown of a finished run: its number, and its two reports
+-- the shown part of a finished run: its number, and its two reports
 abbrev pub run_columns : Row → Row
 run_columns row = column row 0 ∷ column row 2 ∷ column row 3 ∷ []
 
--- what a look-up makes of the rows that it is shown: the reports of the only one, or none
+-- the result of a look-up from its shown rows: the reports of the only one, or none
 abbrev pub IsOnlyRun : ℕ → Option Reports → List Row → Type 0
 IsOnlyRun run None rows = rows ≡ []
 IsOnlyRun run (Some reports) rows =
     (row : Row) × (rows ≡ row ∷ []) × (column row 0 ≡ Int (pos run)) × (column row 1 ≡ Text reports.excuses) × (column row 2 ≡ Text reports.updates)
 
--- ---- what the steps of a finished run make of the tables
+-- ---- how the steps of a finished run change the tables
 
--- one run's row was put in, with its number as its rowid, and the other tables stand
+-- one run's row was added, with its number as its rowid, and the other tables are unchanged
 pub record AddsRun (db next : Trees) (number : ℕ) (reports : Reports) : Type 0 where
   pub row : Row
   pub says : run_in row ≡ Some (number, reports)
   pub free : is_taken (db 3) row ≡ false
   pub put : rows_in next ≡ record (rows_in db) { runs = put_row row (db 3) }
 
--- the office says nothing any more, nothing is left of a row that said it alone, and the other tables stand
+-- the office's rows are removed, nothing is left of a row that was alone, and the other tables are unchanged
 pub record Silences (db next : Trees) : Type 0 where
   pub none : filter_map office_in (next 0) ≡ []
   pub left : SaysAlone (db 0) → next 0 ≡ []
   pub rest : rows_in next ≡ record (rows_in db) { office = next 0 }
 
--- a row of the office was put in, with a rowid of its own, and the other tables stand
+-- a row of the office was added, with a new rowid, and the other tables are unchanged
 pub record SaysMore (db next : Trees) (said : Said) : Type 0 where
   pub row : Row
   pub says : office_in row ≡ Some (1, said)
   pub free : is_taken (db 0) row ≡ false
   pub put : rows_in next ≡ record (rows_in db) { office = put_row row (db 0) }
 
--- a run is in the tables: its reports stand beside the earlier ones, the office says this, and mail, testing and facts stand;
--- the table of runs stays whole, and that of the office one row
+-- a run is in the tables: its reports are added to the earlier ones, the office says this, and mail, testing and facts
+-- are unchanged; the table of runs stays whole, and that of the office has one row
 pub record RecordsRun (db next : Trees) (number : ℕ) (reports : Reports) (said : Said) : Type 0 where
   pub reported : run_map (next 3) ≡ insert (run_map (db 3)) number reports
   pub new : get (run_map (db 3)) number ≡ None

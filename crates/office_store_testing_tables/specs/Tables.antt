@@ -1,4 +1,4 @@
--- The tables of an office, and what they say.
+-- The tables of an office, and their content.
 use Rattle.std.specs.Ordering.{nat_cmp}
 use Rattle.std.specs.declared.cmp.Ordering.{Ordering}
 use Rattle.std.specs.Prelude.{◌≡◌, ◌≤◌, ◌⊎◌, length, filter_map, ℕ, pos, negsuc, List, Option, Some, None, IsTrue, false, nat_lt, if◌then◌else◌}
@@ -14,34 +14,34 @@ use Rattle.sqlite.specs.declared.types.Value.TheVariants.{Null, Int, Real, Text,
 use Rattle.office_mail.specs.Kept.{Kept, Place}
 use Rattle.office_store_testing_tables.specs.Layout.{office_schema}
 
--- Nobody else writes the tables, the disk returns what was written, no fault of the disk has shut the connection, and no
--- limit is set on the steps of a statement. An open sets one, which none reaches, where other tables stand beside the
--- office's: so nothing is promised of what is kept there.
+-- No other program writes the tables, the disk returns what was written, no disk fault has closed the connection, and
+-- the steps of a statement have no limit. Opening sets a limit (none reaches it) if there are tables besides the
+-- office's: then nothing is promised about the content.
 abbrev pub IsTrusted : State → Type 0
 IsTrusted s = HasCleanDisk s × IsTrue s.is_open × (s.step_limit ≡ None)
 
--- no fault of the disk is forgotten, and only such a fault shuts the connection
+-- no disk fault is forgotten, and only a disk fault closes the connection
 pub record Endures (old new : State) : Type 0 where
   pub clean : doubt old.is_clean ≤ doubt new.is_clean
   pub counts : old.faults ≤ new.faults
   pub closes : HasCleanDisk new → IsTrue old.is_open → IsTrue new.is_open ⊎ HasRisen old.faults new.faults
 
--- so it is, and the limit on the steps of a statement stays
+-- the same, and the limit on the steps of a statement is unchanged
 pub record Lasts (old new : State) : Type 0 where
   pub endures : Endures old new
   pub limit : new.step_limit ≡ old.step_limit
 
--- between calls: the seven tables and no others, no transaction, and nothing that isn't committed
+-- between calls: exactly the seven tables, no transaction, and nothing uncommitted
 pub record IsOurs (s : State) : Type 0 where
   pub schema : s.now.schema ≡ office_schema
   pub settled : s.now ≡ s.committed
   pub autocommit : s.in_transaction ≡ false
 
--- each row of a table has an entry of its own: it reads, and no two have one key
+-- each row of a table has its own entry: it is readable, and no two rows have the same key
 abbrev pub IsWhole : {K V : Type 0} {R : K → K → Ordering} → FinMap R V → List Row → Type 0
 IsWhole map rows = len map ≡ length rows
 
--- ---- what values say
+-- ---- the content of values
 
 -- a number from 0
 abbrev pub number_in : Value → Option ℕ
@@ -57,6 +57,7 @@ abbrev pub small_of : Option ℕ → Option ℕ
 small_of None = None
 small_of (Some n) = if nat_lt n 4_294_967_296 then Some n else None
 
+-- a number of 32 bits in a column
 abbrev pub small_in : Value → Option ℕ
 small_in v = small_of (number_in v)
 
@@ -70,21 +71,22 @@ bytes_in (Blob bytes) = Some bytes
 
 -- ---- mail
 
+-- the content of a row of mail from its columns, if all are readable
 abbrev pub letter_by : Option ℕ → Option ℕ → Option (List ℕ) → Option (Place × List ℕ)
 letter_by None number text = None
 letter_by (Some sender) None text = None
 letter_by (Some sender) (Some number) None = None
 letter_by (Some sender) (Some number) (Some text) = Some ((sender, number), text)
 
--- what a row of mail says: its sender's place and its number, and its text
+-- the content of a row of mail: its sender's place, its number, and its text
 unfoldable pub letter_in : Row → Option (Place × List ℕ)
 letter_in row = letter_by (number_in (column row 1)) (number_in (column row 2)) (bytes_in (column row 3))
 
--- the mail that the rows keep
+-- the mail kept in the rows
 abbrev pub kept_rows : List Row → Kept
 kept_rows rows = from_entries (filter_map letter_in rows)
 
--- ---- what the office says of itself
+-- ---- the office's row
 
 -- characters
 abbrev pub text_in : Value → Option (List ℕ)
@@ -94,6 +96,7 @@ text_in (Real x) = None
 text_in (Text text) = Some text
 text_in (Blob bytes) = None
 
+-- the content of a row of the office from its columns, if all are readable
 abbrev pub office_by : Option ℕ → Option ℕ → Option (List ℕ) → Option ℕ → Option (ℕ × Said)
 office_by None schema setup finished = None
 office_by (Some id) None setup finished = None
@@ -101,26 +104,27 @@ office_by (Some id) (Some schema) None finished = None
 office_by (Some id) (Some schema) (Some setup) None = None
 office_by (Some id) (Some schema) (Some setup) (Some finished) = Some (id, record { schema = schema; setup = setup; finished = finished })
 
--- what a row of the office says under its id
+-- the content of a row of the office, with its id
 unfoldable pub office_in : Row → Option (ℕ × Said)
 office_in row = office_by (number_in (column row 0)) (number_in (column row 2)) (text_in (column row 3)) (number_in (column row 4))
 
--- what the office says of itself: what its row says, whose id is 1
+-- what the office says of itself: the content of its row with the id 1
 abbrev pub said_in : List Row → Option Said
 said_in rows = find nat_cmp 1 (filter_map office_in rows)
 
 -- ---- the reports of runs
 
+-- the content of a row of a finished run from its columns, if all are readable
 abbrev pub run_by : Option ℕ → Option (List ℕ) → Option (List ℕ) → Option (ℕ × Reports)
 run_by None excuses updates = None
 run_by (Some number) None updates = None
 run_by (Some number) (Some excuses) None = None
 run_by (Some number) (Some excuses) (Some updates) = Some (number, record { excuses = excuses; updates = updates })
 
--- what a row of a finished run says: its number, and its two reports
+-- the content of a row of a finished run: its number, and its two reports
 unfoldable pub run_in : Row → Option (ℕ × Reports)
 run_in row = run_by (number_in (column row 0)) (text_in (column row 2)) (text_in (column row 3))
 
--- the reports that the rows keep, by the runs' numbers
+-- the reports kept in the rows, by the runs' numbers
 abbrev pub run_map : List Row → FinMap nat_cmp Reports
 run_map rows = from_entries (filter_map run_in rows)

@@ -1,4 +1,4 @@
-//! How the shown rows of testing's tables are compared with the entries that the tables shall have.
+//! How the shown rows of testing's tables are compared with the wanted entries.
 ghost use Rattle.std.specs.Prelude.{◌≡◌, ◌≢◌, ◌<◌, ◌⊎◌, IsTrue, Err, Some, length, IfOk};
 ghost use Rattle.office_store_testing_tables.specs.Entries.{source_in, entry_in};
 ghost use Rattle.office_store_testing_tables.specs.EntrySteps.{source_entry as entry_of_source, row_entry as entry_of_row};
@@ -10,14 +10,14 @@ use office_store_keeper::{Cause, KeepFault};
 use sqlite::Row;
 use testing_rules_model::{RowIn, SourceIn};
 
-/// How many shown rows of a table, and how many new entries, are compared so far.
+/// The number of shown rows of a table, and of new entries, compared so far.
 #[derive(Clone, Copy)]
 pub struct Compared {
     pub shown: usize,
     pub entries: usize,
 }
 
-/// What is next to be done with a table.
+/// The next change of a table.
 #[derive(Clone, Copy)]
 pub enum Change {
     /// The next row says the next entry.
@@ -55,15 +55,15 @@ fn says_source(shown: &Row, source: &SourceIn) -> bool
     }
 }
 
-/// Whether the name in a shown row comes behind that of a source. Nothing rests on it.
+/// Whether the name in a shown row comes after a source's. Nothing depends on it.
 fn is_behind_source(shown: &Row, source: &SourceIn) -> bool {
     name_or_none(shown, 1)
         .cmp(source.name.as_str().as_bytes())
         .is_gt()
 }
 
-/// What is next to be done with the table of sources. A row that is gone is taken out before another of its key is put
-/// in, since both lists are in order. Nothing else rests on their order.
+/// The next change of the table of sources. A row that is gone is removed before another with its key is added, since
+/// both lists are in order. Nothing else depends on their order.
 pub fn source_change(shown: &[Row], sources: &[SourceIn], at: Compared) -> Result<Change, KeepFault>
     requires left { (at.shown < length shown.now) ⊎ (at.entries < length sources.now) }
     ensures next { IfOk result (λ change. Agrees source_in entry_of_source shown.now sources.now at.shown at.entries change) }
@@ -105,15 +105,15 @@ fn says_row(shown: &Row, row: &RowIn) -> bool
     }
 }
 
-/// Whether the architecture and name in a shown row come behind those of a row of testing. Nothing rests on it.
+/// Whether the architecture and name in a shown row come after those of a row of testing. Nothing depends on it.
 fn is_behind_row(shown: &Row, row: &RowIn) -> bool {
     let name = row.binary.name.as_str().as_bytes();
     let names = name_or_none(shown, 2).cmp(name);
     number_or_none(shown, 1).cmp(&row.arch).then(names).is_gt()
 }
 
-/// What is next to be done with the table of rows. A row that is gone is taken out before another of its key is put
-/// in, since both lists are in order. Nothing else rests on their order.
+/// The next change of the table of rows. A row that is gone is removed before another with its key is added, since both
+/// lists are in order. Nothing else depends on their order.
 pub fn row_change(shown: &[Row], rows: &[RowIn], at: Compared) -> Result<Change, KeepFault>
     requires left { (at.shown < length shown.now) ⊎ (at.entries < length rows.now) }
     ensures next { IfOk result (λ change. Agrees entry_in entry_of_row shown.now rows.now at.shown at.entries change) }

@@ -34,19 +34,19 @@ use testing_rules_items::{ALL, Archs, Item};
 use testing_rules_model::{RowIn, SharedBinary, SourceIn};
 use testing_rules_suites::Testing;
 
-/// Where the place of its upload stands in a shown row of testing's sources.
+/// The columns of the place of its upload in a shown row of testing's sources.
 const UPLOAD: Columns = Columns {
     sender: 2,
     number: 3,
 };
 
-/// Where the place of its build stands in a shown row of testing's rows.
+/// The columns of the place of its build in a shown row of testing's rows.
 const BUILD: Columns = Columns {
     sender: 3,
     number: 4,
 };
 
-/// A message, where it is of this sender and number.
+/// A message, if it has this sender and number.
 fn own(message: Message, sender: u32, number: u32) -> Result<Message, KeepFault>
     ensures ok { IfOk result (λ own. own_by sender number (Ok message) ≡ Some own) }
     ensures bad { result ≡ Err (KeepFault.Store Cause.BadRow) → own_by sender number (Ok message) ≡ None }
@@ -57,7 +57,7 @@ fn own(message: Message, sender: u32, number: u32) -> Result<Message, KeepFault>
     Ok(message)
 }
 
-/// What a text that is no message is told as.
+/// The store's fault for a text that isn't one.
 fn unlike(fault: MailFault) -> KeepFault
     ensures { result ≡ KeepFault.Store Cause.BadRow → fault ≢ MailFault.NoMemory }
 {
@@ -67,7 +67,7 @@ fn unlike(fault: MailFault) -> KeepFault
     }
 }
 
-/// The message that a text is, where it is of this sender and number.
+/// The message in a text, if it has this sender and number.
 pub fn own_message(
     alloc: Global,
     setup: &Setup,
@@ -84,7 +84,7 @@ pub fn own_message(
     }
 }
 
-/// The message that is kept at a place.
+/// The kept message at a place.
 #[tactic(auto, unfolding(crate::specs::TableContent::message_at))]
 fn message_at<S: Alter>(
     alloc: Global,
@@ -104,7 +104,7 @@ fn message_at<S: Alter>(
     }
 }
 
-/// What a text that is kept at a place says.
+/// The content of the kept text at a place.
 #[tactic(auto, unfolding(crate::specs::TableContent::message_at))]
 fn said_there(
     alloc: Global,
@@ -119,7 +119,7 @@ fn said_there(
     own_message(alloc, setup, text, sender, number)
 }
 
-/// What the messages that shown rows name are read by: the setup tells what a text says, and the rows tell which texts
+/// What is needed to read the messages named by shown rows: the setup to read a text, and the rows to know which texts
 /// to load together.
 #[derive(Clone, Copy)]
 struct Reading<'a> {
@@ -128,7 +128,7 @@ struct Reading<'a> {
     listed: Listed<'a>,
 }
 
-/// The message that is kept at a place, by the text that was loaded where there is one.
+/// The kept message at a place, from its loaded text if there is one.
 fn message_near<S: Alter>(
     conn: &mut Connection<S>,
     reading: &Reading<'_>,
@@ -150,7 +150,7 @@ fn message_near<S: Alter>(
     }
 }
 
-/// A message that was read, and the place at which it is kept.
+/// A message that was read, and its place in the mail.
 #[derive(Drop)]
 struct KeptAt {
     sender: u32,
@@ -168,7 +168,7 @@ fn is_last(last: &Option<KeptAt>, sender: u32, number: u32) -> bool
     }
 }
 
-/// Keeps a message that was read at a place in place of the one before.
+/// Keeps a message that was read at a place, replacing the previous one.
 fn keep_last(last: &mut Option<KeptAt>, sender: u32, number: u32, message: Message)
     ensures { last.new ≡ Some (record { sender = sender; number = number; message = message }) }
 {
@@ -179,7 +179,7 @@ fn keep_last(last: &mut Option<KeptAt>, sender: u32, number: u32, message: Messa
     });
 }
 
-/// Reads the message that is kept at a place, unless it is the one read last.
+/// Reads the kept message at a place, unless it is the one read last.
 fn read_once<S: Alter>(
     conn: &mut Connection<S>,
     reading: &Reading<'_>,
@@ -205,7 +205,7 @@ fn read_once<S: Alter>(
     Ok(())
 }
 
-/// The source that an upload brings.
+/// The source brought by an upload.
 fn source_brought(message: Message, sender: u32, number: u32) -> Option<SourceIn>
     ensures { result ≡ brought sender number (upload_in message.body) }
 {
@@ -226,7 +226,7 @@ fn source_brought(message: Message, sender: u32, number: u32) -> Option<SourceIn
     }
 }
 
-/// The source that an upload names, where it is of this name.
+/// The source named by an upload, if it has this name.
 fn source_named(message: Message, name: &[u8], sender: u32, number: u32) -> Option<SourceIn>
     ensures { result ≡ source_as name.now sender number (upload_in message.body) }
 {
@@ -238,7 +238,7 @@ fn source_named(message: Message, name: &[u8], sender: u32, number: u32) -> Opti
     }
 }
 
-/// The source that a shown row names.
+/// The source named by a shown row.
 fn source_at<S: Alter>(
     conn: &mut Connection<S>,
     reading: &Reading<'_>,
@@ -272,7 +272,7 @@ fn source_rows<S: Alter>(conn: &mut Connection<S>) -> Result<Vec<Row>, Error>
     )
 }
 
-/// The sources that these rows name.
+/// The sources named by these rows.
 fn sources_at<S: Alter>(
     alloc: Global,
     conn: &mut Connection<S>,
@@ -300,7 +300,7 @@ fn sources_at<S: Alter>(
     Ok(sources)
 }
 
-/// These sources by name, so that each goes into a suite behind those before it. Nothing rests on their order.
+/// These sources by name, so that each one goes into a suite after the previous ones. Nothing depends on their order.
 fn by_name(sources: Vec<SourceIn>) -> Vec<SourceIn>
     ensures { IsPermutation sources.items result.items }
 {
@@ -324,7 +324,7 @@ fn put_sources(testing: &mut Testing, sources: Vec<SourceIn>) -> Result<(), NoMe
     Ok(())
 }
 
-/// The binary of a build at a place, of which the first is 1.
+/// The binary of a build at a place, counted from 1.
 fn binary_at(message: &Message, place: u32) -> Option<&Binary>
     ensures { option_copied result ≡ binary_in place message.now.body }
 {
@@ -340,7 +340,7 @@ fn binary_at(message: &Message, place: u32) -> Option<&Binary>
     }
 }
 
-/// Whether a binary is of this name, and of the architecture at this place.
+/// Whether a binary has this name, and the architecture at this place.
 fn is_named(archs: &Archs, arch: u32, binary: &Binary, name: &[u8]) -> bool
     ensures { result ≡ (is_arch_place archs.now arch && (bytes_eq binary.now.name name.now && bytes_eq (arch_name archs.now arch) binary.now.architecture)) }
 {
@@ -350,7 +350,7 @@ fn is_named(archs: &Archs, arch: u32, binary: &Binary, name: &[u8]) -> bool
             && archs.name(arch) == binary.architecture.as_str())
 }
 
-/// The row that a binary gives for an entry, where it is of that name and architecture.
+/// The row of an entry's binary, if it has that name and architecture.
 fn row_in(
     alloc: Global,
     archs: &Archs,
@@ -374,7 +374,7 @@ fn row_in(
     }))
 }
 
-/// The binary at a place of the message read last, where that is a build.
+/// The binary at a place of the message read last, if that is a build.
 fn binary_read(last: &Option<KeptAt>, place: u32) -> Option<&Binary>
     ensures { option_copied result ≡ read_binary place last.now }
 {
@@ -384,8 +384,7 @@ fn binary_read(last: &Option<KeptAt>, place: u32) -> Option<&Binary>
     }
 }
 
-/// The row that the message read last gives for an entry, where it has a binary of that name and architecture at its
-/// place.
+/// The row of an entry from the message read last, if that has a binary with that name and architecture at its place.
 fn row_named(
     alloc: Global,
     archs: &Archs,
@@ -397,7 +396,7 @@ fn row_named(
     row_in(alloc, archs, binary_read(last, entry.place), entry)
 }
 
-/// The row of testing that a shown row names. The message read last is read no more.
+/// The row of testing named by a shown row. The message read last isn't read again.
 fn row_at<S: Alter>(
     conn: &mut Connection<S>,
     reading: &Reading<'_>,
@@ -436,7 +435,7 @@ fn entry_rows<S: Alter>(conn: &mut Connection<S>) -> Result<Vec<Row>, Error>
     )
 }
 
-/// These rows, those of one message side by side. Nothing rests on their order.
+/// These rows, with those of one message next to each other. Nothing depends on their order.
 fn by_message(rows: Vec<Row>, columns: Columns) -> Vec<Row>
     ensures { IsPermutation rows.items result.items }
 {
@@ -445,7 +444,7 @@ fn by_message(rows: Vec<Row>, columns: Columns) -> Vec<Row>
     sorted
 }
 
-/// The rows of testing that these rows of the table name, with what was loaded and read before.
+/// The rows of testing named by these rows of the table, using what was loaded and read before.
 fn read_rows<S: Alter>(
     alloc: Global,
     conn: &mut Connection<S>,
@@ -477,7 +476,7 @@ fn read_rows<S: Alter>(
     Ok(given)
 }
 
-/// The rows of testing that these rows of the table name.
+/// The rows of testing named by these rows of the table.
 fn rows_at<S: Alter>(
     alloc: Global,
     conn: &mut Connection<S>,
@@ -495,8 +494,8 @@ fn rows_at<S: Alter>(
     read_rows(alloc, conn, setup, rows, &mut block, &mut last)
 }
 
-/// These rows by architecture and name, so that each goes into a suite behind those before it. Nothing rests on their
-/// order.
+/// These rows by architecture and name, so that each one goes into a suite after the previous ones. Nothing depends on
+/// their order.
 fn by_key(rows: Vec<RowIn>) -> Vec<RowIn>
     ensures { IsPermutation rows.items result.items }
 {
@@ -521,7 +520,7 @@ fn put_rows(testing: &mut Testing, rows: Vec<RowIn>) -> Result<(), NoMemory>
     Ok(())
 }
 
-/// Puts these sources and rows into a suite. Where two of them have one key, the tables are no office's.
+/// Puts these sources and rows into a suite. If two of them have the same key, no office wrote the tables.
 fn gather(testing: &mut Testing, sources: Vec<SourceIn>, rows: Vec<RowIn>) -> Result<(), KeepFault>
     requires empty { (testing.old.sources ≡ []) × (testing.old.rows ≡ []) }
     ensures ok { OnOk result (IsGathered sources.items rows.items testing.new) }
@@ -547,7 +546,7 @@ fn gathered(alloc: Global, sources: Vec<SourceIn>, rows: Vec<RowIn>) -> Result<T
     Ok(testing)
 }
 
-/// Testing, as its entries and the kept mail name it.
+/// Testing, named by its entries and read from the kept mail.
 pub fn testing<S: Alter>(
     alloc: Global,
     conn: &mut Connection<S>,

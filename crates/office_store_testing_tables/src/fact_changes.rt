@@ -45,7 +45,7 @@ fn delays_ids<S: Alter>(tx: &mut Transaction<'_, S>, number: u32) -> Result<Vec<
     )
 }
 
-/// Takes the facts with a rowid out, and counts them.
+/// Removes the facts with a rowid, and counts them.
 fn take_fact<S: Alter>(tx: &mut Transaction<'_, S>, id: i64) -> Result<usize, Error>
     requires inside { BeginsInside S.Store tx.old.conn }
     ensures steps { StepsWithin S.Store tx.old.conn tx.new.conn result }
@@ -54,7 +54,7 @@ fn take_fact<S: Alter>(tx: &mut Transaction<'_, S>, id: i64) -> Result<usize, Er
     tx.execute("DELETE FROM fact WHERE rowid = ?1", params![id])
 }
 
-/// Takes the delays with a rowid out, and counts them.
+/// Removes the delays with a rowid, and counts them.
 fn take_delays<S: Alter>(tx: &mut Transaction<'_, S>, id: i64) -> Result<usize, Error>
     requires inside { BeginsInside S.Store tx.old.conn }
     ensures steps { StepsWithin S.Store tx.old.conn tx.new.conn result }
@@ -94,7 +94,7 @@ pub fn add_delays<S: Alter>(tx: &mut Transaction<'_, S>, number: u32) -> Result<
     )
 }
 
-/// The rowid of a fact, if it is there.
+/// The rowid of a fact, if it is in the table.
 fn found_fact<S: Alter>(
     tx: &mut Transaction<'_, S>,
     fact: &FactRow,
@@ -110,7 +110,7 @@ fn found_fact<S: Alter>(
     Ok(id)
 }
 
-/// Takes the one fact with a rowid out.
+/// Removes the one fact with a rowid.
 fn take_one_fact<S: Alter>(tx: &mut Transaction<'_, S>, id: i64) -> Result<(), KeepFault>
     requires inside { BeginsInside S.Store tx.old.conn }
     ensures steps { StepsWithin S.Store tx.old.conn tx.new.conn result }
@@ -122,7 +122,7 @@ fn take_one_fact<S: Alter>(tx: &mut Transaction<'_, S>, id: i64) -> Result<(), K
     Ok(())
 }
 
-/// Takes a fact out of the table of facts, if it is there.
+/// Removes a fact from the table of facts, if it is there.
 fn drop_fact<S: Alter>(tx: &mut Transaction<'_, S>, fact: &FactRow) -> Result<(), KeepFault>
     requires inside { BeginsInside S.Store tx.old.conn }
     ensures steps { StepsWithin S.Store tx.old.conn tx.new.conn result }
@@ -139,7 +139,7 @@ fn drop_fact<S: Alter>(tx: &mut Transaction<'_, S>, fact: &FactRow) -> Result<()
     }
 }
 
-/// The rowid of the delays under a number, if they are there.
+/// The rowid of the delays under a number, if they are in the table.
 fn found_delays<S: Alter>(
     tx: &mut Transaction<'_, S>,
     number: u32,
@@ -155,7 +155,7 @@ fn found_delays<S: Alter>(
     Ok(id)
 }
 
-/// Takes the one row of delays with a rowid out.
+/// Removes the one row of delays with a rowid.
 fn take_one_delays<S: Alter>(tx: &mut Transaction<'_, S>, id: i64) -> Result<(), KeepFault>
     requires inside { BeginsInside S.Store tx.old.conn }
     ensures steps { StepsWithin S.Store tx.old.conn tx.new.conn result }
@@ -167,7 +167,7 @@ fn take_one_delays<S: Alter>(tx: &mut Transaction<'_, S>, id: i64) -> Result<(),
     Ok(())
 }
 
-/// Takes the delays under a number out of their table, if they are there.
+/// Removes the delays under a number from their table, if they are there.
 fn drop_delays<S: Alter>(tx: &mut Transaction<'_, S>, number: u32) -> Result<(), KeepFault>
     requires inside { BeginsInside S.Store tx.old.conn }
     ensures steps { StepsWithin S.Store tx.old.conn tx.new.conn result }
@@ -191,7 +191,7 @@ fn is_no_delays(fact: &FactRow) -> bool
     fact.kind != FactKind::Delays
 }
 
-/// Takes a fact out of its table, if it is there.
+/// Removes a fact from its table, if it is there.
 fn drop_one<S: Alter>(
     tx: &mut Transaction<'_, S>,
     release: u32,
@@ -234,7 +234,7 @@ fn add_one<S: Alter>(
     Ok(put)
 }
 
-/// Takes these facts out of their tables.
+/// Removes these facts from their tables.
 pub fn drop_each<S: Alter>(
     tx: &mut Transaction<'_, S>,
     release: u32,
@@ -294,7 +294,7 @@ fn eight_values(facts: &[FactRow]) -> [[ValueRef<'static>; 4]; 8]
     }
 }
 
-/// Adds eight facts by one statement.
+/// Adds eight facts with one statement.
 fn add_eight<S: Alter>(tx: &mut Transaction<'_, S>, facts: &[FactRow]) -> Result<usize, Error>
     requires inside { BeginsInside S.Store tx.old.conn }
     requires eight { length facts.now ≡ 8 }
@@ -315,7 +315,7 @@ fn are_no_delays(facts: &[FactRow]) -> bool
     facts.iter().all(|fact| fact.kind != FactKind::Delays)
 }
 
-/// Puts the first of these facts into their tables, and says how many: eight by one statement where it can, or one.
+/// Adds the first of these facts to their tables, and says how many: eight with one statement if possible, else one.
 fn add_first<S: Alter>(
     tx: &mut Transaction<'_, S>,
     release: u32,
@@ -335,7 +335,7 @@ fn add_first<S: Alter>(
     Ok(1)
 }
 
-/// Puts these facts into their tables.
+/// Adds these facts to their tables.
 pub fn add_each<S: Alter>(
     tx: &mut Transaction<'_, S>,
     release: u32,

@@ -48,7 +48,7 @@ fn may_stand(kind: FactKind, place: u32) -> bool
     }
 }
 
-/// The kind whose number stands in the second column of a shown row of facts.
+/// The kind whose number is in the second column of a shown row of facts.
 fn kind_in(row: &Row) -> Result<FactKind, KeepFault>
     ensures ok { IfOk result (λ kind. column row.now 1 ≡ Int (pos (number_of kind))) }
     ensures bad { result ≡ Err (KeepFault.Store Cause.BadRow) → 1 < length row.now → (kind : AKind) → column row.now 1 ≢ Int (pos (number_of kind)) }
@@ -79,7 +79,7 @@ fn fact_numbers(row: &Row) -> Result<FactRow, KeepFault>
     })
 }
 
-/// What a shown row of facts says.
+/// The content of a shown row of facts.
 fn fact_said(row: &Row) -> Result<FactRow, KeepFault>
     ensures ok { IfOk result (λ fact. fact_in row.now ≡ Some (fact_entry fact)) }
     ensures bad { result ≡ Err (KeepFault.Store Cause.BadRow) → row.now ≡ fact_columns row.now → fact_in row.now ≡ None }
@@ -91,7 +91,7 @@ fn fact_said(row: &Row) -> Result<FactRow, KeepFault>
     Ok(fact)
 }
 
-/// What these rows of facts say, in their order.
+/// The content of these rows of facts, in their order.
 fn facts_said(alloc: Global, rows: &[Row]) -> Result<Vec<FactRow>, KeepFault>
     ensures ok { IfOk result (λ facts. map fact_in rows.now ≡ map Some (map fact_entry facts.items)) }
     ensures bad { result ≡ Err (KeepFault.Store Cause.BadRow) → ReadsEach fact_columns fact_in rows.now → ⊥ }
@@ -104,7 +104,7 @@ fn facts_said(alloc: Global, rows: &[Row]) -> Result<Vec<FactRow>, KeepFault>
     Ok(facts)
 }
 
-/// The number in a shown row of the last delays, whose id is 1.
+/// The number in the shown row of the last delays with the id 1.
 fn delays_number(row: &Row) -> Result<u32, KeepFault>
     ensures ok { IfOk result (λ number. (release : ℕ) → shown_delays release row.now ≡ Some (fact_entry (delays_of release number))) }
     ensures bad { result ≡ Err (KeepFault.Store Cause.BadRow) → (number : ℕ) → number < 4_294_967_296 → row.now ≢ Int (pos 1) ∷ Int (pos number) ∷ [] }
@@ -117,7 +117,7 @@ fn delays_number(row: &Row) -> Result<u32, KeepFault>
     Ok(number)
 }
 
-/// The fact that the only row of the last delays says, if there is one.
+/// The fact in the only row of the last delays, if there is one.
 fn delays_said(rows: &[Row], release: u32) -> Result<Option<FactRow>, KeepFault>
     ensures ok { IfOk result (λ fact. IsOnlyDelays release fact rows.now) }
     ensures none { result ≡ Err (KeepFault.Store Cause.BadRow) → rows.now ≢ [] }
@@ -153,7 +153,7 @@ fn delays_rows<S: Alter>(conn: &mut Connection<S>) -> Result<Vec<Row>, Error>
     conn.query_all("SELECT id, number FROM fact_delays", &[])
 }
 
-/// These facts and that of the delays, if there is one, in order and each once.
+/// These facts and the delays' one, if there is one, in order and each once.
 fn in_order(
     alloc: Global,
     facts: Vec<FactRow>,
@@ -168,7 +168,7 @@ fn in_order(
     rows_in_order(alloc, all.as_slice())
 }
 
-/// The facts that the tables keep, in order.
+/// The facts in the tables, in order.
 pub fn facts<S: Alter>(
     alloc: Global,
     conn: &mut Connection<S>,

@@ -1,10 +1,10 @@
-//! What a column that can't be read is told as.
+//! The store's fault for an unreadable column.
 ghost use Rattle.std.specs.Prelude.{◌≡◌, ◌≢◌};
 
 use office_store_keeper::{Cause, KeepFault};
 use sqlite::{Error, ErrorCode};
 
-/// What a column that can't be read is told as.
+/// The store's fault for an unreadable column.
 pub fn unread(error: Error) -> KeepFault
     ensures { result ≡ KeepFault.Store Cause.BadRow → error ≢ Error.SqliteFailure ErrorCode.OutOfMemory }
 {

@@ -1,4 +1,4 @@
-//! The tables of testing and of facts: what their rows say, and how they are read with the kept mail and changed.
+//! The tables of testing and of facts: the content of their rows, and how they are read with the kept mail and changed.
 #![tactic(auto)]
 
 pub mod differences;

@@ -14,7 +14,7 @@ pub struct LoadedLetters {
     pub letters: Vec<Letter>,
 }
 
-/// A block of no texts.
+/// A block without texts.
 pub fn no_block(alloc: Global) -> LoadedLetters
     ensures { result.letters.items ≡ [] }
 {
@@ -24,7 +24,7 @@ pub fn no_block(alloc: Global) -> LoadedLetters
     }
 }
 
-/// The letter of a number, searched by halves.
+/// The letter with a number, found by binary search.
 fn letter_of(letters: &[Letter], number: u32) -> Option<&Letter>
     ensures { IfSome result (λ letter. Contains letters.now letter.now × (letter.now.number ≡ number)) }
 {
@@ -37,7 +37,7 @@ fn letter_of(letters: &[Letter], number: u32) -> Option<&Letter>
     }
 }
 
-/// The text of a place, where it was loaded.
+/// The text at a place, if it was loaded.
 pub fn loaded_text(block: &LoadedLetters, sender: u32, number: u32) -> Option<&[u8]>
     ensures { IfSome result (λ text. (kept : Kept) → AreLettersOf kept block.now.sender block.now.letters.items → get kept (sender, number) ≡ Some text.now) }
 {

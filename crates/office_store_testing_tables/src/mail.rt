@@ -1,4 +1,4 @@
-//! The table of mail, as texts are looked up in it.
+//! Looks up texts in the table of mail.
 ghost use Rattle.std.specs.Prelude.{◌≡◌, ◌≢◌, ◌≤◌, ◌<◌, ◌∷◌, [], List, ℕ, true, Some, Err, pos, nat_eq, map, filter, length, IfOk};
 ghost use Rattle.std.specs.List.Sorted.{IsPermutation};
 ghost use Rattle.office_store_keeper.specs.Content.{letters_within};
@@ -15,7 +15,7 @@ use office_store_keeper::{Cause, KeepFault, Letter, MailText};
 use sqlite::{Alter, Connection, Error, Row, params};
 use std::alloc::Global;
 
-/// The text in a row that was asked for by its place and number.
+/// The text in a row found by its place and number.
 fn text_in(row: &Row, sender: u32, number: u32) -> Result<MailText, KeepFault>
     ensures ok { IfOk result (λ text. (column row.now 0 ≡ Int (pos sender)) × (column row.now 1 ≡ Int (pos number)) × (column row.now 2 ≡ Blob text)) }
     ensures bad { result ≡ Err (KeepFault.Store Cause.BadRow) → (text : List ℕ) → row.now ≢ Int (pos sender) ∷ Int (pos number) ∷ Blob text ∷ [] }
@@ -86,7 +86,7 @@ fn letters_between<S: Alter>(
     )
 }
 
-/// The letter in a shown row, where it is of this sender.
+/// The letter in a shown row, if it is this sender's.
 pub fn letter_in(row: &Row, sender: u32) -> Result<Letter, KeepFault>
     ensures ok { IfOk result (λ letter. (column row.now 0 ≡ Int (pos sender)) × (column row.now 1 ≡ Int (pos letter.number)) × (column row.now 2 ≡ Blob letter.text)) }
     ensures bad { result ≡ Err (KeepFault.Store Cause.BadRow) → (number : ℕ) (text : List ℕ) → number < 4_294_967_296 → row.now ≢ Int (pos sender) ∷ Int (pos number) ∷ Blob text ∷ [] }
@@ -130,7 +130,7 @@ fn are_rising(letters: &[Letter]) -> bool
     true
 }
 
-/// These letters by their numbers. Where two have one number, the table is no office's.
+/// These letters by their numbers. If two have the same number, no office wrote the table.
 pub fn by_number(letters: Vec<Letter>) -> Result<Vec<Letter>, KeepFault>
     ensures same { IfOk result (λ sorted. IsPermutation letters.items sorted.items) }
     ensures rising { IfOk result (λ sorted. rises_from 0 sorted.items ≡ true) }
@@ -144,7 +144,7 @@ pub fn by_number(letters: Vec<Letter>) -> Result<Vec<Letter>, KeepFault>
     Ok(sorted)
 }
 
-/// The kept numbers of a sender from one number to another with their texts, by number, as one statement finds them.
+/// The kept numbers of a sender from one number to another with their texts, by number, found with one statement.
 pub fn load<S: Alter>(
     alloc: Global,
     conn: &mut Connection<S>,

@@ -1,5 +1,5 @@
-//! Texts of mail that are loaded together. Entries of testing that are read by their messages mostly name messages that
-//! are kept side by side.
+//! Texts of mail loaded together. Entries of testing, read in the order of their messages, usually name messages that
+//! are adjacent in the mail.
 ghost use Rattle.std.specs.Prelude.{◌≡◌, Err, Some};
 ghost use Rattle.sqlite.specs.Held.{state};
 ghost use Rattle.office_store_testing_tables.specs.Tables.{IsTrusted, kept_rows};
@@ -14,10 +14,10 @@ use office_store_keeper::{Cause, KeepFault};
 use sqlite::{Alter, Connection, Row};
 use std::alloc::Global;
 
-/// So many numbers of a sender are loaded at once, at most.
+/// The most numbers of a sender that are loaded at once.
 const BLOCK: u32 = 256;
 
-/// In which columns of a shown row the place of its message stands.
+/// The columns of a shown row with the place of its message.
 #[derive(Clone, Copy)]
 pub struct Columns {
     pub sender: usize,
@@ -31,7 +31,7 @@ pub struct Listed<'a> {
     pub columns: Columns,
 }
 
-/// The place of the message that a shown row names, 0 for a number that doesn't read.
+/// The place of the message named by a shown row, with 0 for an unreadable number.
 pub fn message_place(row: &Row, columns: Columns) -> (u32, u32) {
     (
         number_in(row, columns.sender).unwrap_or(0),
@@ -39,8 +39,8 @@ pub fn message_place(row: &Row, columns: Columns) -> (u32, u32) {
     )
 }
 
-/// The last number to load together with this one: the last of a block that the rows name, where they are at least a
-/// quarter as many as the numbers up to it. Nothing rests on it.
+/// The last number to load together with this one: the last of a block named by the rows, if they name at least a
+/// quarter of the numbers up to it. Nothing depends on it.
 fn last_wanted(listed: Listed<'_>, sender: u32, number: u32) -> u32 {
     let from = (sender, number);
     let to = (sender, number.saturating_add(BLOCK));
@@ -59,7 +59,7 @@ fn last_wanted(listed: Listed<'_>, sender: u32, number: u32) -> u32 {
     }
 }
 
-/// Loads the text of a place, with those near it that the rows name, unless it was loaded.
+/// Loads the text at a place, with those near it named by the rows, unless it is loaded.
 pub fn bring<S: Alter>(
     alloc: Global,
     conn: &mut Connection<S>,

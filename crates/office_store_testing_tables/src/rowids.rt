@@ -1,4 +1,4 @@
-//! Rows that are found, and taken out, by their rowids.
+//! Rows found and removed by their rowids.
 ghost use Rattle.std.specs.Prelude.{◌≡◌, ◌≢◌, Err, IfOk, OnOk};
 ghost use Rattle.sqlite.specs.Order.{column};
 ghost use Rattle.sqlite.specs.declared.types.Value.TheVariants.{Int};
@@ -7,14 +7,14 @@ ghost use Rattle.office_store_testing_tables.specs.FactSteps.{IsOnlyId};
 use office_store_keeper::{Cause, KeepFault};
 use sqlite::{Constraint, Error, ErrorCode, Row};
 
-/// What a key that stands twice is told as. SQLite lets none stand twice.
+/// The fault of the store for a repeated key. SQLite allows none.
 fn stands_twice(constraint: Constraint) -> KeepFault
     ensures { result ≢ KeepFault.Store Cause.BadRow }
 {
     KeepFault::from(Error::SqliteFailure(ErrorCode::ConstraintViolation(constraint)))
 }
 
-/// The rowid that is shown.
+/// The shown rowid.
 pub fn id_in(row: &Row) -> Result<i64, KeepFault>
     ensures ok { IfOk result (λ id. column row.now 0 ≡ Int id) }
     ensures bad { result ≢ Err (KeepFault.Store Cause.BadRow) }
@@ -34,7 +34,7 @@ pub fn only_id(rows: &[Row]) -> Result<Option<i64>, KeepFault>
     }
 }
 
-/// A row was taken out alone.
+/// Exactly one row was removed.
 pub fn alone(count: usize) -> Result<(), KeepFault>
     ensures ok { OnOk result (count ≡ 1) }
     ensures bad { result ≢ Err (KeepFault.Store Cause.BadRow) }

@@ -1,7 +1,7 @@
-//! What the tables say of the office.
+//! What the office's row says.
 use deb_control::Text;
 
-/// What a store says of itself: the number of its schema, the setup's text, and how many runs are finished.
+/// The content of the office's row: the schema's number, the setup's text, and the number of finished runs.
 #[derive(Drop)]
 pub struct Said {
     pub schema: u32,

@@ -1,4 +1,4 @@
-//! What the rows of testing's tables say, as they are shown.
+//! The content of shown rows of testing's tables.
 ghost use Rattle.std.specs.Prelude.{◌≡◌, ◌≢◌, ◌<◌, ◌∷◌, [], List, ℕ, ℤ, Err, Some, pos, length, IfOk};
 ghost use Rattle.sqlite.specs.Order.{column};
 ghost use Rattle.sqlite.specs.declared.types.Value.TheVariants.{Int, Text as Words};
@@ -48,7 +48,7 @@ pub fn source_entry(row: &Row) -> Result<(&[u8], u32, u32), KeepFault>
     Ok((name, sender, number))
 }
 
-/// What a shown row of testing's rows says.
+/// The content of a shown row of testing's rows.
 #[derive(Clone, Copy)]
 pub struct RowEntry<'a> {
     pub arch: u32,

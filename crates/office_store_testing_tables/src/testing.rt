@@ -1,4 +1,4 @@
-//! The tables of testing: of their rows a finished run writes those that changed.
+//! The tables of testing: a finished run writes only the rows that changed.
 ghost use Rattle.std.specs.Prelude.{◌≡◌, ◌≢◌, ◌≤◌, ◌<◌, ◌⊎◌, Err, map, length, IfOk};
 ghost use Rattle.std.specs.List.{AllByRecursion};
 ghost use Rattle.std.specs.List.Sorted.{IsPermutation};
@@ -33,7 +33,7 @@ fn listed_sources<S: Alter>(tx: &mut Transaction<'_, S>) -> Result<Vec<Row>, Err
     )
 }
 
-/// These shown rows by name. Nothing rests on their order.
+/// These shown rows by name. Nothing depends on their order.
 fn sources_in_order(rows: Vec<Row>) -> Vec<Row>
     ensures { IsPermutation rows.items result.items }
 {
@@ -42,7 +42,7 @@ fn sources_in_order(rows: Vec<Row>) -> Vec<Row>
     sorted
 }
 
-/// Takes the sources with a rowid out, and counts them.
+/// Removes the sources with a rowid, and counts them.
 fn take_source<S: Alter>(tx: &mut Transaction<'_, S>, id: i64) -> Result<usize, Error>
     requires inside { BeginsInside S.Store tx.old.conn }
     ensures steps { StepsWithin S.Store tx.old.conn tx.new.conn result }
@@ -51,7 +51,7 @@ fn take_source<S: Alter>(tx: &mut Transaction<'_, S>, id: i64) -> Result<usize, 
     tx.execute("DELETE FROM testing_source WHERE rowid = ?1", params![id])
 }
 
-/// Takes the one source with a rowid out.
+/// Removes the one source with a rowid.
 fn take_one_source<S: Alter>(tx: &mut Transaction<'_, S>, id: i64) -> Result<(), KeepFault>
     requires inside { BeginsInside S.Store tx.old.conn }
     ensures steps { StepsWithin S.Store tx.old.conn tx.new.conn result }
@@ -117,7 +117,7 @@ fn eight_source_values(sources: &[SourceIn]) -> [[ValueRef<'_>; 3]; 8]
     }
 }
 
-/// Adds eight sources by one statement.
+/// Adds eight sources with one statement.
 fn add_eight_sources<S: Alter>(
     tx: &mut Transaction<'_, S>,
     sources: &[SourceIn],
@@ -134,7 +134,7 @@ fn add_eight_sources<S: Alter>(
     )
 }
 
-/// Does what is next to be done with the table of sources.
+/// Makes the next change of the table of sources.
 fn change_source<S: Alter>(
     tx: &mut Transaction<'_, S>,
     shown: &[Row],
@@ -173,7 +173,7 @@ fn change_source<S: Alter>(
     }
 }
 
-/// Does what is next to be done with the table of sources. Where no shown row is left, eight sources are put in by one
+/// Makes the next change of the table of sources. Once no shown row is left, eight sources are added with one
 /// statement.
 fn change_source_or_more<S: Alter>(
     tx: &mut Transaction<'_, S>,
@@ -200,7 +200,7 @@ fn change_source_or_more<S: Alter>(
     })
 }
 
-/// Changes the table of sources, of which all rows are shown, until it has these sources alone.
+/// Changes the table of sources, all of whose rows are shown, until it has exactly these sources.
 fn change_sources<S: Alter>(
     tx: &mut Transaction<'_, S>,
     shown: &[Row],
@@ -223,7 +223,7 @@ fn change_sources<S: Alter>(
     Ok(())
 }
 
-/// Puts these sources in place of the old ones: what is gone is taken out, and what is new is put in.
+/// Replaces the old sources with these: those that are gone are removed, new ones are added.
 pub fn set_sources<S: Alter>(
     tx: &mut Transaction<'_, S>,
     sources: &[SourceIn],
@@ -253,7 +253,7 @@ fn listed_rows<S: Alter>(tx: &mut Transaction<'_, S>) -> Result<Vec<Row>, Error>
     )
 }
 
-/// These shown rows by architecture and name. Nothing rests on their order.
+/// These shown rows by architecture and name. Nothing depends on their order.
 fn rows_in_order(rows: Vec<Row>) -> Vec<Row>
     ensures { IsPermutation rows.items result.items }
 {
@@ -265,7 +265,7 @@ fn rows_in_order(rows: Vec<Row>) -> Vec<Row>
     sorted
 }
 
-/// Takes the rows with a rowid out, and counts them.
+/// Removes the rows with a rowid, and counts them.
 fn take_row<S: Alter>(tx: &mut Transaction<'_, S>, id: i64) -> Result<usize, Error>
     requires inside { BeginsInside S.Store tx.old.conn }
     ensures steps { StepsWithin S.Store tx.old.conn tx.new.conn result }
@@ -274,7 +274,7 @@ fn take_row<S: Alter>(tx: &mut Transaction<'_, S>, id: i64) -> Result<usize, Err
     tx.execute("DELETE FROM testing_row WHERE rowid = ?1", params![id])
 }
 
-/// Takes the one row with a rowid out.
+/// Removes the one row with a rowid.
 fn take_one_row<S: Alter>(tx: &mut Transaction<'_, S>, id: i64) -> Result<(), KeepFault>
     requires inside { BeginsInside S.Store tx.old.conn }
     ensures steps { StepsWithin S.Store tx.old.conn tx.new.conn result }
@@ -349,7 +349,7 @@ fn eight_row_values(rows: &[RowIn]) -> [[ValueRef<'_>; 5]; 8]
     }
 }
 
-/// Adds eight rows by one statement.
+/// Adds eight rows with one statement.
 fn add_eight_rows<S: Alter>(tx: &mut Transaction<'_, S>, rows: &[RowIn]) -> Result<usize, Error>
     requires inside { BeginsInside S.Store tx.old.conn }
     requires eight { length rows.now ≡ 8 }
@@ -363,7 +363,7 @@ fn add_eight_rows<S: Alter>(tx: &mut Transaction<'_, S>, rows: &[RowIn]) -> Resu
     )
 }
 
-/// Does what is next to be done with the table of rows.
+/// Makes the next change of the table of rows.
 fn change_row<S: Alter>(
     tx: &mut Transaction<'_, S>,
     shown: &[Row],
@@ -403,8 +403,7 @@ fn change_row<S: Alter>(
     }
 }
 
-/// Does what is next to be done with the table of rows. Where no shown row is left, eight rows are put in by one
-/// statement.
+/// Makes the next change of the table of rows. Once no shown row is left, eight rows are added with one statement.
 fn change_row_or_more<S: Alter>(
     tx: &mut Transaction<'_, S>,
     shown: &[Row],
@@ -430,7 +429,7 @@ fn change_row_or_more<S: Alter>(
     })
 }
 
-/// Changes the table of rows, of which all rows are shown, until it has these rows alone.
+/// Changes the table of rows, all of whose rows are shown, until it has exactly these rows.
 fn change_rows<S: Alter>(
     tx: &mut Transaction<'_, S>,
     shown: &[Row],
@@ -453,7 +452,7 @@ fn change_rows<S: Alter>(
     Ok(())
 }
 
-/// Puts these rows in place of the old ones: what is gone is taken out, and what is new is put in.
+/// Replaces the old rows with these: those that are gone are removed, new ones are added.
 pub fn set_rows<S: Alter>(tx: &mut Transaction<'_, S>, rows: &[RowIn]) -> Result<(), KeepFault>
     requires inside { BeginsInside S.Store tx.old.conn }
     requires ordered { AreByKey rows.now }

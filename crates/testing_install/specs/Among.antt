@@ -1,31 +1,31 @@
--- Installable among the rows that are there, where not all of the rows are.
+-- Installable among the present rows, when some of the rows are absent.
 use Rattle.std.specs.Prelude.{◌≡◌, ℕ, ◌<◌, Bool, true, false, ◌⊎◌, List, [], ◌∷◌, length, Some, slice_set}
 use Rattle.std.specs.List.{slice_get, list_any}
 use Rattle.deb_control.specs.declared.binary.Binary.{Binary}
 use Rattle.testing_install.specs.Satisfies.{meets}
 use Rattle.testing_install.specs.Closed.{IsClosed, IsInside}
 
--- some closed set of rows that are there holds the row at the place
+-- some closed set of present rows contains the row at the place
 abbrev pub IsInstallableAmong : List Binary → (ℕ → Bool) → ℕ → Type 0
 IsInstallableAmong rows there k = (set : ℕ → Bool) × IsClosed rows set × IsInside rows set there × (k < length rows) × (set k ≡ true)
 
--- the set is closed and holds only rows that are there, and every such set is inside it
+-- the set is closed and contains only present rows, and every such set is inside it
 pub record IsGreatestAmong (rows : List Binary) (there set : ℕ → Bool) : Type 0 where
   pub inside : (k : ℕ) → set k ≡ true → there k ≡ true
   pub closed : IsClosed rows set
   pub greatest : (other : ℕ → Bool) → IsClosed rows other → IsInside rows other there → IsInside rows other set
 
--- a list with the value at each of the places
+-- a list with this value put at each of the places
 abbrev pub with_all : Bool → List ℕ → List Bool → List Bool
 with_all b [] xs = xs
 with_all b (k ∷ ks) xs = with_all b ks (slice_set xs k b)
 
--- which rows are there after some have left, and then some have come
+-- which rows are present after some have left and then some have come
 abbrev pub after_change : List ℕ → List ℕ → List Bool → List Bool
 after_change leaving coming there = with_all true coming (with_all false leaving there)
 
--- where other rows are there than before, the row is lost: it is there and not installable, and it was installable
--- before, or wasn't there
+-- when the present rows change, the row is lost: it is present and not installable, and before it was installable or
+-- absent
 abbrev pub IsLost : List Binary → (ℕ → Bool) → (ℕ → Bool) → ℕ → Type 0
 IsLost rows before after k = (after k ≡ true) × (IsInstallableAmong rows after k → ⊥) × (IsInstallableAmong rows before k ⊎ (before k ≡ false))
 
@@ -33,8 +33,8 @@ IsLost rows before after k = (after k ≡ true) × (IsInstallableAmong rows afte
 abbrev pub may_need : Binary → Binary → Bool
 may_need other row = list_any (meets row) other.clauses
 
--- the list has the rows that are there, in any order and however often, and no others: each of its rows stands at some
--- place that is there, and each row that is there has some number in it
+-- the list contains exactly the present rows, in any order and any number of times: each of its rows is at some present
+-- place, and each present row has some number in it
 pub record IsListOf (rows : List Binary) (there : ℕ → Bool) (listed : List Binary) (place_of number_of : ℕ → ℕ) : Type 0 where
   pub placed : (k : ℕ) (row : Binary) → slice_get listed k ≡ Some row → (slice_get rows (place_of k) ≡ Some row) × (there (place_of k) ≡ true)
   pub numbered : (p : ℕ) (row : Binary) → slice_get rows p ≡ Some row → there p ≡ true → slice_get listed (number_of p) ≡ Some row

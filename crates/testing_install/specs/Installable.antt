@@ -1,15 +1,15 @@
--- The installable rows as a list that computes: what all closed sets hold together.
+-- The installable rows as a computed list: the rows of all closed sets together.
 use Rattle.std.specs.Prelude.{Bool, true, false, ◌||◌, cond, List, [], ◌∷◌, ◌++◌, map}
 use Rattle.std.specs.List.{list_all, list_any, filter, fold}
 use Rattle.deb_control.specs.declared.binary.Binary.{Binary}
 use Rattle.testing_install.specs.Satisfies.{meets}
 
--- each way to choose among the rows: for each row, whether it is chosen
+-- all choices of rows: for each row, whether it is chosen
 abbrev pub choices : {A : Type 0} → List A → List (List Bool)
 choices [] = [] ∷ []
 choices (row ∷ rows) = map (λ c. true ∷ c) (choices rows) ++ map (λ c. false ∷ c) (choices rows)
 
--- the rows that are chosen
+-- the chosen rows
 abbrev pub chosen : {A : Type 0} → List A → List Bool → List A
 chosen [] c = []
 chosen (row ∷ rows) [] = []
@@ -19,7 +19,7 @@ chosen (row ∷ rows) (b ∷ c) = cond b (row ∷ chosen rows c) (chosen rows c)
 abbrev pub is_closed : List Binary → Bool
 is_closed rows = list_all (λ row. list_all (λ clause. list_any (λ other. meets other clause) rows) row.clauses) rows
 
--- what is chosen in one choice or in the other
+-- the rows chosen in either choice
 abbrev pub either : List Bool → List Bool → List Bool
 either [] d = d
 either (b ∷ c) [] = b ∷ c

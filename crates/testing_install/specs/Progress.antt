@@ -9,7 +9,7 @@ use Rattle.testing_install.specs.Closed.{IsClosed, IsInside, marked}
 use Rattle.testing_install.specs.Claims.{clauses_of, pair_count, claims_from}
 use Rattle.testing_install.specs.Work.{Work}
 
--- how often a number stands in a list
+-- how often a number occurs in a list
 abbrev pub count_of : ℕ → List ℕ → ℕ
 count_of c xs = count_by (λ x. x == c) xs
 
@@ -44,7 +44,7 @@ gain_of rows (Some row) = gain rows row
 abbrev pub gain_at : List Binary → ℕ → ℕ
 gain_at rows k = gain_of rows (slice_get rows k)
 
--- a claim rests on a row that meets it, and that is marked or waits for its turn
+-- a claim rests on a row that meets it and is marked or waiting
 pub record Rests (rows : List Binary) (w : Work) (c : ℕ) : Type 0 where
   pub place : ℕ
   pub row : Binary
@@ -53,8 +53,8 @@ pub record Rests (rows : List Binary) (w : Work) (c : ℕ) : Type 0 where
   pub listed : 0 < count_of c (slice_index_or w.resting place [])
   pub does : meets row (clause rows c) ≡ true
 
--- what makes the marks right, todo being the claims that are still to be looked at: every closed set is among the
--- marked rows, and each claim of a marked row rests on a row that meets it
+-- what makes the marks right, while the claims todo wait for a look: every closed set is among the marked rows, and
+-- each other claim of a marked row rests on a row that meets it
 pub record IsSound (rows : List Binary) (w : Work) (todo : List ℕ) : Type 0 where
   pub marks_len : length w.marks ≡ length rows
   pub resting_len : length w.resting ≡ length rows
@@ -64,14 +64,14 @@ pub record IsSound (rows : List Binary) (w : Work) (todo : List ℕ) : Type 0 wh
   pub rests : (c : ℕ) → c < claim_count rows → count_of c todo ≡ 0 → marked w.marks (owner rows c) ≡ true → Rests rows w c
   pub keeps : (other : ℕ → Bool) → IsClosed rows other → IsInside rows other (marked w.marks)
 
--- what bounds the turns and the looks: no claim stands twice, each row is marked, waits or had its turn, and the looks
--- so far and those that may come are no more than the claims and the pairs
+-- what bounds the turns and the looks: no claim is listed twice, each row is marked, waiting or done, and the looks
+-- done and possible are at most the number of claims and pairs
 pub record IsBounded (rows : List Binary) (w : Work) (todo : List ℕ) : Type 0 where
   pub once : (c : ℕ) → sum_by (λ xs. count_of c xs) w.resting + count_of c todo ≤ 1
   pub balance : w.turns + length w.waiting + count_by (λ b. b) w.marks ≡ length rows
   pub cost : w.looks + length todo + sum_by (gain_at rows) w.waiting + weight (gain rows) rows w.marks ≤ claim_count rows + pair_count rows
 
--- what holds between two looks
+-- what is true between two looks
 pub record IsWork (rows : List Binary) (w : Work) (todo : List ℕ) : Type 0 where
   pub sound : IsSound rows w todo
   pub bounded : IsBounded rows w todo

@@ -1,5 +1,5 @@
 -- Steps: no contract of a call that users make rests on this file.
--- How the installable rows of a suite are found again after a change.
+-- How the installable rows of a suite are recomputed after a change.
 use Rattle.std.specs.Prelude.{◌≡◌, ℕ, ◌<◌, Bool, true, false, ◌⊎◌, List, length, Option, Some, None, Contains, slice_index_or}
 use Rattle.std.specs.List.{slice_get}
 use Rattle.deb_control.specs.declared.binary.Binary.{Binary}
@@ -8,12 +8,12 @@ use Rattle.testing_install.specs.Satisfies.{meets}
 use Rattle.testing_install.specs.Closed.{IsClosed, IsInside, marked}
 use Rattle.testing_install.specs.Among.{may_need}
 
--- a clause is to be looked at where the row is lost that met it, and every clause is where no such row is given
+-- a clause needs a look if the lost row met it, or if no lost row is given
 abbrev pub suspects : Option Binary → Clause → Bool
 suspects None clause = true
 suspects (Some row) clause = meets row clause
 
--- a marked row, or one that waits for its turn, meets the clause
+-- a marked or waiting row meets the clause
 pub record IsHeld (rows : List Binary) (marks : List Bool) (waiting : List ℕ) (clause : Clause) : Type 0 where
   pub place : ℕ
   pub row : Binary
@@ -21,14 +21,14 @@ pub record IsHeld (rows : List Binary) (marks : List Bool) (waiting : List ℕ) 
   pub here : (marked marks place ≡ true) ⊎ Contains waiting place
   pub does : meets row clause ≡ true
 
--- there is a mark for each row, and what waits are rows
+-- there is one mark per row, and all waiting places are rows
 pub record IsSized (rows : List Binary) (marks : List Bool) (waiting : List ℕ) : Type 0 where
   pub long : length marks ≡ length rows
   pub waiting_in : (k : ℕ) → Contains waiting k → k < length rows
 
--- what holds between two looks, todo being the rows whose suspect clauses are still to be looked at: every closed set of
--- rows that are there is among the marked rows, each other clause of a marked row is held, and the fallen rows are
--- those that were marked at first and aren't any more
+-- what is true between two looks, while the suspect clauses of the rows todo wait: every closed set of present rows is
+-- among the marked rows, each other clause of a marked row is held, and the fallen rows are those that had a mark at
+-- first and lost it
 pub record IsSettling (rows : List Binary) (there : ℕ → Bool) (first marks : List Bool) (waiting fallen todo : List ℕ) (lost : Option Binary) : Type 0 where
   pub inside : (k : ℕ) → marked marks k ≡ true → there k ≡ true
   pub keeps : (other : ℕ → Bool) → IsClosed rows other → IsInside rows other there → IsInside rows other (marked marks)
@@ -38,8 +38,8 @@ pub record IsSettling (rows : List Binary) (there : ℕ → Bool) (first marks :
   pub fell : (k : ℕ) → Contains fallen k → (marked first k ≡ true) × (marked marks k ≡ false)
   pub all : (k : ℕ) → marked first k ≡ true → marked marks k ≡ false → Contains fallen k
 
--- what holds while rows get their marks back, fresh being those that have come or got it and next the first of them
--- whose needers are still to be gone over; before the change the marks were the old set
+-- what is true while rows get their marks back: the rows fresh have come or got one, the needers of those from next on
+-- are still to be visited; before the change the old set was marked
 pub record IsReviving (rows : List Binary) (there old : ℕ → Bool) (start marks : List Bool) (fresh : List ℕ) (next : ℕ) : Type 0 where
   pub inside : (k : ℕ) → marked marks k ≡ true → there k ≡ true
   pub grown : (k : ℕ) → marked start k ≡ true → marked marks k ≡ true
@@ -47,8 +47,8 @@ pub record IsReviving (rows : List Binary) (there old : ℕ → Bool) (start mar
   pub done : (j d : ℕ) (row : Binary) (k : ℕ) (other : Binary) → j < next → j < length fresh → slice_get rows (slice_index_or fresh j d) ≡ Some row
       → slice_get rows k ≡ Some other → there k ≡ true → may_need other row ≡ true → marked marks k ≡ true
 
--- what going over the first n places does: those of them that are there are marked, and the rows whose marks are new are
--- there, and are added to the fresh ones
+-- the result of visiting the first n places: the present rows there are marked, and each row with a new mark is present
+-- and among the fresh ones
 pub record IsRevived (there : ℕ → Bool) (old new : List Bool) (old_fresh new_fresh places : List ℕ) (n : ℕ) : Type 0 where
   pub inside : (k : ℕ) → marked new k ≡ true → (marked old k ≡ true) ⊎ (there k ≡ true)
   pub grown : (k : ℕ) → marked old k ≡ true → marked new k ≡ true

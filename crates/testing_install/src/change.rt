@@ -1,4 +1,4 @@
-//! A change of the rows that are there.
+//! A change of the present rows.
 
 ghost use Rattle.std.specs.Prelude.{◌≡◌, ℕ, ◌+◌, ◌<◌, Bool, true, false, not, ◌⊎◌, List, [], ◌∷◌, ◌++◌, length, slice_set, OnOk, IfOk, Contains, ◌||◌, ◌↔◌, filter};
 ghost use Rattle.std.specs.List.{All, count_by};
@@ -19,7 +19,7 @@ use deb_version::NoMemory;
 use smallvec::SmallVec;
 use std::alloc::Global;
 
-// Marks the row at the place, which is fresh.
+// Marks the row at the place, a fresh one.
 fn mark(marks: &mut Marks, fresh: &mut SmallVec<usize, 4>, place: usize) -> Result<(), NoMemory>
     requires { place < length marks.old.current }
     ensures kept { marks.new.kept ≡ marks.old.kept }
@@ -31,7 +31,7 @@ fn mark(marks: &mut Marks, fresh: &mut SmallVec<usize, 4>, place: usize) -> Resu
     Ok(())
 }
 
-// Marks the row at the place, if it is there and has no mark.
+// Marks the row at the place if it is present and has no mark.
 fn revive_one(
     there: &[bool],
     marks: &mut Marks,
@@ -56,7 +56,7 @@ fn revive_one(
     Ok(())
 }
 
-// Marks those of the rows at the places that are there and have no mark.
+// Marks the present rows at the places that have no mark.
 fn revive_among(
     there: &[bool],
     marks: &mut Marks,
@@ -77,7 +77,7 @@ fn revive_among(
     Ok(())
 }
 
-// Marks those of the rows with a clause that has a name of the row's that are there and have no mark.
+// Marks the present, unmarked rows with a clause that has a name of this row's.
 fn revive_needers(
     needers: &NameIndex,
     there: &[bool],
@@ -103,7 +103,7 @@ fn revive_needers(
     Ok(())
 }
 
-// Marks the rows that may be installable again by the fresh ones, and those that may be by these, and so on.
+// Marks the rows that may be installable again because of the fresh ones, then because of these, and so on.
 fn revive(
     graph: &Graph,
     there: &[bool],
@@ -162,14 +162,14 @@ pub fn change(
     Ok(falls.fallen)
 }
 
-// The row at the place wasn't there when the marks were last kept, or was installable then.
+// The row at the place was absent when the marks were last kept, or was installable then.
 fn was_right(there: &Marks, marks: &Marks, place: usize) -> bool
     ensures { result ≡ (marked marks.now.kept place || not (marked there.now.kept place)) }
 {
     marks.was_marked(place) || !there.was_marked(place)
 }
 
-// Those of the rows at the places that weren't there when the marks were last kept, or were installable then.
+// The rows at the places that were absent when the marks were last kept, or were installable then.
 fn newly_lost(
     alloc: Global,
     there: &Marks,
@@ -187,7 +187,7 @@ fn newly_lost(
     Ok(lost)
 }
 
-/// The rows that a change loses, where the marks before it are kept.
+/// The rows that a change loses, if the marks before it are kept.
 pub fn lost_by(
     alloc: Global,
     graph: &Graph,

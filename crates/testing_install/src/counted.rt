@@ -12,29 +12,29 @@ use crate::work::{Ground, worked};
 use deb_version::NoMemory;
 use std::alloc::Global;
 
-/// Which rows are installable, and the steps that it took to find out.
+/// Which rows are installable, and the number of steps needed to find out.
 #[derive(Debug, Drop)]
 pub struct Counted {
-    /// For each row whether it is installable.
+    /// Whether each row is installable.
     pub answers: Vec<bool>,
-    /// How often a row was taken out of the set.
+    /// How often a row was removed from the set.
     pub turns: usize,
-    /// How often it was asked whether a row of the set meets a clause; it stays at the greatest number.
+    /// How often a clause was checked against the rows of the set; it saturates.
     pub looks: u64,
 }
 
-/// Which rows are installable, as `installable` says it, with the steps counted.
+/// Which rows are installable, like `installable`, with the steps counted.
 pub fn installable_counted(alloc: Global, rows: &[Row<'_>]) -> Result<Counted, NoMemory>
     ensures length { IfOk result (λ c. vec_len c.answers ≡ length rows.now) }
 
-    // A row is installable exactly where some closed set holds it.
+    // A row is installable exactly if some closed set contains it.
     ensures exact { IfOk result (λ c. (k : ℕ) → k < length rows.now
         → (marked c.answers.items k ≡ true) ↔ IsInstallable (binaries rows.now) k) }
-    // So the installable rows are themselves a closed set, and the greatest.
+    // So the installable rows are themselves a closed set, the greatest one.
     ensures closed { IfOk result (λ c. IsClosed (binaries rows.now) (marked c.answers.items)) }
     ensures greatest { IfOk result (λ c. (set : ℕ → Bool) → IsClosed (binaries rows.now) set
         → IsInside (binaries rows.now) set (marked c.answers.items)) }
-    // And the answers are the list that the definition computes.
+    // The answers are the list that the definition computes.
     ensures computed { IfOk result (λ c. c.answers.items ≡ are_installable (binaries rows.now)) }
 
     // The steps.
@@ -57,20 +57,20 @@ pub fn installable_counted(alloc: Global, rows: &[Row<'_>]) -> Result<Counted, N
     })
 }
 
-/// Which rows are installable: an answer for each, in their order. The rows are those of one architecture, its own and
-/// the `all` rows. What a row needs is what its Pre-Depends and Depends say (Debian Policy 7.2), and packages and their
-/// provisions meet it (7.1 and 7.5). The one error is want of memory.
+/// Which rows are installable: an answer for each row, in their order. The rows are those of one architecture, its own
+/// and the `all` rows. A row needs what its Pre-Depends and Depends say (Debian Policy 7.2), and packages and their
+/// provisions meet this (7.1 and 7.5). The only error is running out of memory.
 pub fn installable(alloc: Global, rows: &[Row<'_>]) -> Result<Vec<bool>, NoMemory>
     ensures length { IfOk result (λ answers. vec_len answers ≡ length rows.now) }
 
-    // A row is installable exactly where some closed set holds it.
+    // A row is installable exactly if some closed set contains it.
     ensures exact { IfOk result (λ answers. (k : ℕ) → k < length rows.now
         → (marked answers.items k ≡ true) ↔ IsInstallable (binaries rows.now) k) }
-    // So the installable rows are themselves a closed set, and the greatest.
+    // So the installable rows are themselves a closed set, the greatest one.
     ensures closed { IfOk result (λ answers. IsClosed (binaries rows.now) (marked answers.items)) }
     ensures greatest { IfOk result (λ answers. (set : ℕ → Bool) → IsClosed (binaries rows.now) set
         → IsInside (binaries rows.now) set (marked answers.items)) }
-    // And the answers are the list that the definition computes.
+    // The answers are the list that the definition computes.
     ensures computed { IfOk result (λ answers. answers.items ≡ are_installable (binaries rows.now)) }
 {
     let counted = installable_counted(alloc, rows)?;

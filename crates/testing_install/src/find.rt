@@ -11,7 +11,7 @@ use crate::index::NameIndex;
 use crate::satisfies::satisfies;
 use deb_control::{Alternative, Binary, Clause};
 
-// The first of the places whose row is marked and satisfies the alternative.
+// The first of the places with a marked row that satisfies the alternative.
 fn find_among(
     rows: &[Row],
     marks: &[bool],
@@ -31,7 +31,7 @@ fn find_among(
     None
 }
 
-// The places from one on, where they stand in order.
+// The places from this one on; they are in order.
 fn places_from(places: &[usize], start: usize) -> &[usize]
     ensures { (n : ℕ) × (result.now ≡ drop n places.now) }
 {
@@ -39,7 +39,7 @@ fn places_from(places: &[usize], start: usize) -> &[usize]
     rest
 }
 
-// Where to begin at the next alternative: from the lost row on at the first that it satisfies, and then from 0 on.
+// Where to begin at the next alternative: from the lost row at the first one that it satisfies, then from 0.
 fn next_start(
     start: Option<usize>,
     lost: usize,
@@ -57,7 +57,7 @@ fn next_start(
     }
 }
 
-// A marked row that meets the clause, behind the lost row on which the clause rested: those before it were tried.
+// A marked row that meets the clause, after the lost row on which the clause rested: earlier rows have been tried.
 fn find_behind(
     rows: &[Row],
     marks: &[bool],
@@ -100,8 +100,8 @@ fn find_first(rows: &[Row], marks: &[bool], bearers: &NameIndex, clause: &Clause
     None
 }
 
-/// A marked row that meets the clause, if there is one. Where the clause rested on a row that is lost, the search begins
-/// there, so that it doesn't go over the rows before it each time.
+/// A marked row that meets the clause, if there is one. If the clause rested on a lost row, the search begins there, so
+/// that it doesn't revisit earlier rows each time.
 pub fn find(
     rows: &[Row],
     marks: &[bool],

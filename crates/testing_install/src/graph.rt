@@ -1,4 +1,4 @@
-//! Rows that are shared, by what they bear and by what they need.
+//! Shared rows, by what they bear and by what they need.
 
 ghost use Rattle.std.specs.Prelude.{◌≡◌, ℕ, ◌≤◌, ◌<◌, true, false, List, [], ◌++◌, length, OnOk, IfOk};
 ghost use Rattle.std.specs.List.{All};
@@ -16,7 +16,7 @@ use deb_version::NoMemory;
 use std::alloc::Global;
 use std::rc::Rc;
 
-/// Rows, and by name who bears it and who needs it.
+/// Rows, and the bearers and needers of each name.
 #[derive(Drop)]
 pub struct Graph {
     pub rows: Vec<Rc<Binary>>,
@@ -36,7 +36,7 @@ pub fn empty_graph(alloc: Global) -> Graph
     }
 }
 
-// Notes what the rows from a place on bear and need, where that of those before it is noted.
+// Notes what the rows from a place on bear and need; those before it are already noted.
 fn note_rows(
     alloc: Global,
     rows: &[Rc<Binary>],
@@ -55,7 +55,7 @@ fn note_rows(
     Ok(())
 }
 
-/// The graph with more rows behind its own.
+/// The graph with more rows after its own.
 pub fn with_rows(alloc: Global, graph: Graph, rows: Vec<Rc<Binary>>) -> Result<Graph, NoMemory>
     ensures rows { IfOk result (λ g. shared g.rows.items ≡ shared graph.rows.items ++ shared rows.items) }
     ensures graph { IfOk result (λ g. IsGraph (shared graph.rows.items) graph.bearers graph.needers → IsGraph (shared g.rows.items) g.bearers g.needers) }

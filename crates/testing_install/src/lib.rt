@@ -1,10 +1,10 @@
-//! Which rows of one architecture are installable: those that some closed set of rows holds.
+//! Which rows of one architecture are installable: those that some closed set of rows contains.
 //!
-//! `installable` answers for each row, and `installable_counted` counts its steps too. Each clause rests on one row of
-//! the set that meets it, and is looked at again only where that row is taken out.
+//! `installable` answers for each row, and `installable_counted` also counts its steps. Each clause rests on one row of
+//! the set that meets it, and is checked again only if that row is removed.
 //!
-//! A `Suite` holds rows of which some are there, and tries changes of these: what a trial costs depends on what the
-//! change touches, and not on the size of the suite. It takes more rows behind its own at the cost of the new ones.
+//! A `Suite` has rows, some of them present, and tries changes of these. The cost of a trial depends on what the change
+//! touches, not on the size of the suite. Adding rows costs only the work for the new rows.
 #![tactic(auto)]
 
 mod change;

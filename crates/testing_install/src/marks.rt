@@ -10,7 +10,7 @@ use smallvec::SmallVec;
 use std::alloc::Global;
 use std::marker::Model;
 
-/// A set of rows by their places: as it is, and as it was when it was last kept.
+/// A set of rows by their places: as it is, and as it was when last kept.
 #[derive(Drop)]
 pub struct Marks {
     current: Vec<bool>,
@@ -40,8 +40,8 @@ impl Marks {
         }
     }
 
-    /// The marks of more rows, so many in all, of which the new ones have none. Nothing is left to be kept or undone
-    /// where nothing was.
+    /// The marks of more rows, this many in all; the new ones have no mark. If nothing was left to keep or undo,
+    /// nothing is.
     pub fn longer(self, rows: usize) -> Result<Marks, NoMemory>
         requires { length self.current ≤ rows }
         ensures { IfOk result (λ m. m ≡ longer rows self) }
@@ -81,7 +81,7 @@ impl Marks {
         has_mark(&self.kept, place)
     }
 
-    /// Marks the row at the place, or takes its mark.
+    /// Sets or removes the mark of the row at the place.
     pub fn set(&mut self, place: usize, mark: bool) -> Result<(), NoMemory>
         requires { place < length self.old.current }
         ensures ok { OnOk result (self.new ≡ record { current = slice_set self.old.current place mark; kept = self.old.kept }) }
@@ -92,7 +92,7 @@ impl Marks {
         Ok(())
     }
 
-    /// The places that have lost their mark since the marks were last kept.
+    /// The places that lost their mark since the marks were last kept.
     pub fn falling(&self, alloc: Global) -> Result<SmallVec<usize, 4>, NoMemory>
         ensures { IfOk result (λ list. IsDifference self.now.kept self.now.current list.items) }
     {
@@ -100,7 +100,7 @@ impl Marks {
         Ok(list)
     }
 
-    /// The places that have got a mark since the marks were last kept.
+    /// The places that got a mark since the marks were last kept.
     pub fn rising(&self, alloc: Global) -> Result<SmallVec<usize, 4>, NoMemory>
         ensures { IfOk result (λ list. IsDifference self.now.current self.now.kept list.items) }
     {
@@ -108,7 +108,7 @@ impl Marks {
         Ok(list)
     }
 
-    /// Goes back to the marks that were last kept.
+    /// Goes back to the last kept marks.
     pub fn undo(&mut self)
         ensures { self.new ≡ undone self.old }
     {
@@ -137,14 +137,14 @@ fn has_mark(marks: &[bool], place: usize) -> bool
     }
 }
 
-// Whether the place has a mark in the first list, and none in the second.
+// Whether the place has a mark in the first list and none in the second.
 fn is_in_difference(first: &[bool], second: &[bool], place: usize) -> bool
     ensures { result ≡ (marked first.now place && not (marked second.now place)) }
 {
     has_mark(first, place) && !has_mark(second, place)
 }
 
-// Those of the places that have a mark in the first list, and none in the second.
+// The places that have a mark in the first list and none in the second.
 fn difference(
     alloc: Global,
     first: &[bool],
@@ -162,7 +162,7 @@ fn difference(
     Ok(list)
 }
 
-/// Marks the rows at the places, or takes their marks.
+/// Sets or removes the marks of the rows at the places.
 pub fn set_all(marks: &mut Marks, places: &[usize], mark: bool) -> Result<(), NoMemory>
     requires { All (λ k. k < length marks.old.current) places.now }
     ensures kept { marks.new.kept ≡ marks.old.kept }

@@ -6,7 +6,7 @@ use deb_control::{Binary, Clause};
 use deb_version::NoMemory;
 use std::alloc::Global;
 
-/// Adds a place at each name that the clause has. The one error is want of memory.
+/// Adds a place at each name in the clause. The only error is running out of memory.
 pub fn note_clause(
     alloc: Global,
     needers: &mut NameIndex,
@@ -21,7 +21,7 @@ pub fn note_clause(
     Ok(())
 }
 
-/// Adds the place of a row at each name that its clauses have.
+/// Adds the place of a row at each name in its clauses.
 pub fn note_needs(
     alloc: Global,
     needers: &mut NameIndex,

@@ -1,4 +1,4 @@
-//! The greatest closed set of the rows that are there, from marks of which it is a part.
+//! The greatest closed set of the present rows, computed from marks that contain it.
 
 ghost use Rattle.std.specs.Prelude.{◌≡◌, ℕ, ◌+◌, ◌<◌, Bool, true, false, List, [], ◌∷◌, ◌++◌, length, Option, None, Some, OnOk, slice_set};
 ghost use Rattle.std.specs.List.{All, count_by};
@@ -15,16 +15,16 @@ use deb_control::{Binary, Clause};
 use deb_version::NoMemory;
 use smallvec::SmallVec;
 
-/// Rows that are no longer marked. Mostly they are few, and stand in the value itself.
+/// Rows that lost their mark. They are usually few, and are kept in the value itself.
 #[derive(Drop)]
 pub struct Falls {
-    /// Those that wait for their turn.
+    /// The rows that wait for their turn.
     pub waiting: SmallVec<usize, 4>,
-    /// Those that a look took the mark from.
+    /// The rows that lost their mark in a look.
     pub fallen: SmallVec<usize, 4>,
 }
 
-// The clause is to be looked at where the row is lost, or where no lost row is given.
+// The clause needs a look if the lost row met it, or if no lost row is given.
 fn is_suspect(lost: Option<&Binary>, clause: &Clause) -> bool
     ensures { result ≡ suspects (option_copied lost.entry) clause.now }
 {
@@ -76,7 +76,7 @@ fn fall(marks: &mut Marks, falls: &mut Falls, place: usize) -> Result<(), NoMemo
     Ok(())
 }
 
-// Looks at the suspect clauses of the row at the place: it loses its mark where one isn't met.
+// Looks at the suspect clauses of the row at the place: it loses its mark if one isn't met.
 fn look(
     graph: &Graph,
     marks: &mut Marks,
@@ -156,7 +156,7 @@ fn look_at_needers(
     Ok(())
 }
 
-/// Gives each waiting row its turn, until none waits: the rows that may have needed it are looked at.
+/// Gives each waiting row its turn, until none waits, and looks at the rows that may have needed it.
 pub fn propagate(graph: &Graph, marks: &mut Marks, falls: &mut Falls) -> Result<(), NoMemory>
     requires graph { IsGraph (shared graph.now.rows.items) graph.now.bearers graph.now.needers }
     requires sized { IsSized (shared graph.now.rows.items) marks.old.current falls.old.waiting.items }

@@ -14,7 +14,7 @@ pub struct Lost {
     pub claims: Vec<usize>,
 }
 
-/// How far the work has come.
+/// The progress of the work.
 #[derive(Drop)]
 pub struct State {
     marks: Vec<bool>,
@@ -39,7 +39,7 @@ impl Model for State {
     } };
 }
 
-// As many empty lists.
+// This many empty lists.
 fn empty_lists(alloc: Global, n: usize) -> Result<Vec<Vec<usize>>, NoMemory>
     ensures { IfOk result (λ lists. map (λ v. v.items) lists.items ≡ replicate n []) }
 {
@@ -50,7 +50,7 @@ fn empty_lists(alloc: Global, n: usize) -> Result<Vec<Vec<usize>>, NoMemory>
     Ok(lists)
 }
 
-// Puts a number at the end of one of the lists.
+// Adds a number at the end of one of the lists.
 fn push_at(lists: &mut Vec<Vec<usize>>, place: usize, number: usize) -> Result<(), NoMemory>
     requires { place < length lists.old.items }
     ensures { OnOk result (map (λ v. v.items) lists.new.items
@@ -115,7 +115,7 @@ impl State {
         Ok(())
     }
 
-    /// The turn of a row that waits.
+    /// The turn of a waiting row.
     pub fn next_turn(&mut self, alloc: Global) -> Option<Lost>
         requires waiting { All (λ k. k < length self.old.resting) self.old.waiting }
         requires turns { self.old.turns + length self.old.waiting < 2 ^ 64 }

@@ -16,12 +16,12 @@ use std::alloc::Global;
 use std::marker::Model;
 use std::rc::Rc;
 
-/// The rows of one architecture that may be in a suite, which of them are there, and which of these are installable
-/// among those that are there (Debian Policy 7.1, 7.2 and 7.5).
+/// The rows of one architecture that may be in a suite, those that are present, and which of these are installable
+/// among them (Debian Policy 7.1, 7.2 and 7.5).
 ///
-/// The rows are named by their places, which stay when more rows are added behind them; a change says which leave and
-/// which come. It costs what it touches: the rows that leave or come, those with a clause that names one of these, and so
-/// on from each row whose answer changes; not the size of the suite.
+/// The rows are named by their places, which don't change when more rows are added; a change says which leave and which
+/// come. Its cost is what it touches: the leaving and coming rows, those with a clause that names one of these, and so
+/// on from each row whose answer changes. The size of the suite doesn't matter.
 pub struct Suite {
     graph: Graph,
     there: Marks,
@@ -65,8 +65,8 @@ impl Suite {
         }
     }
 
-    /// The suite with more rows behind its own, none of which is there yet. It takes the time that the new rows need,
-    /// whatever it has. The one error is want of memory.
+    /// The suite with more rows after its own, all absent at first. The time depends only on the new rows. The only
+    /// error is running out of memory.
     pub fn with_rows(self, alloc: Global, rows: Vec<Rc<Binary>>) -> Result<Suite, NoMemory>
         ensures rows { IfOk result (λ s. s.rows ≡ self.rows ++ shared rows.items) }
         ensures there { IfOk result (λ s. s.there ≡ self.there ++ replicate (length rows.items) false) }
@@ -89,7 +89,7 @@ impl Suite {
         })
     }
 
-    /// How many rows may be there.
+    /// The number of rows that may be present.
     pub fn len(&self) -> usize
         ensures { result ≡ length self.now.rows }
     {
@@ -104,8 +104,7 @@ impl Suite {
         self.graph.rows[place].as_ref()
     }
 
-    /// The places of the rows that bear the name, whether they are there or not. Places of other rows may stand among
-    /// them.
+    /// The places of the rows that bear the name, present or absent. They may include places of other rows.
     pub fn bearers(&self, name: &str) -> &[usize]
         ensures within { All (λ k. k < length self.now.rows) result.now }
         ensures complete { (k : ℕ) (row : TheBinary) → slice_get self.now.rows k ≡ Some row → bears row name.now ≡ true → Contains result.now k }
@@ -113,8 +112,8 @@ impl Suite {
         self.graph.bearers.places(name)
     }
 
-    /// The places of the rows that have a clause with the name, whether they are there or not. Places of other rows may
-    /// stand among them.
+    /// The places of the rows with a clause that has the name, present or absent. They may include places of other
+    /// rows.
     pub fn needers(&self, name: &str) -> &[usize]
         ensures within { All (λ k. k < length self.now.rows) result.now }
         ensures complete { (k : ℕ) (row : TheBinary) → slice_get self.now.rows k ≡ Some row → needs_name row name.now ≡ true → Contains result.now k }
@@ -122,7 +121,7 @@ impl Suite {
         self.graph.needers.places(name)
     }
 
-    /// Which rows are there, by their places.
+    /// Which rows are present, by their places.
     pub fn there(&self) -> &[bool]
         ensures is { result.now ≡ self.now.there }
         ensures long { length result.now ≡ length self.now.rows }
@@ -130,23 +129,23 @@ impl Suite {
         self.there.current()
     }
 
-    /// Whether the row at the place is there.
+    /// Whether the row at the place is present.
     pub fn is_there(&self, place: usize) -> bool
         ensures { result ≡ marked self.now.there place }
     {
         self.there.is_marked(place)
     }
 
-    /// Whether the row at the place is installable: some closed set of rows that are there holds it.
+    /// Whether the row at the place is installable: some closed set of present rows contains it.
     pub fn is_installable(&self, place: usize) -> bool
         ensures { (result ≡ true) ↔ IsInstallableAmong self.now.rows (marked self.now.there) place }
     {
         self.installable.is_marked(place)
     }
 
-    /// The rows that would be lost if some rows left and then some came, by their places: those that would be there
-    /// and not be installable, though they are now, or aren't there now. The suite stays as it is. The one error is
-    /// want of memory.
+    /// The rows that would be lost, by their places, if some rows left and then some came: those that would be present
+    /// and not installable, but are now installable or absent. The suite stays unchanged. The only error is running out
+    /// of memory.
     pub fn trial(
         &mut self,
         alloc: Global,
@@ -173,9 +172,9 @@ impl Suite {
         lost
     }
 
-    /// Some rows leave, and then some come. On an error, which is want of memory, the suite stays as it is.
+    /// Some rows leave, and then some come. On an error (out of memory), the suite stays unchanged.
     ///
-    /// If this is the change that was tried last of those that lose nothing, it costs only the marks that it changes.
+    /// If the last tried change that loses nothing is the same as this one, only the marks that change cost time.
     pub fn change(
         &mut self,
         alloc: Global,

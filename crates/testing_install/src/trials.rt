@@ -1,4 +1,4 @@
-//! What a trial came to, so that a change of the same rows needn't find it again.
+//! The result of a trial, so that a change of the same rows needn't compute it again.
 
 ghost use Rattle.std.specs.Prelude.{◌≡◌, ℕ, ◌<◌, Bool, true, List, [], length, OnOk, IfOk, Contains, ◌↔◌};
 ghost use Rattle.std.specs.List.{All};
@@ -17,8 +17,8 @@ use deb_version::NoMemory;
 use smallvec::SmallVec;
 use std::alloc::Global;
 
-/// A change that was tried: which rows leave and come, which lose their mark by it, and which get one. Mostly they are
-/// few, and stand in the value itself.
+/// A tried change: which rows leave and come, and which lose or get a mark. They are usually few, and are kept in the
+/// value itself.
 #[derive(Drop)]
 pub struct LastTrial {
     pub leaving: SmallVec<usize, 4>,
@@ -42,7 +42,7 @@ pub fn nothing_tried(alloc: Global) -> LastTrial
     }
 }
 
-// What the marks have come to by the change that is being tried, where they are still to be undone.
+// The new marks of the change being tried, before they are undone.
 fn noted(
     alloc: Global,
     marks: &Marks,
@@ -66,7 +66,7 @@ fn noted(
     })
 }
 
-// Remembers the change that is being tried, if there is memory for it.
+// Remembers the change being tried, if there is memory for it.
 fn remember(
     alloc: Global,
     marks: &Marks,
@@ -91,8 +91,8 @@ fn is_idle(leaving: &[usize], coming: &[usize]) -> bool
     leaving.is_empty() && coming.is_empty()
 }
 
-/// The rows that a change loses, where the marks before it are kept. If it loses none, it is remembered. The change of
-/// no rows takes no work.
+/// The rows that a change loses, if the marks before it are kept. If it loses none, it is remembered. The change of no
+/// rows costs no work.
 pub fn try_change(
     alloc: Global,
     graph: &Graph,
@@ -125,7 +125,7 @@ pub fn try_change(
     Ok(lost)
 }
 
-// Takes the marks of some rows, and then marks some.
+// Removes the marks of some rows, then marks others.
 fn set_both(marks: &mut Marks, leaving: &[usize], coming: &[usize]) -> Result<(), NoMemory>
     requires leaving { All (λ k. k < length marks.old.current) leaving.now }
     requires coming { All (λ k. k < length marks.old.current) coming.now }
@@ -137,7 +137,7 @@ fn set_both(marks: &mut Marks, leaving: &[usize], coming: &[usize]) -> Result<()
     Ok(())
 }
 
-// Whether these rows left and came in the change that was tried.
+// Whether the tried change had these leaving and coming rows.
 fn is_of(tried: &LastTrial, leaving: &[usize], coming: &[usize]) -> bool
     ensures leaving { result ≡ true → tried.now.leaving.items ≡ leaving.now }
     ensures coming { result ≡ true → tried.now.coming.items ≡ coming.now }
@@ -145,7 +145,7 @@ fn is_of(tried: &LastTrial, leaving: &[usize], coming: &[usize]) -> bool
     tried.leaving.as_slice() == leaving && tried.coming.as_slice() == coming
 }
 
-/// Some rows leave, and then some come. If this is the change that was tried, what it came to is put in place.
+/// Some rows leave, and then some come. If this is the tried change, its result is used.
 pub fn make_change(
     alloc: Global,
     graph: &Graph,

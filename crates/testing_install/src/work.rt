@@ -12,7 +12,7 @@ use crate::state::State;
 use deb_version::NoMemory;
 use std::alloc::Global;
 
-/// What the work looks at and doesn't change.
+/// What the work reads and doesn't change.
 #[derive(Drop)]
 pub struct Ground<'a, 'r> {
     pub rows: &'r [Row<'a>],
@@ -20,7 +20,7 @@ pub struct Ground<'a, 'r> {
     pub bearers: NameIndex,
 }
 
-// Looks at a claim, which may have rested on a lost row: it rests on a marked row from now on, or its row loses its mark.
+// Looks at a claim that may have rested on a lost row: it now rests on a marked row, or its row loses its mark.
 fn look(
     ground: &Ground<'_, '_>,
     state: &mut State,
@@ -49,7 +49,7 @@ fn look(
     }
 }
 
-// Looks at each of the claims, which may have rested on a lost row.
+// Looks at each of the claims that may have rested on a lost row.
 fn check_clauses(
     ground: &Ground<'_, '_>,
     state: &mut State,

@@ -1,5 +1,5 @@
 -- Steps: no contract of a call that users make rests on this file.
--- Which steps of an order have rows that meet a clause.
+-- The steps of an order with rows that meet a clause.
 use Rattle.std.specs.Prelude.{◌≡◌, ℕ, ◌<◌, ◌≤◌, true, List, Some}
 use Rattle.std.specs.List.{slice_get}
 use Rattle.deb_control.specs.declared.binary.Binary.{Binary}
@@ -17,13 +17,13 @@ pub record IsBearer (rows : List Binary) (order : List Step) (end : ℕ) (clause
   pub stands : slice_get rows step.place ≡ Some row
   pub does : meets row clause ≡ true
 
--- the number is that of a first step whose row meets the clause, or the end, and none of a kind is less
+-- the least number of this kind of a first step with a row that meets the clause, or the end without one
 pub record IsLeast (rows : List Binary) (order : List Step) (end : ℕ) (clause : Clause) (least : ℕ) (kind : ℕ → Type 0) : Type 0 where
   pub most : least ≤ end
   pub found : least < end → IsBearer rows order end clause least
   pub below : (m : ℕ) → kind m → IsBearer rows order least clause m → ⊥
 
--- the row of the one step meets the clause of the other, which stands behind it
+-- the row of one step meets the clause of a later step
 pub record IsNext (rows : List Binary) (order : List Step) (last n : ℕ) : Type 0 where
   pub step : Step
   pub clause : Clause

@@ -1,4 +1,4 @@
--- What an order shows of one row.
+-- What an order shows about one row.
 use Rattle.std.specs.Prelude.{◌≡◌, ℕ, Bool, true, List, [], ◌∷◌, ◌++◌}
 use Rattle.deb_control.specs.declared.binary.Binary.{Binary}
 use Rattle.testing_install_why.specs.declared.Step.{Step}
@@ -18,6 +18,6 @@ pub record IsShownBy (rows : List Binary) (there : ℕ → Bool) (place : ℕ) (
   pub same : last.place ≡ place
   pub groundless : IsGroundless rows there steps
 
--- each row is there
+-- each row is present
 abbrev pub everywhere : ℕ → Bool
 everywhere place = true

@@ -22,26 +22,26 @@ pub record IsNamed (steps : List Step) (n place : ℕ) : Type 0 where
   pub stands : slice_get steps number ≡ Some step
   pub same : step.place ≡ place
 
--- the step's row is there, and each row that is there and meets its clause stands in one of the first n steps
+-- the step's row is present, and each present row that meets its clause is in one of the first n steps
 pub record Falls (rows : List Binary) (there : ℕ → Bool) (steps : List Step) (n : ℕ) (step : Step) : Type 0 where
   pub is : IsStep rows step
   pub here : there step.place ≡ true
   pub unmet : (k : ℕ) (other : Binary) → slice_get rows k ≡ Some other → there k ≡ true → meets other is.clause ≡ true → IsNamed steps n k
 
--- each row of the list is there, and has a clause such that each row that is there and meets it stands earlier in it
+-- each row of the list is present, with a clause such that all present rows meeting it are earlier in the list
 pub record IsGroundless (rows : List Binary) (there : ℕ → Bool) (steps : List Step) : Type 0 where
   pub each : (n : ℕ) (step : Step) → slice_get steps n ≡ Some step → Falls rows there steps n step
 
--- such a list with every row that is there and not installable
+-- such a list with every present row that isn't installable
 pub record IsWhole (rows : List Binary) (there : ℕ → Bool) (steps : List Step) : Type 0 where
   pub groundless : IsGroundless rows there steps
   pub every : (k : ℕ) → k < length rows → there k ≡ true → IsNamed steps (length steps) k ⊎ IsInstallableAmong rows there k
 
--- the list has the row at the place, unless that isn't there or is installable
+-- the list has the row at the place, unless that row is absent or installable
 pub record Refutes (rows : List Binary) (there : ℕ → Bool) (steps : List Step) (place : ℕ) : Type 0 where
   pub named : there place ≡ true → (IsInstallableAmong rows there place → ⊥) → IsNamed steps (length steps) place
 
--- each row that is there and meets a clause of a row at the places stands at one of them, or is installable
+-- each present row that meets a clause of a row at the places is at one of them, or is installable
 pub record IsReaching (rows : List Binary) (there : ℕ → Bool) (places : List ℕ) : Type 0 where
   pub each : (k : ℕ) (row : Binary) (i : ℕ) (clause : Clause) (b : ℕ) (other : Binary) → Contains places k → slice_get rows k ≡ Some row
       → slice_get row.clauses i ≡ Some clause → slice_get rows b ≡ Some other → there b ≡ true → meets other clause ≡ true

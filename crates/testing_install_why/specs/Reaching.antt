@@ -1,5 +1,5 @@
 -- Steps: no contract of a call that users make rests on this file.
--- How far the search for the rows that bear on one row has come. A mark says that a row may still be reached.
+-- Progress of the search for the rows that bear on one row. A marked row may still be reached.
 use Rattle.std.specs.Prelude.{◌≡◌, ℕ, ◌+◌, ◌<◌, Bool, true, false, ◌⊎◌, List, length, Some, Contains}
 use Rattle.std.specs.List.{slice_get, All, count_by}
 use Rattle.deb_control.specs.declared.binary.Binary.{Binary}
@@ -8,7 +8,7 @@ use Rattle.testing_install.specs.Among.{IsInstallableAmong}
 use Rattle.testing_install.specs.Closed.{marked}
 use Rattle.testing_install.specs.Satisfies.{meets}
 
--- there is a mark for each of the first n rows, and those that are there and have none are installable
+-- there is a mark for each of the first n rows, and present rows without one are installable
 pub record IsUnreached (rows : List Binary) (there : ℕ → Bool) (unreached : List Bool) (n : ℕ) : Type 0 where
   pub long : length unreached ≡ n
   pub rest : (k : ℕ) → k < n → there k ≡ true → (marked unreached k ≡ true) ⊎ IsInstallableAmong rows there k

@@ -1,5 +1,5 @@
 -- Steps: no contract of a call that users make rests on this file.
--- What holds while rows are taken out of those that may be installable.
+-- What is true while rows are removed from those that may be installable.
 use Rattle.std.specs.Prelude.{◌≡◌, ℕ, ◌<◌, Bool, true, false, ◌⊎◌, List, length, Some, Contains}
 use Rattle.std.specs.List.{slice_get, All}
 use Rattle.deb_control.specs.declared.binary.Binary.{Binary}
@@ -24,15 +24,15 @@ pub record FailsBy (rows : List Binary) (set : ℕ → Bool) (step : Step) : Typ
 pub record IsHeldAt (rows : List Binary) (set : ℕ → Bool) (place : ℕ) : Type 0 where
   pub each : (row : Binary) → slice_get rows place ≡ Some row → set place ≡ true → All (IsMet rows set) row.clauses
 
--- what holds while rows are taken out: those that are there are left or have their steps
+-- what is true while rows are removed: the present rows are left or have their steps
 pub record IsOrder (rows : List Binary) (there : ℕ → Bool) (left : List Bool) (steps : List Step) : Type 0 where
   pub long : length left ≡ length rows
   pub inside : (k : ℕ) → marked left k ≡ true → there k ≡ true
   pub gone : (k : ℕ) → k < length rows → there k ≡ true → marked left k ≡ false → IsNamed steps (length steps) k
   pub groundless : IsGroundless rows there steps
 
--- what holds between two looks: what is left meets the clauses of the held rows that are left, and each row at the
--- given places that is left is held or waits
+-- what is true between two looks: the remaining rows meet the clauses of the held ones, and each remaining row at the
+-- given places is held or waiting
 pub record IsLooked (rows : List Binary) (places : List ℕ) (left held : List Bool) (waiting : List ℕ) : Type 0 where
   pub long : length held ≡ length rows
   pub within : All (λ k. k < length rows) waiting

@@ -1,5 +1,5 @@
 -- Steps: no contract of a call that users make rests on this file.
--- Which rows are held no more once a row is taken out.
+-- The rows that stop being held when a row is removed.
 use Rattle.std.specs.Prelude.{◌≡◌, ℕ, Bool, true, false, List, Some}
 use Rattle.std.specs.List.{slice_get}
 use Rattle.deb_control.specs.declared.binary.Binary.{Binary}

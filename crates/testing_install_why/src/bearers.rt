@@ -43,7 +43,7 @@ pub fn noted_steps(alloc: Global, suite: &Suite, order: &[Step]) -> Result<NameI
     Ok(noted)
 }
 
-/// The step with the first number stands before the one with the second, and its row meets the clause.
+/// The step with the first number precedes the one with the second, and its row meets the clause.
 pub fn is_bearer(
     suite: &Suite,
     order: &[Step],

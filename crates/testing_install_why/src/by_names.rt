@@ -1,6 +1,6 @@
-//! Whether steps show that a row isn't installable among rows that are all there. It is read off the rows and the
-//! steps, wherever the steps come from. They are noted by the names that their clauses have, so that a row is held only
-//! against those that have a name which it bears.
+//! Whether steps show that a row isn't installable among rows that are all present. The check reads only rows and
+//! steps, whatever their origin. Steps are noted by the names in their clauses, so a row is compared only with steps
+//! whose clause has a name that it bears.
 
 ghost use Rattle.std.specs.Prelude.{◌≡◌, true, length, IfOk, IfSome};
 ghost use Rattle.std.specs.List.{All};
@@ -36,7 +36,7 @@ fn noted_clauses(
     Ok(Some(noted))
 }
 
-// For each row, the number of the first step that has it. It promises nothing, and is checked where it is used.
+// For each row, the number of the first step that has it. It has no contract; its result is checked where it is used.
 fn first_steps(alloc: Global, rows: usize, steps: &[Step]) -> Result<Vec<usize>, NoMemory> {
     let mut firsts = vec![in alloc; steps.len(); rows]?;
     for number in 0..steps.len() {
@@ -88,7 +88,7 @@ fn is_past_by(
     }
 }
 
-// So it is with each of the steps with these numbers, for one row.
+// This is true of each of the steps with these numbers, for one row.
 fn are_past_among(
     rows: &[Row<'_>],
     steps: &[Step],
@@ -107,7 +107,7 @@ fn are_past_among(
     true
 }
 
-// So it is with each of the steps at the names that the row provides.
+// This is true of each of the steps at the names that the row provides.
 fn are_past_provided(
     rows: &[Row<'_>],
     steps: &[Step],
@@ -127,7 +127,7 @@ fn are_past_provided(
     true
 }
 
-// So it is with each step, for one row. A clause that the row meets has a name which the row bears.
+// This is true of each step, for one row: a clause that the row meets has a name that it bears.
 fn are_past_by(
     rows: &[Row<'_>],
     steps: &[Step],
@@ -146,7 +146,7 @@ fn are_past_by(
     are_past_provided(rows, steps, noted, firsts, binary, place)
 }
 
-// So it is with each step and the row at the place.
+// This is true of each step and the row at the place.
 fn is_row_placed_by(
     rows: &[Row<'_>],
     steps: &[Step],
@@ -163,7 +163,7 @@ fn is_row_placed_by(
     }
 }
 
-// And so with each row.
+// This is true of each row.
 fn is_placed_by(rows: &[Row<'_>], steps: &[Step], noted: &NameIndex, firsts: &[usize]) -> bool
     requires { IsClauseIndex (binaries rows.now) steps.now noted.now }
     ensures { result ≡ true → IsPlaced (binaries rows.now) steps.now (length rows.now) }
@@ -176,9 +176,9 @@ fn is_placed_by(rows: &[Row<'_>], steps: &[Step], noted: &NameIndex, firsts: &[u
     true
 }
 
-/// Whether the steps show that the row at the place isn't installable among these rows, which are all there: that row
-/// stands last, and each row that meets a step's clause stands in a step before it. It costs a pass over the rows and
-/// the steps, and a look at each step that has a name which a row bears. The one error is want of memory.
+/// Whether the steps show that the row at the place isn't installable among these present rows: that row is last, and
+/// each row that meets a step's clause is in an earlier step. It costs a pass over the rows and the steps, and a look
+/// at each step that has a name of a row. The only error is running out of memory.
 pub fn is_shown(
     alloc: Global,
     rows: &[Row<'_>],

@@ -14,7 +14,7 @@ use deb_version::NoMemory;
 use std::alloc::Global;
 use testing_install::{NameIndex, Suite};
 
-// The least of these numbers below the end whose step's row meets the clause. If there is none, it is the end.
+// The least of these numbers below the end with a step whose row meets the clause, or the end if there is none.
 fn least_among(
     suite: &Suite,
     order: &[Step],
@@ -35,7 +35,7 @@ fn least_among(
     least
 }
 
-// The first step below the end whose row meets the clause, by its number. If there is none, it is the end.
+// The number of the first step below the end whose row meets the clause, or the end if there is none.
 fn first_bearer(
     suite: &Suite,
     order: &[Step],
@@ -56,7 +56,7 @@ fn first_bearer(
     least
 }
 
-// The first step before this one whose row meets its clause, by its number.
+// The number of the first step before this one whose row meets its clause.
 fn next_of(suite: &Suite, order: &[Step], noted: &NameIndex, last: usize) -> Option<usize>
     requires last { last < length order.now }
     requires steps { AreSteps suite.now.rows order.now }
@@ -69,9 +69,9 @@ fn next_of(suite: &Suite, order: &[Step], noted: &NameIndex, last: usize) -> Opt
     if first < last { Some(first) } else { None }
 }
 
-/// The rest of the chain that begins at a step of an order: each next row is there and meets the clause before it, and
-/// nothing that is there meets the last clause. Each is the first such row of the order, so the chain is short. The one
-/// error is want of memory.
+/// The rest of the chain that begins at a step of an order: each next row is present and meets the clause before it,
+/// and no present row meets the last clause. Each is the first such row of the order, so the chain is short. The only
+/// error is running out of memory.
 pub fn chain_from(
     alloc: Global,
     suite: &Suite,

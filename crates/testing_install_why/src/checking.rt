@@ -1,5 +1,5 @@
-//! What is read off rows and steps, wherever the steps come from: whether each step has its row and its clause, and
-//! where they end.
+//! Checks on rows and steps, whatever their origin: whether each step has its row and its clause, and where the steps
+//! end.
 
 ghost use Rattle.std.specs.Prelude.{◌≡◌, true, IfSome};
 ghost use Rattle.testing_install.specs.Rows.{binaries};
@@ -11,7 +11,7 @@ use crate::Step;
 use deb_control::Clause;
 use testing_install::Row;
 
-// The clause of a step, where there is one.
+// The clause of a step, if there is one.
 pub(crate) fn clause_at<'a>(rows: &[Row<'a>], step: Step) -> Option<&'a Clause>
     ensures clause { IfSome result (λ clause. IsClauseOf (binaries rows.now) step clause.now) }
     ensures step { IfSome result (λ clause. IsStep (binaries rows.now) step) }

@@ -1,4 +1,4 @@
-//! What holds of orders, whatever the rows.
+//! What is true of orders, for any rows.
 
 ghost use Rattle.std.specs.Prelude.{◌≡◌, ℕ, ◌<◌, Bool, true, List, length, Some};
 ghost use Rattle.std.specs.List.{slice_get};
@@ -15,7 +15,7 @@ pub fn groundless_isnt_installable()
         → (n : ℕ) (step : Step) → slice_get steps n ≡ Some step → IsInstallableAmong rows there step.place → ⊥ }
 {}
 
-/// There is always such a list with every row that is there and not installable.
+/// Such a list always exists, with every present row that isn't installable.
 pub fn each_has_an_order()
     ensures whole { (rows : List Binary) (there : List Bool) → length there ≡ length rows
         → (steps : List Step) × IsWhole rows (marked there) steps }
@@ -23,14 +23,14 @@ pub fn each_has_an_order()
         → (IsInstallableAmong rows (marked there) k → ⊥) → (steps : List Step) × IsGroundless rows (marked there) steps × IsNamed steps (length steps) k }
 {}
 
-/// Each step of such a list begins a chain to a clause that nothing meets.
+/// Each step of such a list begins a chain to a clause that no row meets.
 pub fn each_has_a_chain()
     ensures { (rows : List Binary) (there : List Bool) (order : List Step) → length there ≡ length rows → IsGroundless rows (marked there) order
         → (n : ℕ) (step : Step) → slice_get order n ≡ Some step → (rest : List Step) × IsChain rows (marked there) order step rest }
 {}
 
-/// Each row that was installable before a change, and stands in such a list after it, begins a chain of broken rows to a
-/// row that leaves.
+/// Each row in such a list after a change that was installable before it begins a chain of broken rows to a leaving
+/// row.
 pub fn each_break_has_a_leaver()
     ensures { (rows : List Binary) (before after : ℕ → Bool) (order : List Step) → IsGroundless rows after order
         → (n : ℕ) (step : Step) → slice_get order n ≡ Some step → IsInstallableAmong rows before step.place

@@ -1,8 +1,8 @@
 //! Why a row of a suite isn't installable.
 //!
-//! A groundless list names rows that are there, each beside one of its clauses, and every row that is there and meets
-//! the clause stands earlier in the list. So no row of it is installable: nothing meets the first clause, and only rows
-//! that are refuted already meet a later one. One checks it line by line, and needs to know nothing else.
+//! A groundless list names present rows, each with one of its clauses, and all present rows that meet the clause are
+//! earlier in the list. So no row of it is installable: nothing meets the first clause, and only refuted rows meet a
+//! later one. It can be checked line by line, with no other knowledge.
 #![tactic(auto)]
 
 mod bearers;

@@ -13,7 +13,7 @@ use deb_version::NoMemory;
 use std::alloc::Global;
 use testing_install::{NameIndex, Suite};
 
-// Marks those of the steps with these numbers that stand before this one and whose rows meet the clause.
+// Marks the steps with these numbers that precede this one and whose rows meet the clause.
 fn mark_among(
     suite: &Suite,
     order: &[Step],
@@ -34,7 +34,7 @@ fn mark_among(
     }
 }
 
-// Marks the steps before this one whose rows meet its clause. They stand at the names of its alternatives.
+// Marks the steps before this one with rows that meet its clause, found at the names of its alternatives.
 fn mark_bearers(
     suite: &Suite,
     order: &[Step],
@@ -55,7 +55,7 @@ fn mark_bearers(
     }
 }
 
-// Which steps this one needs, itself among them.
+// Which steps this one needs, including itself.
 fn needed_by(
     alloc: Global,
     suite: &Suite,
@@ -79,7 +79,7 @@ fn needed_by(
     Ok(needed)
 }
 
-// The needed steps, in the order's order, up to the last.
+// The needed steps up to the last, in the order's order.
 fn picked(
     alloc: Global,
     order: &[Step],
@@ -103,8 +103,8 @@ fn picked(
     Ok(steps)
 }
 
-/// The part of an order that shows that the row of one step isn't installable: that step stands last, and each row that
-/// is there and meets a step's clause stands before that step. The one error is want of memory.
+/// The part of an order that shows that the row of one step isn't installable: that step is last, and each present row
+/// that meets a step's clause is in an earlier step. The only error is running out of memory.
 pub fn certificate_of(
     alloc: Global,
     suite: &Suite,

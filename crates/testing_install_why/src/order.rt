@@ -16,7 +16,7 @@ use deb_version::NoMemory;
 use std::alloc::Global;
 use testing_install::{Suite, meets};
 
-/// The places of the rows that bear a name of the clause, among them each row that meets it.
+/// The places of the rows that bear a name in the clause, including each row that meets it.
 pub fn named_by(alloc: Global, suite: &Suite, clause: &Clause) -> Result<Vec<usize>, NoMemory>
     ensures within { IfOk result (λ places. All (λ k. k < length suite.now.rows) places.items) }
     ensures complete { IfOk result (λ places. (k : ℕ) (row : TheBinary) → slice_get suite.now.rows k ≡ Some row
@@ -29,7 +29,7 @@ pub fn named_by(alloc: Global, suite: &Suite, clause: &Clause) -> Result<Vec<usi
     Ok(places)
 }
 
-// One of the rows at the places is left and meets the clause.
+// One of the remaining rows at the places meets the clause.
 fn is_met_at(suite: &Suite, left: &[bool], places: &[usize], clause: &Clause) -> bool
     requires left { length left.now ≡ length suite.now.rows }
     requires places { All (λ k. k < length suite.now.rows) places.now }
@@ -45,7 +45,7 @@ fn is_met_at(suite: &Suite, left: &[bool], places: &[usize], clause: &Clause) ->
     false
 }
 
-// Some row that is left meets the clause.
+// Some remaining row meets the clause.
 fn is_met(alloc: Global, suite: &Suite, left: &[bool], clause: &Clause) -> Result<bool, NoMemory>
     requires { length left.now ≡ length suite.now.rows }
     ensures yes { IfOk result (λ met. met ≡ true → IsMet suite.now.rows (marked left.now) clause.now) }
@@ -56,7 +56,7 @@ fn is_met(alloc: Global, suite: &Suite, left: &[bool], clause: &Clause) -> Resul
     Ok(met)
 }
 
-// The first clause of the package that no row that is left meets, by its number.
+// The number of the package's first clause that no remaining row meets.
 fn unmet(
     alloc: Global,
     suite: &Suite,
@@ -75,7 +75,7 @@ fn unmet(
     Ok(None)
 }
 
-// Looks at the rows that wait, from the last on, until one has such a clause. The others that are left are held.
+// Looks at the waiting rows, from the last one, until one has such a clause. The other remaining rows are held.
 fn next_out(
     alloc: Global,
     suite: &Suite,
@@ -103,7 +103,7 @@ fn next_out(
     Ok(None)
 }
 
-// Takes the next such row out, and says whether there was one. The held rows that may have needed it wait again.
+// Removes the next such row, and says whether there was one. The held rows that may have needed it wait again.
 fn take_next(
     alloc: Global,
     suite: &Suite,
@@ -132,7 +132,7 @@ fn take_next(
     Ok(true)
 }
 
-// Takes rows out until no row at the places has such a clause.
+// Removes rows until no row at the places has such a clause.
 fn take_out(
     alloc: Global,
     suite: &Suite,
@@ -152,10 +152,10 @@ fn take_out(
     Ok(())
 }
 
-/// A groundless list of rows at the places. A row is taken out, one after the other, if it has a clause that no row
-/// meets which is left. If each row that bears on them stands at one of the places or is installable, the list has each
-/// row at them that is there and isn't installable. A row is looked at once, and again behind each row that is taken out
-/// and bears a name of its clauses. The one error is want of memory.
+/// A groundless list of rows at the places. Rows with a clause that no remaining row meets are removed, one after
+/// another. If each row that bears on them is at one of the places or installable, the list has each present row at
+/// them that isn't installable. A row is checked once, and again after each removed row that bears a name in its
+/// clauses. The only error is running out of memory.
 pub fn order_over(alloc: Global, suite: &Suite, places: &[usize]) -> Result<Vec<Step>, NoMemory>
     requires { All (λ k. k < length suite.now.rows) places.now }
     ensures groundless { IfOk result (λ steps. IsGroundless suite.now.rows (marked suite.now.there) steps.items) }

@@ -1,4 +1,4 @@
-//! The rows that bear on one row: those that clauses reach from it, by way of rows that aren't installable.
+//! The rows that bear on one row: those that its clauses reach, through rows that aren't installable.
 
 ghost use Rattle.std.specs.Prelude.{◌≡◌, ℕ, ◌<◌, ◌⊎◌, true, length, IfOk, OnOk, Contains};
 ghost use Rattle.std.specs.List.{All};
@@ -13,7 +13,7 @@ use deb_version::NoMemory;
 use std::alloc::Global;
 use testing_install::{Suite, meets};
 
-// For each row, whether it may be reached: it is there and isn't installable.
+// For each row, whether it may be reached: it is present and isn't installable.
 fn unreached_rows(alloc: Global, suite: &Suite) -> Result<Vec<bool>, NoMemory>
     ensures { IfOk result (λ unreached. IsUnreached suite.now.rows (marked suite.now.there) unreached.items (length suite.now.rows)) }
 {
@@ -24,7 +24,7 @@ fn unreached_rows(alloc: Global, suite: &Suite) -> Result<Vec<bool>, NoMemory>
     Ok(unreached)
 }
 
-// Reaches those of the rows at the places that meet the clause and may still be reached.
+// Reaches the rows at the places that meet the clause and may still be reached.
 fn reach_among(
     suite: &Suite,
     clause: &Clause,
@@ -81,8 +81,8 @@ fn reach_from(
     Ok(())
 }
 
-/// The place, and those of all rows that clauses reach from its row. These are there, aren't installable, and meet a
-/// clause of a row that was reached. The one error is want of memory.
+/// The place, and those of all rows that clauses reach from its row. These are present, aren't installable, and meet a
+/// clause of a reached row. The only error is running out of memory.
 pub fn reached_from(alloc: Global, suite: &Suite, place: usize) -> Result<Vec<usize>, NoMemory>
     requires { place < length suite.now.rows }
     ensures within { IfOk result (λ reached. All (λ k. k < length suite.now.rows) reached.items) }

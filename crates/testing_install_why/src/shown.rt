@@ -30,7 +30,7 @@ fn number_of(steps: &[Step], place: usize) -> Option<usize>
     None
 }
 
-// What shows that the row at the place isn't installable, among the rows at these places.
+// A proof that the row at the place isn't installable, from the rows at these places.
 fn certificate_over(
     alloc: Global,
     suite: &Suite,
@@ -50,15 +50,15 @@ fn certificate_over(
     Ok(Some(steps))
 }
 
-/// The steps that show why the row at the place isn't installable, that row last. There are none where the row is
-/// installable, or isn't there. The cost is a pass over the suite's marks, and what the rows that clauses reach from this
-/// one touch. The one error is want of memory.
+/// The steps that show why the row at the place isn't installable, with that row last. There are none if the row is
+/// installable or absent. The cost is a pass over the suite's marks, and over what the rows reached from this one
+/// touch. The only error is running out of memory.
 pub fn certificate(
     alloc: Global,
     suite: &Suite,
     place: usize,
 ) -> Result<Option<Vec<Step>>, NoMemory>
-    // Each row that is there and meets a step's clause stands in a step before it.
+    // Each present row that meets a step's clause is in an earlier step.
     ensures some { IfOk result (λ found. IfSome found (λ steps. IsShownBy suite.now.rows (marked suite.now.there) place steps.items)) }
     ensures none { IfOk result (λ found. IfNone found (place < length suite.now.rows → marked suite.now.there place ≡ true
         → IsInstallableAmong suite.now.rows (marked suite.now.there) place)) }

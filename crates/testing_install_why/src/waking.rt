@@ -1,4 +1,4 @@
-//! Rows that wait again, since a row that they may have needed was taken out.
+//! Rows that wait again because a row that they may have needed was removed.
 
 ghost use Rattle.std.specs.Prelude.{◌≡◌, ◌<◌, false, length, OnOk};
 ghost use Rattle.std.specs.List.{All};
@@ -40,7 +40,7 @@ fn wake_named(
     Ok(())
 }
 
-/// The held rows that have a clause with a name which the package bears wait again.
+/// The held rows with a clause that has a name of the package wait again.
 pub fn wake_needers(
     suite: &Suite,
     binary: &Binary,

@@ -1,4 +1,4 @@
-//! The calls that take a date. Their callers give a civil date of jiff; the rules below keep jiff_core's, which it holds.
+//! The calls that take a date. Callers give a civil date of jiff; the rules below use jiff_core's, which it contains.
 
 ghost use Rattle.std.specs.Prelude.{◌≡◌, IfOk, string_bytes};
 ghost use Rattle.testing_rules_model.specs.Covered.{Covered};
@@ -14,7 +14,7 @@ use testing_rules_items::Archs;
 use testing_rules_model::{Excuses, Update};
 use testing_rules_suites::Testing;
 
-/// The excuses of a run, whose date is given, over the messages that the facts stand for.
+/// The excuses of a run on the given date, over the messages that the facts stand for.
 pub fn excuses(
     alloc: Global,
     archs: &Archs,

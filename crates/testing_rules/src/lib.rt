@@ -1,5 +1,5 @@
-//! The promotion rules: which sources may move from unstable to testing, and how they move; and what they promise over
-//! whole runs, and of facts that are kept as rows.
+//! The promotion rules: which sources may move from unstable to testing, how they move, and what the rules guarantee
+//! over whole runs and about facts kept as rows.
 #![tactic(auto)]
 
 mod dated;

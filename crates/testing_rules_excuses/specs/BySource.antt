@@ -1,5 +1,5 @@
 -- Steps: no contract of a call that users make rests on this file.
--- What a run has of each source that is news, found by the source's name.
+-- The input of a run about each source that is news, found by the source's name.
 use Rattle.std.specs.Prelude.{ℕ, Bool, cond, List, [], ◌∷◌, ◌++◌, Option, Vec, map, filter, unwrap_or, option_map, option_copied}
 use Rattle.std.specs.List.{list_any}
 use Rattle.std.specs.Str.{bytes_eq}
@@ -22,7 +22,7 @@ use Rattle.testing_rules_model.specs.JudgedRows.{lent}
 use Rattle.testing_rules_model.specs.Unstable.{built_rows, is_in_force}
 use Rattle.testing_rules_model.specs.Excuses.{Ground, excuse_on, testing_version, is_news, delays_in_force}
 
--- items of each source, by its name
+-- items per source, by its name
 abbrev pub Groups : Type 0 → Type 0
 Groups A = HashMap (Bor Text) (Vec A Global) (BuildHasherDefault FoldHasher)
 
@@ -30,15 +30,15 @@ Groups A = HashMap (Bor Text) (Vec A Global) (BuildHasherDefault FoldHasher)
 abbrev pub slot_at : {A : Type 0} → Groups A → Text → Option (List A)
 slot_at groups name = option_map (λ v. v.items) (get_by (λ k. bytes_eq name k.now) groups)
 
--- what the map has of a source
+-- the map's items of a source
 abbrev pub group_at : {A : Type 0} → Groups A → Text → List A
 group_at groups name = unwrap_or (slot_at groups name) []
 
--- a source's group once an item that may be its own has come
+-- a source's group after an item that may be its own
 abbrev pub joined_by : {A : Type 0} → Bool → A → Option (List A) → Option (List A)
 joined_by is_own item slot = cond is_own (option_map (λ items. items ++ item ∷ []) slot) slot
 
--- what is known of a source
+-- what is known about a source
 abbrev pub ground_at : Grouped → Text → Ground
 ground_at g name = record {
   rows = lent (group_at g.rows name);
@@ -49,7 +49,7 @@ ground_at g name = record {
   date = g.date;
 }
 
--- of a ground, what is about the source
+-- the part of a ground that is about the source
 abbrev pub part_of : Ground → Text → Ground
 part_of g name = record {
   rows = filter (λ r. bytes_eq name r.binary.source) g.rows;
@@ -60,7 +60,7 @@ part_of g name = record {
   date = g.date;
 }
 
--- the ground that facts give
+-- the ground given by facts
 abbrev pub ground_from : List Text → FactLists → Date → Ground
 ground_from archs f date = record {
   rows = built_rows archs f.rows;
@@ -71,7 +71,7 @@ ground_from archs f date = record {
   date = date;
 }
 
--- a source that is news, and testing's version of it
+-- a source that is news, with testing's version of it
 abbrev pub told_of : News → UploadIn × Option Text
 told_of n = (n.upload.now, option_copied n.testing)
 
@@ -83,7 +83,7 @@ news_of t sources = map (λ u. (u, testing_version t u.source)) (filter (λ u. i
 abbrev pub is_among : List News → Text → Bool
 is_among news name = list_any (λ n. bytes_eq name n.upload.now.source) news
 
--- the excuse of a source that is news, where each has a ground of its own
+-- the excuse of a source that is news; each source has a ground of its own
 abbrev pub excuse_by : List ℕ → (Text → Ground) → UploadIn × Option Text → Excuse
 excuse_by places known news = excuse_on places (known news.0.source) news.1 news.0
 

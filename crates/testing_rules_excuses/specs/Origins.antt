@@ -1,5 +1,5 @@
--- Which messages gave a reason that keeps a source out (Debian Developer's Reference 5.13.2; that each fact is known with its message is this
--- office's own).
+-- The messages that gave a reason to keep a source out (Debian Developer's Reference 5.13.2; this office decides to
+-- know each fact with its message).
 use Rattle.std.specs.Prelude.{ℕ, ◌==◌, ◌&&◌, ◌||◌, Bool, false, List, [], filter, map, Option, None, is_some}
 use Rattle.std.specs.List.{last_or}
 use Rattle.std.specs.Option.{option_map_or}
@@ -24,7 +24,7 @@ pub data OriginIn : Type 0 where
   FromBlock : HintIn → OriginIn
   FromRemoval : HintIn → OriginIn
 
--- as the code has it
+-- in the code's type
 abbrev pub origin_of : Origin → OriginIn
 origin_of (Bug b) = FromBug b.now
 origin_of (Row r) = FromRow (row_of r)
@@ -39,7 +39,8 @@ from_bugs number bugs = map (λ b. FromBug b) (filter (λ b. b.bug == number) bu
 abbrev pub is_row_of : UploadIn → ℕ → RowIn → Bool
 is_row_of u arch r = (r.arch == arch) && is_of_source u r
 
--- the rows of the source on an architecture on which none is current: it is out of date there (Debian Developer's Reference 5.13.2.1)
+-- the source's rows on an architecture where none is current: it is out of date there (Debian Developer's Reference
+-- 5.13.2.1)
 abbrev pub from_rows : UploadIn → ℕ → List RowIn → List OriginIn
 from_rows u arch rows = map (λ r. FromRow r) (filter (is_row_of u arch) rows)
 
@@ -64,10 +65,10 @@ origins_of said u (MissingOn arch) = from_rows u arch said.rows
 origins_of said u Blocked = from_blocks u said.hints
 origins_of said u RemovalAsked = from_removals u said.testing said.hints
 
--- the hint asks days for the source at its unstable version
+-- the hint asks for days for the source at its unstable version
 abbrev pub asks_days : UploadIn → HintIn → Bool
 asks_days u h = is_some (asked_days u.source u.version h.hint)
 
--- the last hint that asks days for the source at its unstable version (this office decides which)
+-- the last hint that asks for days for the source at its unstable version (this office decides which)
 abbrev pub age_hint : List HintIn → UploadIn → Option HintIn
 age_hint hints u = last_or None (filter (asks_days u) hints)

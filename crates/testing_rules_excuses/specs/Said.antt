@@ -1,4 +1,5 @@
--- What a run knows of one source beside its unstable upload, in the words of the excuses (Debian Developer's Reference 5.13.2).
+-- What a run knows about one source besides its unstable upload, in the words of the excuses (Debian Developer's
+-- Reference 5.13.2).
 use Rattle.std.specs.Prelude.{List, filter, Option, option_copied}
 use Rattle.testing_rules_items.specs.Words.{Text}
 use Rattle.testing_rules_model.specs.declared.facts.BugIn.{BugIn}
@@ -20,12 +21,12 @@ pub record SaidLists : Type 0 where
   pub hints : List HintIn
   pub testing : Option Text
 
--- as the code has them
+-- in the code's type
 abbrev pub said_lists : SourceFacts → SaidLists
 said_lists s = record { rows = lent s.rows.items; bugs = unboxed s.bugs.now; hints = s.hints.items; testing = option_copied s.testing }
 
--- what facts and testing say of a source: unstable's rows that name it, the states of all bugs, the hints that no unhint names, and its
--- version in testing
+-- what facts and testing say about a source: unstable's rows that name it, the states of all bugs, the hints named by
+-- no unhint, and its version in testing
 abbrev pub said_of : List Text → FactLists → Suite → UploadIn → SaidLists
 said_of archs f t u = record {
   rows = filter (is_of_source u) (built_rows archs f.rows);

@@ -1,5 +1,5 @@
 -- Steps: no contract of a call that users make rests on this file.
--- A few sources among all, by the hashes of their names.
+-- A few of all sources, by the hashes of their names.
 use Rattle.std.specs.Prelude.{ℕ, List, map}
 use Rattle.testing_install.specs.Index.{hash_of}
 use Rattle.testing_rules_excuses.specs.declared.by_source.News.{News}

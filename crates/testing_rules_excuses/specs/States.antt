@@ -1,4 +1,4 @@
--- How it stands with a row of unstable that would help a source that waits (this office decides which states there are).
+-- The state of a row of unstable that would help a waiting source (this office decides which states exist).
 use Rattle.std.specs.Prelude.{Bool, false, if◌then◌else◌, List, find, Option}
 use Rattle.std.specs.Option.{option_map_or}
 use Rattle.std.specs.Str.{bytes_eq}
@@ -15,7 +15,7 @@ use Rattle.testing_rules_excuses.specs.declared.states.State.TheVariants.{Waits,
 abbrev pub excuse_of : List Excuse → Text → Option Excuse
 excuse_of excuses name = find (λ e. bytes_eq e.source name) excuses
 
--- a source that has an excuse waits where it is a candidate, and else there are reasons (Debian Developer's Reference 5.13.2)
+-- a source with an excuse waits if it is a candidate, else it has reasons (Debian Developer's Reference 5.13.2)
 abbrev pub excused : Excuse → State
 excused e = if is_empty e.reasons then Waits else NotCandidate e.reasons
 
@@ -27,6 +27,6 @@ current_state excuses moving name = if bytes_eq name moving then ComesToo else o
 abbrev pub is_current_in : List UploadIn → RowIn → Bool
 is_current_in sources r = option_map_or (λ u. is_current u r) (source_in sources r.binary.source) false
 
--- how it stands with a row of unstable, where one source is asked for
+-- the state of a row of unstable, with one source in question
 abbrev pub state_of : List UploadIn → List Excuse → Text → RowIn → State
 state_of sources excuses moving r = if is_current_in sources r then current_state excuses moving r.binary.source else NotCurrent

@@ -1,5 +1,5 @@
 -- Steps: no contract of a call that users make rests on this file.
--- What the lines of a source are told from, as the code has it.
+-- The input for the lines of a source, as the code has it.
 use Rattle.std.specs.Prelude.{◌≡◌, true, Option}
 use Rattle.testing_rules_items.specs.Words.{Text}
 use Rattle.testing_rules_model.specs.declared.excuse.Excuse.{Excuse}
@@ -10,7 +10,7 @@ use Rattle.testing_rules_excuses.specs.declared.telling.LineInput.{LineInput}
 use Rattle.testing_rules_excuses.specs.Lines.{reason_text, excuse_lines, origin_text}
 use Rattle.testing_rules_excuses.specs.Said.{said_lists}
 
--- if the bugs are said to be in order, they stand by their numbers
+-- if the bugs are declared to be in order, they are ordered by number
 abbrev pub IsOrderKnown : LineInput → Type 0
 IsOrderKnown a = a.ordered ≡ true → AreByNumber (unboxed a.said.now.bugs.now)
 

@@ -1,4 +1,4 @@
-//! A bug of a number, searched by halves where the bugs stand in the order of their numbers.
+//! A bug with a number, found by binary search if the bugs are ordered by number.
 
 ghost use Rattle.std.specs.Prelude.{◌≡◌, ◌==◌, true, filter, ltb, option_copied, option_to_list};
 ghost use Rattle.testing_rules_model.specs.Boxed.{unboxed};
@@ -7,8 +7,8 @@ ghost use Rattle.testing_rules_model.specs.FactOrder.{AreByNumber};
 use testing_rules_facts::place_of_bug;
 use testing_rules_model::BugIn;
 
-/// Whether the bugs stand in ascending order of their numbers, each number once, so that `bug_at` may search them by
-/// halves. If it says so, they do; that it says so of all lists that do isn't promised.
+/// Whether the bugs are in ascending order of their numbers, each number once, so that `bug_at` may use binary search.
+/// If the answer is yes, they are; a no proves nothing.
 pub fn are_by_number(bugs: &[Box<BugIn>]) -> bool
     ensures { result ≡ true → AreByNumber (unboxed bugs.now) }
 {
@@ -19,7 +19,7 @@ pub fn are_by_number(bugs: &[Box<BugIn>]) -> bool
     )
 }
 
-/// The one bug of the number.
+/// The one bug with the number.
 pub fn bug_at(bugs: &[Box<BugIn>], number: u32) -> Option<&BugIn>
     requires { AreByNumber (unboxed bugs.now) }
     ensures { option_to_list (option_copied result) ≡ filter (λ b. b.bug == number) (unboxed bugs.now) }

@@ -1,4 +1,4 @@
-//! What a run has of each source that is news, found by the source's name.
+//! The input of a run about each source that is news, found by the source's name.
 
 ghost use Rattle.std.specs.Prelude.{◌≡◌, [], Some, None, if◌then◌else◌, filter, OnOk, IfOk, IsTrue};
 ghost use Rattle.std.specs.Str.{bytes_eq};
@@ -15,7 +15,7 @@ use std::collections::HashMap;
 use std::marker::Model;
 use testing_rules_model::{BugIn, Delays, HintIn, LentRow, UploadIn};
 
-/// What the excuse of a source is made from, beside testing.
+/// The input of a source's excuse apart from testing.
 #[derive(Drop)]
 pub struct SourceEvidence<'g, 'a> {
     pub rows: &'g [LentRow<'a>],
@@ -43,15 +43,15 @@ impl<'g, 'a> Model for SourceEvidence<'g, 'a> {
     } };
 }
 
-/// A source of unstable that is above testing's version or isn't in testing, and testing's version of it.
+/// An unstable source that isn't in testing or is above testing's version, with testing's version of it.
 #[derive(Clone, Copy)]
 pub struct News<'a> {
     pub upload: &'a UploadIn,
     pub testing: Option<&'a Version>,
 }
 
-/// What the excuses of a run are made from, beside testing: the rows, the bugs, the hints and the uploads of each source
-/// that is news.
+/// The input of a run's excuses apart from testing: the rows, the bugs, the hints and the uploads of each source that
+/// is news.
 #[derive(Drop)]
 pub struct Grouped<'a> {
     pub rows: HashMap<&'a str, Vec<LentRow<'a>>>,
@@ -62,7 +62,7 @@ pub struct Grouped<'a> {
     pub date: Date,
 }
 
-/// A source has a group: the one that it had, or else an empty one.
+/// Makes sure that a source has a group: its own, or a new empty one.
 fn open<'a, T: Drop>(groups: &mut HashMap<&'a str, Vec<T>>, name: &'a str) -> Result<(), NoMemory>
     ensures { OnOk result ((q : Text) → slot_at groups.new q ≡ (if bytes_eq q name.now then Some (group_at groups.old q) else slot_at groups.old q)) }
 {
@@ -84,7 +84,7 @@ fn groups_for<'a, T: Drop>(
     Ok(groups)
 }
 
-/// A row joins those of its source, where that has a group.
+/// Adds a row to its source's group, if there is one.
 fn join_row<'a>(
     groups: &mut HashMap<&'a str, Vec<LentRow<'a>>>,
     row: LentRow<'a>,
@@ -97,7 +97,7 @@ fn join_row<'a>(
     Ok(())
 }
 
-/// A bug joins those of its source, where that has a group.
+/// Adds a bug to its source's group, if there is one.
 fn join_bug(
     alloc: Global,
     groups: &mut HashMap<&str, Vec<BugIn>>,
@@ -111,7 +111,7 @@ fn join_bug(
     Ok(())
 }
 
-/// An upload joins those of its source, where that has a group.
+/// Adds an upload to its source's group, if there is one.
 fn join_upload<'a>(
     groups: &mut HashMap<&'a str, Vec<&'a UploadIn>>,
     upload: &'a UploadIn,
@@ -172,7 +172,7 @@ pub fn uploads_by_source<'a>(
     Ok(groups)
 }
 
-/// What the map has of a source.
+/// The map's items of a source.
 fn group<'g, T: Drop>(groups: &'g HashMap<&str, Vec<T>>, name: &str) -> &'g [T]
     ensures { result.now ≡ group_at groups.now name.now }
 {
@@ -182,7 +182,7 @@ fn group<'g, T: Drop>(groups: &'g HashMap<&str, Vec<T>>, name: &str) -> &'g [T]
     }
 }
 
-/// What is known of a source.
+/// What is known about a source.
 pub fn found_of<'g, 'a>(grouped: &'g Grouped<'a>, name: &str) -> SourceEvidence<'g, 'a>
     ensures { result ≡ ground_at grouped.now name.now }
 {

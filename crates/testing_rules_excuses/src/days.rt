@@ -106,7 +106,7 @@ pub fn asked_days(name: &str, version: &Version, hint: &Hint) -> Option<u32>
     }
 }
 
-/// The days that the last such hint asks for.
+/// The days asked by the last hint that asks any.
 fn hinted_days(hints: &[HintIn], upload: &UploadIn) -> Option<u32>
     ensures { result ≡ rules.hinted_days hints.now upload.now }
 {

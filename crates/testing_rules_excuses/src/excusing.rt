@@ -26,7 +26,7 @@ use testing_rules_items::{Archs, copy_version};
 use testing_rules_model::{Excuse, Excuses, HintIn, UnhintIn, UploadIn};
 use testing_rules_suites::Testing;
 
-/// Those of the hints that the unhints leave in force.
+/// The hints that the unhints leave in force.
 fn hints_left(alloc: Global, hints: &[HintIn], unhints: &Unhints) -> Result<Vec<HintIn>, NoMemory>
     ensures { IfOk result (λ in_force. in_force.items ≡ filter (unstable.is_in_force unhints.now) hints.now) }
 {
@@ -39,7 +39,7 @@ fn hints_left(alloc: Global, hints: &[HintIn], unhints: &Unhints) -> Result<Vec<
     Ok(in_force)
 }
 
-/// Those of the hints that are in force.
+/// The hints that are in force.
 pub fn in_force(
     alloc: Global,
     hints: &[HintIn],
@@ -135,7 +135,7 @@ fn excuses_on(
     Ok(excuses)
 }
 
-/// What the facts give to each source that is news.
+/// The facts' input for each source that is news.
 fn group_facts<'a>(
     alloc: Global,
     archs: &Archs,
@@ -158,7 +158,7 @@ fn group_facts<'a>(
     })
 }
 
-/// The excuses of a run, whose date is given, over the messages that the facts stand for.
+/// The excuses of a run on the given date, over the messages that the facts stand for.
 pub fn excuses(
     alloc: Global,
     archs: &Archs,

@@ -1,5 +1,5 @@
-//! Why a source may move to testing, or may not yet; where the reasons come from that keep it out, and how it stands with
-//! a row of unstable.
+//! Why a source may move to testing or may not yet, the origins of the reasons that keep it out, and the state of a row
+//! of unstable.
 #![tactic(auto)]
 
 mod bug_search;

@@ -1,4 +1,4 @@
-//! Which messages gave a reason that keeps a source out.
+//! The messages that gave a reason to keep a source out.
 
 ghost use Rattle.std.specs.Prelude.{◌≡◌, ◌==◌, ◌&&◌, ◌++◌, true, IfOk, OnOk, map, option_copied};
 ghost use Rattle.testing_rules_model.specs.Boxed.{unboxed};
@@ -33,7 +33,7 @@ pub enum Origin<'g, 'a> {
     Removal(&'g HintIn),
 }
 
-/// The one bug of the number joins. It is searched, since a source may have a reason for each of thousands of bugs.
+/// Adds the one bug with the number. It is searched, since a source may have a reason for each of thousands of bugs.
 fn push_bug<'a>(
     origins: &mut Vec<Origin<'_, 'a>>,
     bugs: &'a [Box<BugIn>],
@@ -64,7 +64,7 @@ fn push_bugs<'a>(
     Ok(())
 }
 
-/// The bugs of the number join. If they are said to be in order, they are.
+/// Adds the bugs with the number. If the input says that they are ordered, they are.
 fn push_by_number<'a>(
     origins: &mut Vec<Origin<'_, 'a>>,
     bugs: &'a [Box<BugIn>],
@@ -166,8 +166,8 @@ fn push_origins<'g, 'a>(
     }
 }
 
-/// The messages that gave the reason, in the order of the facts. If the bugs are known to stand by their numbers, the
-/// one of a number is searched by halves. The one error is want of memory.
+/// The messages that gave the reason, in the order of the facts. If the bugs are known to be ordered by number, one is
+/// found by binary search. The only error is running out of memory.
 pub fn origins_by<'g, 'a>(
     alloc: Global,
     said: &'g SourceFacts<'a>,
@@ -183,8 +183,8 @@ pub fn origins_by<'g, 'a>(
     Ok(origins)
 }
 
-/// The messages that gave the reason, in the order of the facts. None gave `TooYoung` and `NoBinaries`. The one error is
-/// want of memory.
+/// The messages that gave the reason, in the order of the facts. No message gives `TooYoung` and `NoBinaries`. The only
+/// error is running out of memory.
 pub fn origins<'g, 'a>(
     alloc: Global,
     said: &'g SourceFacts<'a>,
@@ -196,14 +196,14 @@ pub fn origins<'g, 'a>(
     origins_by(alloc, said, false, upload, reason)
 }
 
-/// The hint asks days for the source at its unstable version.
+/// The hint asks for days for the source at its unstable version.
 fn asks_days(upload: &UploadIn, hint: &HintIn) -> bool
     ensures { result ≡ rules.asks_days upload.now hint.now }
 {
     asked_days(upload.source.as_str(), &upload.version, &hint.hint).is_some()
 }
 
-/// The last hint that asks days for the source at its unstable version.
+/// The last hint that asks for days for the source at its unstable version.
 pub fn age_hint<'a>(hints: &'a [HintIn], upload: &UploadIn) -> Option<&'a HintIn>
     ensures { option_copied result ≡ rules.age_hint hints.now upload.now }
 {

@@ -1,4 +1,4 @@
-//! Sources by name, for names that are asked in order.
+//! Sources by name, for names looked up in order.
 
 ghost use Rattle.std.specs.Prelude.{◌≡◌, option_copied};
 ghost use Rattle.testing_rules_model.specs.Excuses as rules;
@@ -8,8 +8,8 @@ use deb_version::Version;
 use testing_rules_model::{SourceIn, source_place_near};
 use testing_rules_suites::Testing;
 
-/// The source of a name, which is looked for at the place first, and where the next name belongs: so names that are
-/// asked in order are found without a search.
+/// The source of a name, and the place to try for the next name. The given place is tried first: names in order need no
+/// search.
 pub fn source_near<'a>(
     sources: &'a [SourceIn],
     name: &str,
@@ -24,7 +24,7 @@ pub fn source_near<'a>(
     }
 }
 
-/// The source's version in testing, which is looked for at the place first, and where the next name belongs.
+/// The source's version in testing, and the place to try for the next name. The given place is tried first.
 pub fn testing_version_near<'a>(
     testing: &'a Testing,
     name: &str,

@@ -1,5 +1,5 @@
-//! What the hints ask of each source that is news, found by the source's name. So a source is judged by the hints that
-//! name it, and not by all of them.
+//! What the hints ask for each source that is news, found by the source's name. So a source is judged only by the hints
+//! that name it.
 
 ghost use Rattle.std.specs.Prelude.{◌≡◌, ◌∷◌, [], IfOk, IsTrue, OnOk, Some, if◌then◌else◌, unwrap_or};
 ghost use Rattle.std.specs.List.{list_any};
@@ -24,7 +24,7 @@ pub enum Wish {
     Leave,
 }
 
-/// One item alone.
+/// Only one item.
 fn one_item(alloc: Global, item: &HintItem) -> Result<HintItems, NoMemory>
     ensures { IfOk result (λ items. items ≡ item.now ∷ []) }
 {
@@ -33,7 +33,7 @@ fn one_item(alloc: Global, item: &HintItem) -> Result<HintItems, NoMemory>
     Ok(HintItems::of(items))
 }
 
-/// One name alone.
+/// Only one name.
 fn one_name(alloc: Global, name: &Text) -> Result<Names, NoMemory>
     ensures { IfOk result (λ names. names ≡ name.now ∷ []) }
 {
@@ -82,7 +82,7 @@ fn part_on_name(alloc: Global, hint: &HintIn, name: &Text) -> Result<HintIn, NoM
     })
 }
 
-/// What a hint asks for an item joins the group of the item's source, where there is one.
+/// Adds the part of a hint for an item to the group of the item's source, if there is one.
 fn join_item(
     alloc: Global,
     groups: &mut HashMap<&str, Vec<HintIn>>,
@@ -98,7 +98,7 @@ fn join_item(
     Ok(())
 }
 
-/// The block of a source joins the source's group, where there is one.
+/// Adds the block of a source to the source's group, if there is one.
 fn join_name(
     alloc: Global,
     groups: &mut HashMap<&str, Vec<HintIn>>,
@@ -113,7 +113,7 @@ fn join_name(
     Ok(())
 }
 
-/// What a hint asks for each of its items joins the group of the item's source.
+/// Adds the parts of a hint for each of its items to the groups of their sources.
 fn join_items(
     alloc: Global,
     groups: &mut HashMap<&str, Vec<HintIn>>,
@@ -129,7 +129,7 @@ fn join_items(
     Ok(())
 }
 
-/// The block of each of the sources joins the source's group.
+/// Adds the blocks of the sources to their groups.
 fn join_names(
     alloc: Global,
     groups: &mut HashMap<&str, Vec<HintIn>>,
@@ -144,7 +144,7 @@ fn join_names(
     Ok(())
 }
 
-/// What a hint asks of each source that it names joins the source's group.
+/// Adds what a hint asks for each source that it names to the source's group.
 fn join_hint(
     alloc: Global,
     groups: &mut HashMap<&str, Vec<HintIn>>,
@@ -181,7 +181,7 @@ fn are_all_out(hints: &[HintIn]) -> bool
     hints.iter().any(|hint| keeps_all_out(&hint.hint))
 }
 
-/// What a group begins with: one hint that keeps all sources out, if there is any.
+/// The beginning of a group: one hint that keeps all sources out, if there is any.
 fn start(alloc: Global, all_out: bool) -> Result<Vec<HintIn>, NoMemory>
     ensures { IfOk result (λ first. first.items ≡ started all_out) }
 {
@@ -196,7 +196,7 @@ fn start(alloc: Global, all_out: bool) -> Result<Vec<HintIn>, NoMemory>
     Ok(first)
 }
 
-/// A source has a group: the one that it had, or else one that has just begun.
+/// Makes sure that a source has a group: its own, or a new one.
 fn begin<'a>(
     alloc: Global,
     groups: &mut HashMap<&'a str, Vec<HintIn>>,
@@ -210,7 +210,7 @@ fn begin<'a>(
     Ok(())
 }
 
-/// A group that has just begun, for each source that is news.
+/// A new group for each source that is news.
 fn begun_for<'a>(
     alloc: Global,
     news: &[News<'a>],
@@ -225,8 +225,8 @@ fn begun_for<'a>(
     Ok(groups)
 }
 
-/// What the hints ask of each source that is news. It takes time by the sources and by what the hints name, and not by
-/// both together. If there are no hints, no source has a group. NoMemory where memory runs out.
+/// What the hints ask for each source that is news. The time is the number of sources plus that of names in hints, not
+/// their product. Without hints no source has a group. NoMemory if memory runs out.
 pub fn hints_by_source<'a>(
     alloc: Global,
     news: &[News<'a>],

@@ -6,7 +6,7 @@ ghost use Rattle.testing_rules_excuses.specs.Readiness as rules;
 use jiff_core::civil::Date;
 use testing_rules_model::{Excuse, UploadIn};
 
-/// The day so many days behind another, where it can be written.
+/// The day this many days after another, if it can be written.
 fn day_after(day: Date, days: u32) -> Option<Date>
     ensures { rules.IsDayAfter day days result }
 {

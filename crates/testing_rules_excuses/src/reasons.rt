@@ -210,7 +210,7 @@ fn push_bugs(
     Ok(())
 }
 
-/// The listed architectures from a place on on which the source is missing.
+/// Adds the listed architectures, from a place on, where the source is missing.
 fn push_missing(
     reasons: &mut Vec<Reason>,
     archs: &Archs,
@@ -233,7 +233,7 @@ fn push_missing(
     )
 }
 
-/// What a run knows of one source beside its unstable upload.
+/// What a run knows about one source besides its unstable upload.
 #[derive(Clone, Copy)]
 pub struct Known<'g, 'a> {
     pub rows: &'g [LentRow<'a>],

@@ -1,4 +1,4 @@
-//! What a run knows of one source.
+//! What a run knows about one source.
 
 ghost use Rattle.std.specs.Prelude.{◌≡◌, IfOk, filter, option_copied};
 ghost use Rattle.testing_rules_model.specs.Excuses as excuses;
@@ -16,8 +16,8 @@ use testing_rules_items::Archs;
 use testing_rules_model::{BugIn, HintIn, LentRow, UploadIn};
 use testing_rules_suites::Testing;
 
-/// What a run knows of one source beside its unstable upload: unstable's rows that name it, the states of the bugs, the
-/// hints in force, and its version in testing.
+/// What a run knows about one source besides its unstable upload: unstable's rows that name it, the states of the bugs,
+/// the hints in force, and its version in testing.
 #[derive(Drop)]
 pub struct SourceFacts<'a> {
     pub rows: Vec<LentRow<'a>>,
@@ -26,7 +26,7 @@ pub struct SourceFacts<'a> {
     pub testing: Option<&'a Version>,
 }
 
-/// Those of the rows that name the source.
+/// The given rows that name the source.
 fn own_rows<'a>(
     alloc: Global,
     rows: &[LentRow<'a>],
@@ -64,7 +64,7 @@ fn version_in<'a>(testing: &'a Testing, name: &str) -> Option<&'a Version>
     version
 }
 
-/// What the facts and testing say of a source, one of unstable's. The one error is want of memory.
+/// What the facts and testing say about an unstable source. The only error is running out of memory.
 pub fn said_of<'a>(
     alloc: Global,
     archs: &Archs,

@@ -1,4 +1,4 @@
-//! A few sources among all, by the hashes of their names.
+//! A few of all sources, by the hashes of their names.
 
 ghost use Rattle.std.specs.Prelude.{◌≡◌, IfOk};
 ghost use Rattle.testing_rules_model.specs.SourceFilter as rules;
@@ -23,7 +23,7 @@ fn hashes_of_news(alloc: Global, news: &[News]) -> Result<Vec<u64>, NoMemory>
     Ok(hashes)
 }
 
-/// The sources that are news, and some others it may be.
+/// The sources that are news, perhaps with others.
 pub fn sources_of_news(alloc: Global, news: &[News]) -> Result<SourceFilter, NoMemory>
     ensures { IfOk result (λ passing. (name : Word) → facts_rules.filter_passes passing name ≡ rules.hash_passes (excuses_rules.newer_hashes news.now) name) }
 {

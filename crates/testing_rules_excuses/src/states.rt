@@ -1,4 +1,4 @@
-//! How it stands with the rows of unstable.
+//! The states of the rows of unstable.
 
 ghost use Rattle.std.specs.Prelude.{◌≡◌, IfOk, option_copied};
 ghost use Rattle.std.specs.Str.{bytes_eq};
@@ -13,7 +13,7 @@ use std::alloc::{AllocError, Global};
 use testing_rules_facts::{is_current, source_in};
 use testing_rules_model::{Excuse, LentRow, Reason, Reasons, UploadIn};
 
-/// How it stands with a row of unstable, after a run that left a source waiting.
+/// The state of a row of unstable, after a run that left a source waiting.
 #[derive(Drop)]
 pub enum State {
     /// Its source is a candidate, and hasn't moved.
@@ -25,7 +25,7 @@ pub enum State {
     /// It wasn't built from its source's unstable version.
     NotCurrent,
 
-    /// It comes in with the source that is asked for.
+    /// It comes with the source in question.
     ComesToo,
 
     /// Testing has its source's unstable version, or one above it.
@@ -66,7 +66,7 @@ fn copy_reasons(alloc: Global, reasons: &[Reason]) -> Result<Reasons, AllocError
     Ok(Reasons::new(copy))
 }
 
-/// How it stands with a source that has an excuse.
+/// The state of a source with an excuse.
 fn excused(alloc: Global, excuse: &Excuse) -> Result<State, AllocError>
     ensures { IfOk result (λ state. state ≡ rules.excused excuse.now) }
 {
@@ -77,7 +77,7 @@ fn excused(alloc: Global, excuse: &Excuse) -> Result<State, AllocError>
     }
 }
 
-/// How it stands with a current row of the source.
+/// The state of a current row of the source.
 fn current_state(
     alloc: Global,
     excuses: &[Excuse],
@@ -106,8 +106,8 @@ fn is_current_in(sources: &[Box<UploadIn>], row: &LentRow) -> bool
     }
 }
 
-/// How it stands with a row of unstable, where these are unstable's sources and these the excuses of those that testing
-/// doesn't have yet, and one source is asked for. The one error is want of memory.
+/// The state of a row of unstable, given unstable's sources, the excuses of those that testing doesn't have yet, and
+/// the source in question. The only error is running out of memory.
 pub fn state_of(
     alloc: Global,
     sources: &[Box<UploadIn>],

@@ -1,4 +1,4 @@
-//! Where the reasons come from, told in lines.
+//! The origins of the reasons, in lines.
 
 ghost use Rattle.std.specs.Prelude.{◌≡◌, ◌++◌, IfOk, OnOk, map, option_copied, string_bytes};
 ghost use Rattle.std.specs.List.{flat_map};
@@ -23,8 +23,8 @@ use std::alloc::{AllocError, Global};
 use testing_rules_items::Archs;
 use testing_rules_model::{BugIn, Excuse, HintIn, LentRow, Reason, UploadIn};
 
-/// A source, what is said of it, the day on which it is old enough, and the names that its lines are told with. The bugs
-/// may be known to stand by their numbers.
+/// A source, what is said about it, the day on which it is old enough, and the names for its lines. The bugs may be
+/// known to be ordered by number.
 #[derive(Clone, Copy)]
 struct LineInput<'t, 'a> {
     senders: &'t [Text],
@@ -35,7 +35,7 @@ struct LineInput<'t, 'a> {
     ready: Option<Date>,
 }
 
-/// The name of the sender at a place, empty where there is none.
+/// The name of the sender at a place, or empty without one.
 fn sender_name(senders: &[Text], place: u32) -> &str
     ensures { result.now ≡ lines.sender_name senders.now place }
 {
@@ -57,7 +57,7 @@ fn push_upload(text: &mut String, senders: &[Text], upload: &UploadIn) -> Result
     writeln!(text, "upload {sender} {number} {day}")
 }
 
-/// The end of a line: the message that says so.
+/// The end of a line: the message that is its origin.
 fn push_message(
     text: &mut String,
     senders: &[Text],
@@ -82,7 +82,7 @@ fn push_day(text: &mut String, ready: Option<Date>) -> Result<(), AllocError>
     }
 }
 
-/// The end of a line: what sets the days that are needed.
+/// The end of a line: what sets the needed days.
 fn push_setter(text: &mut String, senders: &[Text], hint: Option<&HintIn>) -> Result<(), AllocError>
     ensures { OnOk result (string_bytes text.new ≡ string_bytes text.old ++ lines.setter_words senders.now (option_copied hint.entry)) }
 {
@@ -113,7 +113,7 @@ fn push_bug(text: &mut String, senders: &[Text], bug: &BugIn) -> Result<(), Allo
     push_message(text, senders, bug.sender, bug.number)
 }
 
-/// A binary's name and version, and the version of the source that it was built from.
+/// A binary's name and version, and the version of its source.
 fn push_binary(text: &mut String, row: &LentRow) -> Result<(), AllocError>
     ensures { OnOk result (string_bytes text.new ≡ string_bytes text.old ++ lines.binary_words (row_of row.now)) }
 {
@@ -197,7 +197,7 @@ fn push_messages(
     Ok(push_origins(text, asked.senders, asked.archs, &given)?)
 }
 
-/// The upload has to wait still.
+/// The upload still has to wait.
 fn is_too_young(reason: Reason) -> bool
     ensures { result ≡ lines.is_too_young reason }
 {
@@ -264,9 +264,9 @@ fn source_lines(alloc: Global, asked: &LineInput, excuse: Option<&Excuse>) -> Re
     Ok(Text::from_string(text))
 }
 
-/// Where the reasons of an unstable source come from, told in lines: the message of its upload, and then for each reason
-/// of its excuse the day on which it is old enough or the messages that gave the reason. The names of the senders stand
-/// by their places. The one error is want of memory.
+/// The origins of an unstable source's reasons, in lines: the message of its upload, then for each reason of its excuse
+/// the day on which it is old enough or the messages that gave the reason. The senders' names are in the order of their
+/// places. The only error is running out of memory.
 pub fn origin_lines(
     alloc: Global,
     senders: &[Text],

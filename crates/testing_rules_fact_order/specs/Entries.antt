@@ -1,5 +1,5 @@
 -- Steps: no contract of a call that users make rests on this file.
--- What one message gives, and what a row of a build names.
+-- What one message gives, and the build that a row names.
 use Rattle.std.specs.Prelude.{ℕ}
 use Rattle.deb_control.specs.declared.binary.Binary.{Binary}
 use Rattle.testing_rules_items.specs.declared.item.Item.TheVariants as item
@@ -8,7 +8,7 @@ use Rattle.testing_rules_fact_order.specs.declared.entry.FactUpdate.TheVariants.
 use Rattle.testing_rules_model.specs.declared.facts.BuildIn.{BuildIn}
 use Rattle.testing_rules_model.specs.Covered.{CoveredItem, placed_from}
 
--- the message as the facts keep it
+-- the message in the form that facts keep
 abbrev pub entry_of : CoveredItem → FactUpdate
 entry_of m = elim m.item [
   | item.Upload source version urgency day ↦ Upload (record { source = source; version = version; urgency = urgency; day = day; sender = m.sender; number = m.number })

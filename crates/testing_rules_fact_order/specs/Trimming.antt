@@ -1,5 +1,5 @@
 -- Steps: no contract of a call that users make rests on this file.
--- A testing that is asked for its sources alone.
+-- A testing of which only the sources are used.
 use Rattle.std.specs.Prelude.{List, []}
 use Rattle.testing_rules_model.specs.declared.suite.SourceIn.{SourceIn}
 use Rattle.testing_rules_model.specs.Suite.{Suite}

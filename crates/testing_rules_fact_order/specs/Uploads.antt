@@ -1,4 +1,4 @@
--- The uploads of facts, each once. That facts are kept is this office's own.
+-- The uploads of facts, each once. This office decides to keep facts.
 use Rattle.std.specs.Prelude.{List}
 use Rattle.std.specs.List.Sorted.{IsStrictlySortedBy}
 use Rattle.std.specs.declared.cmp.Ordering.{Ordering}
@@ -10,13 +10,13 @@ use Rattle.testing_rules_model.specs.declared.facts.UploadIn.{UploadIn}
 use Rattle.testing_rules_model.specs.Excuses.{urgency_rank}
 use Rattle.testing_rules_model.specs.WithMessage.{put_first}
 
--- uploads by what they say: source, text of the version, urgency and day
+-- the order of uploads by content: source, text of the version, urgency and day
 abbrev pub said_order : UploadIn → UploadIn → Ordering
 said_order =
     then_cmp (on (λ u. u.source) byte_cmp)
     (then_cmp (on (λ u. u.version) byte_cmp) (then_cmp (on (λ u. urgency_rank u.urgency) nat_cmp) (on (λ u. epoch_day u.day) int_cmp)))
 
--- uploads by sender and number, and those of one number by what they say
+-- the order of uploads by sender and number, then by content
 abbrev pub message_order : UploadIn → UploadIn → Ordering
 message_order = then_cmp (on (λ u. u.sender) nat_cmp) (then_cmp (on (λ u. u.number) nat_cmp) said_order)
 
@@ -24,10 +24,10 @@ message_order = then_cmp (on (λ u. u.sender) nat_cmp) (then_cmp (on (λ u. u.nu
 abbrev pub AreByMessage : List UploadIn → Type 0
 AreByMessage uploads = IsStrictlySortedBy message_order uploads
 
--- of an upload that is there and the same one again, the one that is there stays
+-- of an upload already there and an equal one, the first stays
 abbrev pub first_stays : UploadIn → UploadIn → Ordering
 first_stays old new = Less
 
--- the uploads with one more, unless it is there
+-- the uploads with one more, unless they have it
 abbrev pub with_kept : UploadIn → List UploadIn → List UploadIn
 with_kept = put_first (λ u. u) message_order first_stays

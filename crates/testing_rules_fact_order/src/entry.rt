@@ -35,7 +35,7 @@ impl Model for Builds {
 }
 
 impl Builds {
-    /// The builds as they came. It takes no memory.
+    /// The builds in their order. It allocates nothing.
     pub fn into_vec(self) -> Vec<BuildIn>
         ensures { result.items ≡ self }
     {
@@ -44,7 +44,7 @@ impl Builds {
     }
 }
 
-/// A message, as the facts keep it.
+/// A message in the form that the facts keep.
 #[derive(Drop)]
 pub enum FactUpdate {
     Upload(UploadIn),
@@ -57,7 +57,7 @@ pub enum FactUpdate {
     Nothing,
 }
 
-/// The place after this one. Past the greatest number there is none.
+/// The place after this one, or an error after the greatest number.
 fn next_place(place: u32) -> Result<u32, NoMemory>
     ensures { IfOk result (λ next. next ≡ place + 1) }
 {
@@ -90,7 +90,7 @@ fn placed(
     Ok(builds)
 }
 
-/// The sender and the number of a message, and where what is kept of it stands.
+/// The sender and the number of a message, and the place of its kept part.
 #[derive(Clone, Copy)]
 pub struct Sent {
     pub alloc: Global,
@@ -195,7 +195,7 @@ impl Sent {
     }
 }
 
-/// What the message gives. It takes over the item, so that no text is copied.
+/// What the message gives. It takes the item by value, so that no text is copied.
 pub fn entry_of(sent: Sent, item: Item) -> Result<FactUpdate, NoMemory>
     ensures { IfOk result (λ e. let m : CoveredItem = record { sender = sent.sender; number = sent.number; item = item } in e ≡ entries.entry_of m) }
 {

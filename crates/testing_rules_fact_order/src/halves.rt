@@ -4,10 +4,10 @@ ghost use Rattle.std.specs.Prelude.{◌≡◌, ◌<◌, ◌≤◌, ◌++◌, [],
 
 use testing_rules_model::BuildIn;
 
-/// So many rows stay in a block that is split.
+/// The number of rows that stay in a split block.
 const HALF: usize = 32;
 
-/// The rows of a full block, but for its lower half, which stays, come into the upper rows. There is room for them.
+/// Moves the upper half of a full block to the upper rows; the lower half stays. There is room for it.
 pub fn move_upper_half(rows: &mut Vec<BuildIn>, upper: &mut Vec<BuildIn>)
     requires full { vec_len rows.old ≡ 64 }
     requires spare { upper.old.items ≡ [] }

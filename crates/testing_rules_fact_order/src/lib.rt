@@ -1,5 +1,5 @@
-//! Which of two facts counts, the orders in which they are kept, what one message gives to them, and their rows as they
-//! come and go.
+//! Which of two facts counts, the orders of kept facts, what one message gives to them, and their rows as they come and
+//! go.
 #![tactic(auto)]
 
 mod entry;

@@ -1,4 +1,4 @@
-//! The rows that came and those that left since the facts were kept.
+//! The rows that came and left since the facts were kept.
 
 ghost use Rattle.std.specs.Prelude.{◌≡◌, ◌+◌, ◌<◌, ◌≤◌, ◌++◌, [], IfOk, OnOk, option_to_list, vec_len, vec_capacity};
 
@@ -6,21 +6,21 @@ use deb_version::NoMemory;
 use std::alloc::Global;
 use testing_rules_model::FactRow;
 
-/// Rows that came and rows that left, in the order in which they did. A row that did both stands in both.
+/// Rows that came and rows that left, each in order of time. A row that did both is in both lists.
 #[derive(Drop)]
 pub struct Log {
     pub came: Vec<FactRow>,
     pub left: Vec<FactRow>,
 }
 
-/// What one more element does to the rows: the one that gives way to it leaves, and its own comes where it comes in.
+/// The effect of one more element on the rows: the one that gives way to it leaves, and its own comes if it comes in.
 #[derive(Clone, Copy)]
 pub struct Shifted {
     pub left: Option<FactRow>,
     pub came: Option<FactRow>,
 }
 
-/// So many and so many more.
+/// The sum of two counts.
 fn sum(uploads: usize, more: usize) -> Result<usize, NoMemory>
     ensures { IfOk result (λ n. n ≡ uploads + more) }
 {
@@ -30,7 +30,7 @@ fn sum(uploads: usize, more: usize) -> Result<usize, NoMemory>
     }
 }
 
-/// A row stands behind the others, if there is one. There is room for it.
+/// Adds a row at the end, if there is one. There is room for it.
 fn note_row(rows: &mut Vec<FactRow>, row: Option<FactRow>)
     requires room { vec_len rows.old < vec_capacity rows.old }
     ensures items { rows.new.items ≡ rows.old.items ++ option_to_list row }
@@ -54,7 +54,7 @@ impl Log {
         }
     }
 
-    /// All of these rows left, and none came. NoMemory where memory runs out.
+    /// All of these rows left, and none came. NoMemory if memory runs out.
     pub fn of_left(alloc: Global, rows: &[FactRow]) -> Result<Log, NoMemory>
         ensures came { IfOk result (λ log. log.came.items ≡ []) }
         ensures left { IfOk result (λ log. log.left.items ≡ rows.now) }
@@ -66,7 +66,7 @@ impl Log {
         Ok(log)
     }
 
-    /// Makes room for so many more rows on each side, and for those of so many uploads among those that left.
+    /// Makes room for this many more rows on each side, and for this many uploads among those that left.
     pub fn reserve(&mut self, uploads: usize, more: usize) -> Result<(), NoMemory>
         ensures came { self.new.came.items ≡ self.old.came.items }
         ensures left { self.new.left.items ≡ self.old.left.items }
@@ -80,7 +80,7 @@ impl Log {
         Ok(())
     }
 
-    /// Makes room for so many more rows and uploads, and for one element more in a list.
+    /// Makes room for this many more rows and uploads, and for one more element in a list.
     pub fn reserve_with<T>(
         &mut self,
         list: &mut Vec<T>,
@@ -99,7 +99,7 @@ impl Log {
         self.reserve(uploads, more)
     }
 
-    /// Notes what one element does to the rows. There is room for it.
+    /// Notes the effect of one element on the rows. There is room for it.
     pub fn note(&mut self, shifted: Shifted)
         requires came { vec_len self.old.came < vec_capacity self.old.came }
         requires left { vec_len self.old.left < vec_capacity self.old.left }
@@ -114,7 +114,7 @@ impl Log {
         note_row(&mut self.left, shifted.left);
     }
 
-    /// No row came or left since now. It takes no memory, and that for rows that leave stays.
+    /// Forgets the rows that came or left. It allocates nothing, and keeps the memory for leaving rows.
     pub fn clear(&mut self)
         ensures came { self.new.came.items ≡ [] }
         ensures left { self.new.left.items ≡ [] }

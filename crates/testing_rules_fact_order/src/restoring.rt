@@ -1,4 +1,4 @@
-//! What a message says, one kind alone: of a kept row, the fact that comes back.
+//! The content of a message, for one kind only: the restored fact of a kept row.
 
 ghost use Rattle.std.specs.Prelude.{◌≡◌, ◌==◌, ℕ, IfOk, find, option_copied, option_map};
 ghost use Rattle.testing_rules_fact_order.specs.Entries.{placed_at};
@@ -13,7 +13,7 @@ use testing_rules_model::{
     BugIn, BuildIn, DelaysIn, DropIn, HintIn, SharedBinary, UnhintIn, UploadIn,
 };
 
-/// The upload, where the message is one.
+/// The upload, if the message is one.
 pub fn said_upload(sent: Sent, item: &Item) -> Result<Option<UploadIn>, NoMemory>
     ensures { IfOk result (λ said. let m : CoveredItem = record { sender = sent.sender; number = sent.number; item = item.now } in said ≡ covered.upload_of m) }
 {
@@ -32,7 +32,7 @@ pub fn said_upload(sent: Sent, item: &Item) -> Result<Option<UploadIn>, NoMemory
     }
 }
 
-/// The drop, where the message is one.
+/// The drop, if the message is one.
 pub fn said_drop(sent: Sent, item: &Item) -> Result<Option<DropIn>, NoMemory>
     ensures { IfOk result (λ said. let m : CoveredItem = record { sender = sent.sender; number = sent.number; item = item.now } in said ≡ covered.drop_of m) }
 {
@@ -51,7 +51,7 @@ pub fn said_drop(sent: Sent, item: &Item) -> Result<Option<DropIn>, NoMemory>
     }
 }
 
-/// What the message says of a bug, where it does.
+/// What the message says about a bug, if it does.
 pub fn said_bug(sent: Sent, item: &Item) -> Result<Option<BugIn>, NoMemory>
     ensures { IfOk result (λ said. let m : CoveredItem = record { sender = sent.sender; number = sent.number; item = item.now } in said ≡ covered.bug_of m) }
 {
@@ -72,7 +72,7 @@ pub fn said_bug(sent: Sent, item: &Item) -> Result<Option<BugIn>, NoMemory>
     }
 }
 
-/// The hint, where the message is one.
+/// The hint, if the message is one.
 pub fn said_hint(sent: Sent, item: &Item) -> Result<Option<HintIn>, NoMemory>
     ensures { IfOk result (λ said. let m : CoveredItem = record { sender = sent.sender; number = sent.number; item = item.now } in said ≡ covered.hint_of m) }
 {
@@ -82,7 +82,7 @@ pub fn said_hint(sent: Sent, item: &Item) -> Result<Option<HintIn>, NoMemory>
     }
 }
 
-/// The unhint, where the message is one.
+/// The unhint, if the message is one.
 pub fn said_unhint(sent: Sent, item: &Item) -> Option<UnhintIn>
     ensures { let m : CoveredItem = record { sender = sent.sender; number = sent.number; item = item.now } in result ≡ covered.unhint_of m }
 {
@@ -92,7 +92,7 @@ pub fn said_unhint(sent: Sent, item: &Item) -> Option<UnhintIn>
     }
 }
 
-/// The delays, where the message tells them.
+/// The delays, if the message sets them.
 pub fn said_delays(sent: Sent, item: &Item) -> Option<DelaysIn>
     ensures { let m : CoveredItem = record { sender = sent.sender; number = sent.number; item = item.now } in result ≡ covered.delays_of m }
 {
@@ -107,7 +107,7 @@ pub fn said_delays(sent: Sent, item: &Item) -> Option<DelaysIn>
     }
 }
 
-/// The binary of the paragraph at a place, which is counted from 1.
+/// The binary of the paragraph at a place, counted from 1.
 fn binary_at(binaries: &[Binary], place: u32) -> Option<&Binary>
     ensures { (sender number : ℕ) → option_map (λ b. placed_at sender number b place) (option_copied result) ≡ find (λ b. b.place == place) (placed_from 1 sender number binaries.now) }
 {
@@ -117,7 +117,7 @@ fn binary_at(binaries: &[Binary], place: u32) -> Option<&Binary>
     }
 }
 
-/// The build of the paragraph at a place, where there is one. Its binary alone is copied.
+/// The build of the paragraph at a place, if there is one. Only its binary is copied.
 fn build_at(sent: Sent, binaries: &[Binary], place: u32) -> Result<Option<BuildIn>, NoMemory>
     ensures { IfOk result (λ said. said ≡ find (λ b. b.place == place) (placed_from 1 sent.sender sent.number binaries.now)) }
 {
@@ -132,7 +132,7 @@ fn build_at(sent: Sent, binaries: &[Binary], place: u32) -> Result<Option<BuildI
     }
 }
 
-/// The build of the paragraph at a place, where the message has one.
+/// The build of the paragraph at a place, if the message has one.
 pub fn said_build(sent: Sent, item: &Item, place: u32) -> Result<Option<BuildIn>, NoMemory>
     ensures { IfOk result (λ said. let m : CoveredItem = record { sender = sent.sender; number = sent.number; item = item.now } in said ≡ find (λ b. b.place == place) (covered.builds_of m)) }
 {

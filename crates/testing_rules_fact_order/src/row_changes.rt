@@ -1,4 +1,4 @@
-//! What changed of the rows of facts: those that came and those that left, without those that did both.
+//! How the rows of facts changed: those that came and those that left, without those that did both.
 
 ghost use Rattle.std.specs.Prelude.{◌≡◌, ◌<◌, ◌⊎◌, [], length, IfOk, OnOk};
 ghost use Rattle.std.specs.List.Sorted.{IsSorted};
@@ -45,7 +45,7 @@ fn turn(came: &[FactRow], left: &[FactRow], i: usize, j: usize) -> Side
     }
 }
 
-/// What came without what left, and the other way round, of lists in order.
+/// The rows that came but didn't leave, and the other way round, from ordered lists.
 fn merge(
     came: &[FactRow],
     left: &[FactRow],
@@ -89,14 +89,14 @@ fn sorted(alloc: Global, rows: &[FactRow]) -> Result<Vec<FactRow>, NoMemory>
     Ok(sorted)
 }
 
-/// Rows that are put, and rows that are gone, as they were pushed.
+/// Rows to put and rows that are gone, in the order of pushing.
 #[derive(Drop)]
 struct Difference {
     put: Vec<FactRow>,
     gone: Vec<FactRow>,
 }
 
-/// What came without what left, and the other way round.
+/// The rows that came but didn't leave, and the other way round.
 fn net(alloc: Global, came: &[FactRow], left: &[FactRow]) -> Result<Difference, NoMemory>
     ensures { IfOk result (λ c. IsDifference came.now left.now c.put.items c.gone.items) }
 {
@@ -108,7 +108,7 @@ fn net(alloc: Global, came: &[FactRow], left: &[FactRow]) -> Result<Difference, 
     Ok(Difference { put, gone })
 }
 
-/// What came without what left is put, and what left without what came is gone.
+/// Rows that came but didn't leave are put; rows that left but didn't come are gone.
 pub fn changes(alloc: Global, came: &[FactRow], left: &[FactRow]) -> Result<FactChanges, NoMemory>
     ensures { IfOk result (λ c. IsDifference came.now left.now c.put c.gone) }
 {

@@ -7,7 +7,7 @@ use testing_rules_model::{
     BugIn, BuildIn, DelaysIn, DropIn, FactKind, FactRow, HintIn, UnhintIn, UploadIn,
 };
 
-/// The row of a kind, but for a build's.
+/// The row of a kind other than a build.
 fn row(kind: FactKind, sender: u32, number: u32) -> FactRow
     ensures { result ≡ record { kind = kind; sender = sender; number = number; place = 0 } }
 {

@@ -28,7 +28,7 @@ pub fn is_same_version(version: &Version, other: &Version) -> bool
     version.order(other).is_eq()
 }
 
-/// The greatest version first, and among the same version by sender and number.
+/// The order of uploads: the greatest version first, then by sender and number.
 pub fn upload_order(upload: &UploadIn, other: &UploadIn) -> Ordering
     ensures { result ≡ unstable.upload_order upload.now other.now }
 {
@@ -50,7 +50,7 @@ pub fn urgency_rank(urgency: Urgency) -> u32
     }
 }
 
-/// By source, text of the version, urgency and day.
+/// By content: source, text of the version, urgency and day.
 fn said_order(upload: &UploadIn, other: &UploadIn) -> Ordering
     ensures { result ≡ uploads.said_order upload.now other.now }
 {
@@ -62,7 +62,7 @@ fn said_order(upload: &UploadIn, other: &UploadIn) -> Ordering
     sources.then(versions.then(urgencies.then(days)))
 }
 
-/// By sender and number, and among those of one number by what they say.
+/// By sender and number, then by content.
 pub fn message_order(upload: &UploadIn, other: &UploadIn) -> Ordering
     ensures { result ≡ uploads.message_order upload.now other.now }
 {
@@ -76,7 +76,7 @@ pub fn message_order(upload: &UploadIn, other: &UploadIn) -> Ordering
     }
 }
 
-/// The greatest version first, and among the same version by sender, number and place.
+/// The order of builds: the greatest version first, then by sender, number and place.
 pub fn build_order(build: &BuildIn, other: &BuildIn) -> Ordering
     ensures { result ≡ unstable.build_order build.now other.now }
 {
@@ -90,7 +90,7 @@ pub fn build_order(build: &BuildIn, other: &BuildIn) -> Ordering
         .then(senders)
 }
 
-/// The greatest version first, and among the same version by sender and number.
+/// The order of drops: the greatest version first, then by sender and number.
 pub fn drop_order(drop: &DropIn, other: &DropIn) -> Ordering
     ensures { result ≡ unstable.drop_order drop.now other.now }
 {
@@ -99,7 +99,7 @@ pub fn drop_order(drop: &DropIn, other: &DropIn) -> Ordering
     other.version.order(&drop.version).then(senders)
 }
 
-/// The greatest number first, and among the same number by sender.
+/// The order of messages on bugs: the greatest number first, then by sender.
 pub fn bug_order(bug: &BugIn, other: &BugIn) -> Ordering
     ensures { result ≡ unstable.bug_order bug.now other.now }
 {
@@ -107,7 +107,7 @@ pub fn bug_order(bug: &BugIn, other: &BugIn) -> Ordering
     other.number.cmp(&bug.number).then(senders)
 }
 
-/// The greatest number first, and among the same number by sender.
+/// The order of messages on delays: the greatest number first, then by sender.
 pub fn delays_order(delays: &DelaysIn, other: &DelaysIn) -> Ordering
     ensures { result ≡ unstable.delays_order delays.now other.now }
 {
@@ -115,7 +115,7 @@ pub fn delays_order(delays: &DelaysIn, other: &DelaysIn) -> Ordering
     other.number.cmp(&delays.number).then(senders)
 }
 
-/// By number, and among the same number by sender.
+/// The order of hints: by number, then by sender.
 pub fn hint_order(hint: &HintIn, other: &HintIn) -> Ordering
     ensures { result ≡ unstable.hint_order hint.now other.now }
 {
@@ -123,7 +123,7 @@ pub fn hint_order(hint: &HintIn, other: &HintIn) -> Ordering
     hint.number.cmp(&other.number).then(senders)
 }
 
-/// By number, and among the same number by sender.
+/// The order of unhints: by number, then by sender.
 pub fn unhint_order(unhint: &UnhintIn, other: &UnhintIn) -> Ordering
     ensures { result ≡ unstable.unhint_order unhint.now other.now }
 {
@@ -145,7 +145,7 @@ pub fn is_current(upload: &UploadIn, row: &LentRow) -> bool
     is_of_source(upload, row) && is_same_version(&row.binary.source_version, &upload.version)
 }
 
-/// The build is of another architecture or name than the drop, or of a version above it.
+/// The build has another architecture or name than the drop, or a greater version.
 pub fn outlives(drop: &DropIn, build: &BuildIn) -> bool
     ensures { result ≡ taken.outlives drop.now build.now }
 {
@@ -154,7 +154,7 @@ pub fn outlives(drop: &DropIn, build: &BuildIn) -> bool
         || is_above(&build.binary.version, &drop.version)
 }
 
-/// Two builds are of one other architecture.
+/// Both builds have the same other architecture.
 pub fn are_both_elsewhere(first: &BuildIn, last: &BuildIn, arch: &str) -> bool
     ensures { result ≡ (bytes_eq first.now.binary.architecture last.now.binary.architecture && not (bytes_eq first.now.binary.architecture arch.now)) }
 {
@@ -162,7 +162,7 @@ pub fn are_both_elsewhere(first: &BuildIn, last: &BuildIn, arch: &str) -> bool
     lowest.as_str() == highest.as_str() && lowest.as_str() != arch
 }
 
-/// The last of the messages on delays, one more among them.
+/// The last message on delays, with one more message.
 pub fn later_delays(last: Option<DelaysIn>, delays: DelaysIn) -> Option<DelaysIn>
     ensures { result ≡ taken.with_delays delays last }
 {

@@ -1,4 +1,4 @@
-//! The uploads of the facts, without those that don't count beside a testing. It takes no memory.
+//! Removes the facts' uploads that don't count with a testing. It allocates nothing.
 
 ghost use Rattle.std.specs.Prelude.{◌≡◌, ◌+◌, ◌≤◌, ◌++◌, not, filter, length, map, option_copied, option_map, vec_len, vec_capacity};
 ghost use Rattle.std.specs.List.Sorted.{IsBinarySearchResult, IsSearchInRange};
@@ -15,7 +15,7 @@ use std::cmp::Ordering;
 use testing_rules_items::next_place;
 use testing_rules_model::{FactRow, SourceIn, UploadIn, source_place_near};
 
-/// Where the sources have the name, or else where it belongs.
+/// The place of the name among the sources, or where it belongs.
 fn place_of_name(sources: &[SourceIn], name: &str) -> Result<usize, usize>
     ensures bound { IsSearchInRange result (length sources.now) }
     ensures found { IsBinarySearchResult (λ s. byte_cmp s.name name.now) sources.now result }
@@ -27,7 +27,7 @@ fn place_of_name(sources: &[SourceIn], name: &str) -> Result<usize, usize>
     )
 }
 
-/// The version of a name, by where the name was found among the sources, or where it belongs.
+/// The version of a name, from the place where the name was found among the sources, or belongs.
 fn version_found<'a>(
     sources: &'a [SourceIn],
     name: &str,
@@ -54,7 +54,7 @@ fn is_news(testing: Option<&Version>, version: &Version) -> bool
     }
 }
 
-/// Whether the upload counts beside a testing of these sources, by where they have its name, or where it belongs.
+/// Whether the upload counts with a testing of these sources, from the place of its name, or where that belongs.
 fn counts_at(sources: &[SourceIn], upload: &UploadIn, place: Result<usize, usize>) -> bool
     requires order { AreByName sources.now }
     requires bound { IsSearchInRange place (length sources.now) }
@@ -67,7 +67,7 @@ fn counts_at(sources: &[SourceIn], upload: &UploadIn, place: Result<usize, usize
     )
 }
 
-/// Whether the upload counts beside a testing of these sources.
+/// Whether the upload counts with a testing of these sources.
 fn counts(sources: &[SourceIn], upload: &UploadIn) -> bool
     requires { AreByName sources.now }
     ensures { result ≡ counts_beside (with_sources sources.now) upload.now }
@@ -76,8 +76,8 @@ fn counts(sources: &[SourceIn], upload: &UploadIn) -> bool
     counts_at(sources, upload, place)
 }
 
-/// Notes the rows of the uploads that don't count. There is room for all. Each upload's source is tried first next to
-/// that of the upload before: mostly their names are close.
+/// Notes the rows of the uploads that don't count. There is room for all. Each upload's source is first tried next to
+/// that of the previous upload: usually their names are close.
 fn note_uncounted(uploads: &[UploadIn], left: &mut Vec<FactRow>, sources: &[SourceIn])
     requires order { AreByName sources.now }
     requires room { vec_len left.old + length uploads.now ≤ vec_capacity left.old }
@@ -94,7 +94,7 @@ fn note_uncounted(uploads: &[UploadIn], left: &mut Vec<FactRow>, sources: &[Sour
     }
 }
 
-/// Leaves the uploads that count alone, and notes the rows of the others.
+/// Leaves only the uploads that count, and notes the rows of the others.
 pub fn trim_uploads(uploads: &mut Vec<UploadIn>, left: &mut Vec<FactRow>, sources: &[SourceIn])
     requires order { AreByName sources.now }
     requires room { vec_len left.old + vec_len uploads.old ≤ vec_capacity left.old }

@@ -1,4 +1,4 @@
-//! The uploads that facts keep, by sender and number.
+//! The uploads kept in facts, by sender and number.
 
 ghost use Rattle.std.specs.Prelude.{◌≡◌, length};
 ghost use Rattle.std.specs.List.Sorted.{IsBinarySearchResult, IsSearchInRange};
@@ -8,7 +8,7 @@ use crate::select::message_order;
 use std::cmp::Ordering;
 use testing_rules_model::UploadIn;
 
-/// Where the uploads have this one, or else where it belongs.
+/// The place of this upload, or where it belongs.
 pub fn place_of_kept(uploads: &[UploadIn], upload: &UploadIn) -> Result<usize, usize>
     ensures bound { IsSearchInRange result (length uploads.now) }
     ensures found { IsBinarySearchResult (λ u. message_order u upload.now) uploads.now result }

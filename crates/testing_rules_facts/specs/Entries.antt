@@ -19,7 +19,7 @@ lists_with (Unhint c) f = record f { unhints = with_unhint c f.unhints }
 lists_with (Delays d) f = record f { delays = with_delays d f.delays }
 lists_with Nothing f = f
 
--- the rows that come and those that leave are noted
+-- notes the rows that come and leave
 abbrev pub noted : Shift → FactLists → FactLists
 noted shift f = record f { came = f.came ++ shift.came; left = f.left ++ shift.left }
 

@@ -1,4 +1,4 @@
--- Facts put back, row by row, each with the item of the message that it names. That facts are kept as rows is this office's own.
+-- Facts restored row by row, each with the item of its message. This office decides to keep facts as rows.
 use Rattle.std.specs.Prelude.{ℕ, ◌==◌, ◌&&◌, if◌then◌else◌, List, find, Option, Some, None}
 pub use Rattle.testing_rules_fact_order.specs.Entries.{placed_at}
 use Rattle.testing_rules_items.specs.declared.item.Item.{Item}
@@ -13,37 +13,37 @@ use Rattle.testing_rules_model.specs.declared.fact_row.FactKind.TheVariants.{Sou
 use Rattle.testing_rules_model.specs.declared.fact_row.FactRow.{FactRow}
 use Rattle.testing_rules_fact_order.specs.Uploads.{with_kept}
 
--- a message by its parts
+-- a message with these parts
 abbrev pub said : ℕ → ℕ → Item → CoveredItem
 said sender number item = record { sender = sender; number = number; item = item }
 
--- a row, with the item of the message that it names
+-- a row with the item of its message
 abbrev pub Given : Type 0
 Given = FactRow × Item
 
--- the message
+-- its message
 abbrev pub message_of : Given → CoveredItem
 message_of x = said x.0.sender x.0.number x.1
 
--- what a row of a kind without places gives, where its message says something of that kind
+-- the fact of a row without a place, if its message says something of that kind
 abbrev pub given_of : {B : Type 0} → FactKind → (CoveredItem → Option B) → Given → Option B
 given_of kind says x = if is_kind x.0.kind kind && (x.0.place == 0) then says (message_of x) else None
 
--- what a row of a build gives: the binary of its paragraph
+-- the fact of a build's row: the binary of its paragraph
 abbrev pub build_given : Given → Option BuildIn
 build_given x = if is_kind x.0.kind Build then find (λ b. b.place == x.0.place) (builds_of (message_of x)) else None
 
--- put in, where there is something
+-- puts it in, if there is something
 abbrev pub put_given : {A : Type 0} → (A → List A → List A) → Option A → List A → List A
 put_given put None xs = xs
 put_given put (Some x) xs = put x xs
 
--- the last delays, with those that are put back, where there are any
+-- the last delays, with the restored ones, if any
 abbrev pub last_given : Option DelaysIn → Option DelaysIn → Option DelaysIn
 last_given None last = last
 last_given (Some d) last = with_delays d last
 
--- facts with one row put back
+-- facts with one row restored
 abbrev pub restored : Given → FactLists → FactLists
 restored x f = record {
   sources = put_given with_upload (given_of Source upload_of x) f.sources;

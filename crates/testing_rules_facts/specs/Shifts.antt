@@ -1,4 +1,4 @@
--- Which rows leave the facts, and which come, with one more message. That facts are kept as rows is this office's own.
+-- The rows that leave and come when the facts get one more message. This office decides to keep facts as rows.
 use Rattle.std.specs.Prelude.{◌≡◌, ◌+◌, not, List, [], ◌∷◌, ◌++◌, map, filter, option_to_list}
 use Rattle.std.specs.Ordering.{nat_cmp}
 use Rattle.testing_rules_fact_order.specs.declared.entry.FactUpdate.{FactUpdate}
@@ -12,7 +12,7 @@ use Rattle.testing_rules_model.specs.WithMessage.{outlives, stands_beside}
 use Rattle.testing_rules_model.specs.declared.fact_row.FactRow.{FactRow}
 use Rattle.testing_rules_fact_order.specs.Uploads.{message_order, first_stays}
 
--- what one message shifts
+-- the shift of one message
 abbrev pub shift_of : FactUpdate → FactLists → Shift
 shift_of (Upload u) f = record {
   left = map source_row (way_given (λ v. v.source) byte_cmp upload_order u f.sources);
@@ -32,6 +32,6 @@ shift_of (Unhint c) f = record { left = map unhint_row (put_over (λ g. g) unhin
 shift_of (Delays d) f = record { left = map delays_row (option_to_list f.delays); came = map delays_row (option_to_list (lesser delays_order d f.delays)) }
 shift_of Nothing f = no_shift
 
--- so often as a row stands among the new ones and leaves, it stood among the old ones and comes
+-- for each row, its count among the new rows plus the leaving ones is that among the old rows plus the coming ones
 abbrev pub Shifts : List FactRow → List FactRow → Shift → Type 0
 Shifts old new shift = (r : FactRow) → times r new + times r shift.left ≡ times r old + times r shift.came

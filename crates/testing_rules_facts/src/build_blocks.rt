@@ -1,4 +1,4 @@
-//! Unstable's rows in blocks: a row that comes or goes shifts those of its own block alone.
+//! Unstable's rows in blocks: a row that comes or goes shifts only those of its own block.
 
 ghost use Rattle.std.specs.Prelude.{◌≡◌, ◌==◌, ◌<◌, ◌≤◌, ◌+◌, ◌*◌, ◌^◌, ℕ, [], ◌++◌, IfOk, OnOk, OnErr, IsTrue, IsFalse, filter, length, map, not, option_to_list, slice_index_or, true, false, vec_len, vec_capacity};
 ghost use Rattle.std.specs.Option.{IfSome};
@@ -18,10 +18,10 @@ use std::marker::Model;
 use testing_rules_fact_order::{Log, Shifted, move_upper_half};
 use testing_rules_model::{BuildIn, DropIn, FactRow};
 
-/// So many rows fill a block, which is split then.
+/// The number of rows in a full block, which is then split.
 const FULL: usize = 64;
 
-/// Some of the rows, with room for one more, and the place that the last one was put at. The next one may belong there.
+/// Some of the rows, with room for one more, and the place of the last added one. The next one may belong there.
 #[derive(Drop)]
 pub struct BuildBlock {
     rows: Vec<BuildIn>,
@@ -40,7 +40,7 @@ impl Model for BuildBlock {
     ghost invariant = { λ a. IsRoomy (vec_len a.rows) (vec_capacity a.rows) };
 }
 
-/// Memory for the rows of a block, of which none has come.
+/// Memory for the rows of a block, still without rows.
 #[derive(Drop)]
 struct Spare {
     rows: Vec<BuildIn>,
@@ -59,14 +59,15 @@ impl Model for Spare {
 }
 
 impl Spare {
-    /// Memory for as many rows as fill a block.
+    /// Memory for the rows of a full block.
     fn new(alloc: Global) -> Result<Spare, NoMemory> {
         let rows = Vec::with_capacity(alloc, FULL)?;
         Ok(Spare { rows })
     }
 }
 
-/// What a build that joined a block did to the rows of the facts, and the block of the upper half, if it filled its own.
+/// The effect of a build that joined a block on the rows of the facts, and the block of the upper half, if the block
+/// was full.
 #[derive(Drop)]
 struct Entered {
     shifted: Shifted,
@@ -89,7 +90,7 @@ impl BuildBlock {
         self.rows.as_slice()
     }
 
-    /// How many rows there are.
+    /// The number of rows.
     fn len(&self) -> usize
         ensures len { result ≡ length self.now }
         ensures below { result < 64 }
@@ -108,7 +109,7 @@ impl BuildBlock {
         })
     }
 
-    /// A build joins the rows. Where it fills the block, one of the spares takes the upper half.
+    /// Adds a build to the rows. If it fills the block, one of the spares takes the upper half.
     fn put(&mut self, build: BuildIn, spares: &mut Vec<Spare>) -> Entered
         requires order { AreByPair self.old }
         requires spares { 0 < vec_len spares.old }
@@ -130,7 +131,7 @@ impl BuildBlock {
         Entered { shifted, upper }
     }
 
-    /// The rows lose the one that the drop takes, if there is one. Gives its row of the facts.
+    /// Removes the row that the drop takes, if there is one, and returns its row of the facts.
     fn take(&mut self, drop: &DropIn) -> Option<FactRow>
         requires { AreByPair self.old }
         ensures rows { self.new ≡ taken.with_drop drop.now self.old }
@@ -150,7 +151,7 @@ fn begin_above(rows: &[BuildIn], arch: &str, name: &str) -> bool
     }
 }
 
-/// The rows of a full block, but for its lower half, which stays.
+/// Moves the upper half of a full block to a new block.
 fn upper_half(rows: &mut Vec<BuildIn>, guess: usize, spare: Spare) -> BuildBlock
     requires { vec_len rows.old ≡ 64 }
     ensures rows { rows.new.items ++ result ≡ rows.old.items }
@@ -184,7 +185,7 @@ fn block_for(blocks: &[BuildBlock], arch: &str, name: &str) -> usize
     low
 }
 
-/// Two places of blocks, of which one may be right: that of the block that was put into last, and one before it.
+/// Two places of blocks, one of them likely: the block last put into, and an earlier one.
 #[derive(Clone, Copy)]
 struct Near {
     last: usize,
@@ -196,7 +197,7 @@ fn nowhere() -> Near {
     Near { last: 0, other: 0 }
 }
 
-/// A block was put into. One beside the last one takes its place.
+/// A block was put into. One next to the last one takes its place.
 fn nearer(near: Near, place: usize) -> Near {
     if place == near.last || place == near.last.saturating_add(1) {
         return Near {
@@ -210,7 +211,7 @@ fn nearer(near: Near, place: usize) -> Near {
     }
 }
 
-/// There is a block at the place, and it is the first or doesn't begin above the architecture and the name.
+/// There is a block at the place: the first, or one that doesn't begin above the architecture and the name.
 fn may_hold(blocks: &[BuildBlock], arch: &str, name: &str, place: usize) -> bool
     ensures within { IsTrue result → place < length blocks.now }
     ensures begins { IsTrue result → 0 < place → begins_above (arch.now, name.now) (slice_index_or blocks.now place []) ≡ false }
@@ -222,7 +223,7 @@ fn may_hold(blocks: &[BuildBlock], arch: &str, name: &str, place: usize) -> bool
     }
 }
 
-/// The place or the next one, if one of them is that of the block for the architecture and the name.
+/// The place or the next one, if one of them is the block's for the architecture and the name.
 fn block_at(blocks: &[BuildBlock], arch: &str, name: &str, place: usize) -> Option<usize>
     ensures { IfSome result (λ place. IsBlockFor (arch.now, name.now) blocks.now place) }
 {
@@ -238,7 +239,7 @@ fn block_at(blocks: &[BuildBlock], arch: &str, name: &str, place: usize) -> Opti
     None
 }
 
-/// The place of the block for the architecture and the name. The places that are near are tried first.
+/// The place of the block for the architecture and the name. The near places are tried first.
 fn place_near(blocks: &[BuildBlock], arch: &str, name: &str, near: Near) -> usize
     requires { 0 < length blocks.now }
     ensures { IsBlockFor (arch.now, name.now) blocks.now result }
@@ -252,7 +253,7 @@ fn place_near(blocks: &[BuildBlock], arch: &str, name: &str, near: Near) -> usiz
     block_for(blocks, arch, name)
 }
 
-/// The place of the block for the architecture and the name, which is near from then on.
+/// The place of the block for the architecture and the name, noted as near for the next search.
 fn block_near(blocks: &[BuildBlock], arch: &str, name: &str, near: &mut Near) -> usize
     requires { 0 < length blocks.now }
     ensures { IsBlockFor (arch.now, name.now) blocks.now result }
@@ -262,7 +263,7 @@ fn block_near(blocks: &[BuildBlock], arch: &str, name: &str, near: &mut Near) ->
     place
 }
 
-/// How many rows the blocks have.
+/// The number of rows in the blocks.
 fn count_rows(held: &[BuildBlock]) -> u128
     ensures rows { result ≡ length (joined held.now) }
     ensures below { result ≤ 64 * (2 ^ 64) }
@@ -286,7 +287,7 @@ fn copy_build(build: &BuildIn) -> Result<BuildIn, NoMemory>
     })
 }
 
-/// Equal rows, with memory for as many as fill a block.
+/// Equal rows, with memory for a full block.
 fn copy_rows(alloc: Global, rows: &[BuildIn]) -> Result<Vec<BuildIn>, NoMemory>
     ensures rows { IfOk result (λ copies. copies.items ≡ rows.now) }
     ensures room { IfOk result (λ copies. 64 ≤ vec_capacity copies) }
@@ -309,7 +310,7 @@ fn copy_blocks(alloc: Global, blocks: &[BuildBlock]) -> Result<Vec<BuildBlock>, 
     Ok(copies)
 }
 
-/// There are at least so many spares.
+/// Adds spares, up to this many.
 fn top_up(alloc: Global, spares: &mut Vec<Spare>, count: usize) -> Result<(), NoMemory>
     ensures { OnOk result (count ≤ vec_len spares.new) }
 {
@@ -319,7 +320,7 @@ fn top_up(alloc: Global, spares: &mut Vec<Spare>, count: usize) -> Result<(), No
     Ok(())
 }
 
-/// Makes room for so many blocks more. After it there is a block.
+/// Makes room for this many more blocks. Afterwards there is a block.
 fn make_room(alloc: Global, blocks: &mut Vec<BuildBlock>, count: usize) -> Result<(), NoMemory>
     ensures rows { joined blocks.new.items ≡ joined blocks.old.items }
     ensures filled { AreBlocks blocks.old.items → AreBlocks blocks.new.items }
@@ -334,8 +335,8 @@ fn make_room(alloc: Global, blocks: &mut Vec<BuildBlock>, count: usize) -> Resul
     Ok(())
 }
 
-/// A build joins the rows, where its own has none before it. Gives what that does to the rows of the facts. There is room
-/// for a block more, and a spare for its rows.
+/// Adds a build to the rows, if no row of its own comes before it, and returns the effect on the rows of the facts.
+/// There is room for one more block, and a spare for its rows.
 fn put_coming(
     blocks: &mut Vec<BuildBlock>,
     near: &mut Near,
@@ -370,8 +371,8 @@ fn put_coming(
     shifted
 }
 
-/// The builds of one message join the rows, each where it stands, and what that does to the rows is noted. There is room
-/// for them, and a spare for each.
+/// Adds those builds of one message that outlive the drops, and notes the effect on the rows. There is room for them,
+/// and a spare for each.
 fn put_builds(
     held: &mut Vec<BuildBlock>,
     near: &mut Near,
@@ -404,7 +405,7 @@ fn put_builds(
     }
 }
 
-/// The rows lose the one that the drop takes, if there is one. Gives its row of the facts.
+/// Removes the row that the drop takes, if there is one, and returns its row of the facts.
 fn take_from(blocks: &mut Vec<BuildBlock>, drop: &DropIn) -> Option<FactRow>
     requires order { AreByPair (joined blocks.old.items) }
     requires filled { AreBlocks blocks.old.items }
@@ -472,7 +473,7 @@ impl BuildBlocks {
         self.blocks.as_slice()
     }
 
-    /// How many rows there are.
+    /// The number of rows.
     pub fn count(&self) -> u128
         ensures rows { result ≡ length self.now }
         ensures below { result ≤ 64 * (2 ^ 64) }
@@ -480,7 +481,7 @@ impl BuildBlocks {
         count_rows(&self.blocks)
     }
 
-    /// Equal rows, which share the binaries with these. NoMemory where memory runs out.
+    /// Equal rows, sharing their binaries with these. NoMemory if memory runs out.
     pub fn copy(&self, alloc: Global) -> Result<BuildBlocks, NoMemory>
         ensures { IfOk result (λ copies. copies ≡ self.now) }
     {
@@ -492,8 +493,8 @@ impl BuildBlocks {
         })
     }
 
-    /// The builds of one message join the rows, each where it stands beside the drops, and what that does to the rows is
-    /// noted. There is room for them in the log.
+    /// Adds those builds of one message that outlive the drops, and notes the effect on the rows. The log has room for
+    /// them.
     pub fn put(
         &mut self,
         alloc: Global,
@@ -526,7 +527,7 @@ impl BuildBlocks {
         Ok(())
     }
 
-    /// One build joins the rows, where its own has none before it.
+    /// Adds one build to the rows, if no row of its own comes before it.
     pub fn put_one(&mut self, alloc: Global, build: BuildIn) -> Result<(), NoMemory>
         requires { AreByPair self.old }
         ensures ok { OnOk result (self.new ≡ taken.with_build build self.old) }
@@ -538,7 +539,7 @@ impl BuildBlocks {
         Ok(())
     }
 
-    /// The rows lose the one that the drop takes, if there is one. Gives its row of the facts.
+    /// Removes the row that the drop takes, if there is one, and returns its row of the facts.
     pub fn take(&mut self, drop: &DropIn) -> Option<FactRow>
         requires { AreByPair self.old }
         ensures rows { self.new ≡ taken.with_drop drop.now self.old }

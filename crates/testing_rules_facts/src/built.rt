@@ -18,7 +18,7 @@ use testing_rules_fact_order::are_both_elsewhere;
 use testing_rules_items::{ALL, Archs};
 use testing_rules_model::{BuildIn, LentRow};
 
-/// A build, lent as a row of the architecture at this place.
+/// A build, borrowed as a row of the architecture at this place.
 fn row_at(arch: u32, build: &BuildIn) -> LentRow<'_>
     ensures { row_of result ≡ unstable.row_at arch build.now }
 {
@@ -31,14 +31,14 @@ fn row_at(arch: u32, build: &BuildIn) -> LentRow<'_>
     }
 }
 
-/// The build is of the architecture, and its source is let through. The source is asked first: its hash lies nearer.
+/// The build has the architecture, and its source passes. The source is checked first: its hash is nearer in memory.
 fn comes_in(passing: &SourceFilter, build: &BuildIn, arch: &str) -> bool
     ensures { result ≡ (filter_passes passing.now build.now.binary.source && bytes_eq build.now.binary.architecture arch.now) }
 {
     filter_passes(passing, &build.binary) && build.binary.architecture.as_str() == arch
 }
 
-/// Those of the builds that are of an architecture, and whose sources are let through, come in as its rows, at its place.
+/// Adds the builds of an architecture with passing sources as its rows, at its place.
 fn push_built<'a>(
     rows: &mut Vec<LentRow<'a>>,
     builds: &'a [BuildIn],
@@ -56,7 +56,7 @@ fn push_built<'a>(
     Ok(())
 }
 
-/// The builds, which are in order, are all of one other architecture: the first and the last are.
+/// The ordered builds all have the same other architecture: the first and the last do.
 fn are_elsewhere(builds: &[BuildIn], arch: &str) -> bool
     requires { AreByPair builds.now }
     ensures { result ≡ true → list_all (λ b. not (bytes_eq b.binary.architecture arch.now)) builds.now ≡ true }
@@ -78,7 +78,7 @@ fn are_both_on(first: &BuildIn, last: &BuildIn, arch: &str) -> bool
     lowest.as_str() == arch && highest.as_str() == arch
 }
 
-/// The builds, which are in order, are all of the architecture: the first and the last are.
+/// The ordered builds all have the architecture: the first and the last do.
 fn are_there(builds: &[BuildIn], arch: &str) -> bool
     requires { AreByPair builds.now }
     ensures { result ≡ true → list_all (λ b. bytes_eq b.binary.architecture arch.now) builds.now ≡ true }
@@ -92,7 +92,7 @@ fn are_there(builds: &[BuildIn], arch: &str) -> bool
     }
 }
 
-/// Those of the builds whose sources are let through come in as rows, at the place.
+/// Adds the builds with passing sources as rows, at the place.
 fn push_passing<'a>(
     rows: &mut Vec<LentRow<'a>>,
     builds: &'a [BuildIn],
@@ -109,8 +109,8 @@ fn push_passing<'a>(
     Ok(())
 }
 
-/// Those of the builds, which are in order, whose sources are let through come in as rows, at the place. Of builds that
-/// are all of another architecture none is looked at, and of those that are all of this one no architecture is read.
+/// Adds the ordered builds with passing sources as rows, at the place. If all builds have another architecture, none is
+/// read; if all have this one, no architecture is read.
 fn push_ordered<'a>(
     rows: &mut Vec<LentRow<'a>>,
     builds: &'a [BuildIn],
@@ -130,7 +130,7 @@ fn push_ordered<'a>(
     push_built(rows, builds, passing, place, arch)
 }
 
-/// The builds of an architecture whose sources are let through come in as its rows, at its place.
+/// Adds the builds of an architecture with passing sources as its rows, at its place.
 fn push_built_on<'a>(
     rows: &mut Vec<LentRow<'a>>,
     blocks: &'a [BuildBlock],
@@ -147,7 +147,7 @@ fn push_built_on<'a>(
     Ok(())
 }
 
-/// Room for so many rows, unless they are more than memory holds.
+/// Room for this many rows, unless they are more than memory can hold.
 fn room_for(count: u128) -> usize {
     if count < 0x1_0000_0000 {
         count as usize
@@ -156,7 +156,7 @@ fn room_for(count: u128) -> usize {
     }
 }
 
-/// The builds of the sources that are let through, lent as rows, by place of the architecture.
+/// The builds with passing sources, borrowed as rows, by the place of the architecture.
 pub fn rows_passing<'a>(
     alloc: Global,
     archs: &Archs,
@@ -176,7 +176,7 @@ pub fn rows_passing<'a>(
     Ok(rows)
 }
 
-/// Builds, lent as rows, by place of the architecture.
+/// Builds, borrowed as rows, by the place of the architecture.
 pub fn built_rows<'a>(
     alloc: Global,
     archs: &Archs,

@@ -1,4 +1,4 @@
-//! Equal lists of the facts, in memory of their own.
+//! Equal lists of the facts, in their own memory.
 
 ghost use Rattle.std.specs.Prelude.{◌≡◌, ◌+◌, ◌≤◌, IfOk, vec_len, vec_capacity};
 ghost use Rattle.testing_rules_model.specs.Boxed.{unboxed};
@@ -8,7 +8,7 @@ use std::alloc::Global;
 use testing_rules_fact_order::Log;
 use testing_rules_model::{BugIn, DropIn, HintIn, UnhintIn, UploadIn};
 
-/// What is said but of unstable.
+/// Everything said except about unstable.
 #[derive(Drop)]
 pub struct CopiedLists {
     pub drops: Vec<Box<DropIn>>,
@@ -17,9 +17,9 @@ pub struct CopiedLists {
     pub unhints: Vec<UnhintIn>,
 }
 
-/// A value that can be copied, in memory of its own.
+/// A value that can be copied into its own memory.
 pub trait Copied: Drop {
-    /// An equal value. NoMemory where memory runs out.
+    /// An equal value. NoMemory if memory runs out.
     fn copied(&self, alloc: Global) -> Result<Self, NoMemory>
         ensures { IfOk result (λ copy. copy ≡ self.now) };
 }
@@ -59,7 +59,7 @@ pub fn copy_all<T: Copied>(alloc: Global, values: &[T]) -> Result<Vec<T>, NoMemo
     Ok(copies)
 }
 
-/// Equal values in boxes of their own.
+/// Equal values in their own boxes.
 pub fn copy_boxed<T: Copied>(alloc: Global, values: &[Box<T>]) -> Result<Vec<Box<T>>, NoMemory>
     ensures { IfOk result (λ copies. unboxed copies.items ≡ unboxed values.now) }
 {
@@ -71,7 +71,7 @@ pub fn copy_boxed<T: Copied>(alloc: Global, values: &[Box<T>]) -> Result<Vec<Box
     Ok(copies)
 }
 
-/// Equal lists of what is said but of unstable.
+/// Equal lists of everything said except about unstable.
 pub fn copy_said(
     alloc: Global,
     drops: &[Box<DropIn>],
@@ -97,7 +97,7 @@ pub fn copy_said(
     })
 }
 
-/// An equal log, with room for the rows of so many uploads among those that left.
+/// An equal log, with room for the rows of this many uploads among those that left.
 pub fn copy_log(alloc: Global, log: &Log, uploads: usize) -> Result<Log, NoMemory>
     ensures came { IfOk result (λ copy. copy.came.items ≡ log.now.came.items) }
     ensures left { IfOk result (λ copy. copy.left.items ≡ log.now.left.items) }

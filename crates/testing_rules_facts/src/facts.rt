@@ -1,4 +1,4 @@
-//! Facts: what a run has to know of the covered messages.
+//! Facts: what a run needs to know about the covered messages.
 
 ghost use Rattle.std.specs.Prelude.{◌≡◌, ◌==◌, ◌∷◌, ℕ, [], Some, Contains, IfOk, OnOk, OnErr, find, length, ◌≤◌, vec_len, vec_capacity};
 ghost use Rattle.testing_rules_model.specs.Boxed.{unboxed};
@@ -102,7 +102,7 @@ impl Model for Facts {
         × AreUnhintsByNumber a.unhints.items };
 }
 
-/// An upload for the sources, and the same for the uploads.
+/// An upload for the sources, and an equal one for the uploads.
 #[derive(Drop)]
 struct SourceAndUpload {
     source: Box<UploadIn>,
@@ -130,7 +130,7 @@ impl Facts {
         Facts::of_log(alloc, Log::new(alloc))
     }
 
-    /// The facts of no message, which note that all of these rows have left. NoMemory where memory runs out.
+    /// The facts of no message, noting that all of these rows have left. NoMemory if memory runs out.
     pub fn without(alloc: Global, rows: &[FactRow]) -> Result<Facts, NoMemory>
         ensures is { IfOk result (λ f. f ≡ record no_facts { left = rows.now }) }
         ensures none { IfOk result (λ f. StandsForNone f) }
@@ -140,7 +140,7 @@ impl Facts {
         Ok(Facts::of_log(alloc, Log::of_left(alloc, rows)?))
     }
 
-    /// The facts of no message, with what came and what left before.
+    /// The facts of no message, with this log of rows that came and left.
     fn of_log(alloc: Global, log: Log) -> Facts
         requires room { vec_len log.left ≤ vec_capacity log.left }
         ensures { result ≡ record no_facts { came = log.came.items; left = log.left.items } }
@@ -160,7 +160,7 @@ impl Facts {
         }
     }
 
-    /// Equal facts, which share their binaries with these. NoMemory where memory runs out.
+    /// Equal facts, sharing their binaries with these. NoMemory if memory runs out.
     pub fn copy(&self) -> Result<Facts, NoMemory>
         ensures { IfOk result (λ f. f ≡ self.now) }
     {
@@ -198,7 +198,7 @@ impl Facts {
         self.sources.as_slice()
     }
 
-    /// The uploads, all that count among them, by sender and number, each once.
+    /// The uploads, including all that count, by sender and number, each once.
     pub fn uploads(&self) -> &[UploadIn]
         ensures uploads { result.now ≡ self.now.uploads }
         ensures ordered { AreByMessage result.now }
@@ -242,7 +242,7 @@ impl Facts {
         self.delays
     }
 
-    /// How many rows the facts have. A `usize` might not count those of all lists together.
+    /// The number of rows of the facts. A `usize` might be too small for all lists together.
     pub fn count(&self) -> u128
         ensures { result ≡ length (rows_of self.now) }
     {
@@ -253,22 +253,22 @@ impl Facts {
         stand + said + asked + last
     }
 
-    /// What changed of the rows since the facts were kept: the rows that came without those that left, and the other way
-    /// round. NoMemory where memory runs out.
+    /// How the rows changed since the facts were kept: the rows that came but didn't leave, and the other way round.
+    /// NoMemory if memory runs out.
     pub fn changes(&self) -> Result<FactChanges, NoMemory>
         ensures { IfOk result (λ c. IsDifference self.now.came self.now.left c.put c.gone) }
     {
         changes(self.alloc, &self.log.came, &self.log.left)
     }
 
-    /// The facts' rows are kept as they are now: nothing has changed of them.
+    /// Keeps the facts' rows as they are: nothing has changed since.
     pub fn keep(&mut self)
         ensures { self.new ≡ record self.old { came = []; left = [] } }
     {
         self.log.clear();
     }
 
-    /// Leaves, of the uploads, those alone that count beside the testing. It takes no memory.
+    /// Leaves only the uploads that count with the testing. It allocates nothing.
     pub fn trim<T: HasSources>(&mut self, testing: &T)
         ensures { self.new ≡ trimmed (T.suite testing.now) self.old }
     {
@@ -276,7 +276,7 @@ impl Facts {
         trim_uploads(&mut self.uploads, &mut self.log.left, sources);
     }
 
-    /// Takes what one more message says.
+    /// Takes the content of one more message.
     pub fn take(&mut self, sender: u32, number: u32, item: &Item) -> Result<(), NoMemory>
         ensures ok { OnOk result ((s : Covered) (t : Suite) → let m : CoveredItem = record { sender = sender; number = number; item = item.now } in
             StandsFor self.old s t → StandsFor self.new (m ∷ s) t) }
@@ -291,7 +291,7 @@ impl Facts {
         self.take_owned(sender, number, copy)
     }
 
-    /// Takes what one more message says, and the item itself: the facts keep its binaries, and copy none of them.
+    /// Takes the content of one more message by value: the facts keep its binaries, and copy none of them.
     pub fn take_owned(&mut self, sender: u32, number: u32, item: Item) -> Result<(), NoMemory>
         ensures ok { OnOk result ((s : Covered) (t : Suite) → let m : CoveredItem = record { sender = sender; number = number; item = item } in
             StandsFor self.old s t → StandsFor self.new (m ∷ s) t) }
@@ -307,7 +307,7 @@ impl Facts {
         Ok(())
     }
 
-    /// What a message gives. Of what was built the clauses are shared with those that came before.
+    /// What a message gives. A build shares the clauses of earlier builds.
     fn entry(&mut self, sender: u32, number: u32, item: Item) -> Result<FactUpdate, NoMemory>
         ensures same { self.new ≡ self.old }
         ensures is { IfOk result (λ e. let m : CoveredItem = record { sender = sender; number = number; item = item } in e ≡ entry_of m) }
@@ -321,7 +321,7 @@ impl Facts {
         entry_of(sent, item)
     }
 
-    /// A message joins the lists of its kind.
+    /// Adds a message to the lists of its kind.
     fn put(&mut self, entry: FactUpdate) -> Result<(), NoMemory>
         ensures ok { OnOk result (self.new ≡ with_entry entry self.old) }
         ensures err { OnErr result (self.new ≡ self.old) }
@@ -338,7 +338,7 @@ impl Facts {
         }
     }
 
-    /// An upload joins the sources, and the uploads unless it is there.
+    /// Adds an upload to the sources, and to the uploads if it is new.
     fn take_upload(&mut self, upload: UploadIn) -> Result<(), NoMemory>
         ensures ok { OnOk result (self.new ≡ with_entry (Upload upload) self.old) }
         ensures err { OnErr result (self.new ≡ self.old) }
@@ -354,7 +354,7 @@ impl Facts {
         Ok(())
     }
 
-    /// A drop joins the greatest drops, and takes its row.
+    /// Adds a drop to the greatest drops, and removes its row.
     fn take_drop(&mut self, drop: DropIn) -> Result<(), NoMemory>
         ensures ok { OnOk result (self.new ≡ with_entry (Dropped drop) self.old) }
         ensures err { OnErr result (self.new ≡ self.old) }
@@ -369,7 +369,7 @@ impl Facts {
         Ok(())
     }
 
-    /// A message on a bug joins the states of the bugs.
+    /// Adds a message on a bug to the states of the bugs.
     fn take_bug(&mut self, bug: BugIn) -> Result<(), NoMemory>
         ensures ok { OnOk result (self.new ≡ with_entry (Bug bug) self.old) }
         ensures err { OnErr result (self.new ≡ self.old) }
@@ -382,7 +382,7 @@ impl Facts {
         Ok(())
     }
 
-    /// The builds of one message join the rows, each where it stands beside the drops.
+    /// Adds those builds of one message that outlive the drops.
     fn take_builds(&mut self, builds: Vec<BuildIn>) -> Result<(), NoMemory>
         ensures ok { OnOk result (self.new ≡ noted (shift_builds (stands_beside self.old.drops) builds.items self.old.rows)
             (record self.old { rows = with_builds (stands_beside self.old.drops) builds.items self.old.rows })) }
@@ -394,7 +394,7 @@ impl Facts {
         Ok(())
     }
 
-    /// A hint joins the hints.
+    /// Adds a hint to the hints.
     fn take_hint(&mut self, hint: HintIn) -> Result<(), NoMemory>
         ensures ok { OnOk result (self.new ≡ with_entry (AHint hint) self.old) }
         ensures err { OnErr result (self.new ≡ self.old) }
@@ -410,7 +410,7 @@ impl Facts {
         Ok(())
     }
 
-    /// An unhint joins the unhints.
+    /// Adds an unhint to the unhints.
     fn take_unhint(&mut self, unhint: UnhintIn) -> Result<(), NoMemory>
         ensures ok { OnOk result (self.new ≡ with_entry (Unhint unhint) self.old) }
         ensures err { OnErr result (self.new ≡ self.old) }
@@ -426,7 +426,7 @@ impl Facts {
         Ok(())
     }
 
-    /// A message on delays gives way to the last one, or comes in its place.
+    /// Keeps the later of a message on delays and the last one.
     fn take_delays(&mut self, delays: DelaysIn) -> Result<(), NoMemory>
         ensures ok { OnOk result (self.new ≡ with_entry (Delays delays) self.old) }
         ensures err { OnErr result (self.new ≡ self.old) }
@@ -442,9 +442,8 @@ impl Facts {
         Ok(())
     }
 
-    /// Puts one kept row back, with the item of the message that it names. A row of which the item gives no fact puts
-    /// nothing back. The log stays: what is put back hasn't come since. NoMemory where memory runs out, and then nothing
-    /// changes.
+    /// Restores one kept row, with the item of its message. If the item gives no such fact, nothing is restored. The
+    /// log is unchanged: a restored row hasn't come since. NoMemory if memory runs out; then nothing changes.
     pub fn restore(&mut self, row: FactRow, item: &Item) -> Result<(), NoMemory>
         ensures ok { OnOk result (self.new ≡ restored (row, item.now) self.old) }
         ensures err { OnErr result (self.new ≡ self.old) }
@@ -467,7 +466,7 @@ impl Facts {
         }
     }
 
-    /// An upload comes back among unstable's sources.
+    /// Restores an upload to unstable's sources.
     fn restore_source(&mut self, sent: Sent, item: &Item) -> Result<(), NoMemory>
         ensures ok { OnOk result (let m = said sent.sender sent.number item.now in self.new ≡ record self.old { sources = put_given with_upload (upload_of m) self.old.sources }) }
         ensures err { OnErr result (self.new ≡ self.old) }
@@ -480,7 +479,7 @@ impl Facts {
         Ok(())
     }
 
-    /// An upload comes back among the uploads, unless it is there.
+    /// Restores an upload to the uploads, unless it is already there.
     fn restore_upload(&mut self, sent: Sent, item: &Item) -> Result<(), NoMemory>
         ensures ok { OnOk result (let m = said sent.sender sent.number item.now in self.new ≡ record self.old { uploads = put_given with_kept (upload_of m) self.old.uploads }) }
         ensures err { OnErr result (self.new ≡ self.old) }
@@ -493,7 +492,7 @@ impl Facts {
         Ok(())
     }
 
-    /// A build comes back among unstable's rows.
+    /// Restores a build to unstable's rows.
     fn restore_build(&mut self, sent: Sent, item: &Item, place: u32) -> Result<(), NoMemory>
         ensures ok { OnOk result (let m = said sent.sender sent.number item.now in self.new ≡ record self.old { rows = put_given with_build (find (λ b. b.place == place) (builds_of m)) self.old.rows }) }
         ensures err { OnErr result (self.new ≡ self.old) }
@@ -504,7 +503,7 @@ impl Facts {
         Ok(())
     }
 
-    /// A drop comes back among the greatest ones. It takes no row.
+    /// Restores a drop to the greatest ones. It removes no row.
     fn restore_drop(&mut self, sent: Sent, item: &Item) -> Result<(), NoMemory>
         ensures ok { OnOk result (let m = said sent.sender sent.number item.now in self.new ≡ record self.old { drops = put_given with_greatest (drop_of m) self.old.drops }) }
         ensures err { OnErr result (self.new ≡ self.old) }
@@ -517,7 +516,7 @@ impl Facts {
         Ok(())
     }
 
-    /// A message on a bug comes back.
+    /// Restores a message on a bug.
     fn restore_bug(&mut self, sent: Sent, item: &Item) -> Result<(), NoMemory>
         ensures ok { OnOk result (let m = said sent.sender sent.number item.now in self.new ≡ record self.old { bugs = put_given with_bug (bug_of m) self.old.bugs }) }
         ensures err { OnErr result (self.new ≡ self.old) }
@@ -530,7 +529,7 @@ impl Facts {
         Ok(())
     }
 
-    /// A hint comes back.
+    /// Restores a hint.
     fn restore_hint(&mut self, sent: Sent, item: &Item) -> Result<(), NoMemory>
         ensures ok { OnOk result (let m = said sent.sender sent.number item.now in self.new ≡ record self.old { hints = put_given with_hint (hint_of m) self.old.hints }) }
         ensures err { OnErr result (self.new ≡ self.old) }
@@ -542,7 +541,7 @@ impl Facts {
         Ok(())
     }
 
-    /// An unhint comes back.
+    /// Restores an unhint.
     fn restore_unhint(&mut self, sent: Sent, item: &Item) -> Result<(), NoMemory>
         ensures ok { OnOk result (let m = said sent.sender sent.number item.now in self.new ≡ record self.old { unhints = put_given with_unhint (unhint_of m) self.old.unhints }) }
         ensures err { OnErr result (self.new ≡ self.old) }
@@ -554,7 +553,7 @@ impl Facts {
         Ok(())
     }
 
-    /// A message on delays comes back, unless a later one is there.
+    /// Restores a message on delays, unless there is a later one.
     fn restore_delays(&mut self, sent: Sent, item: &Item) -> Result<(), NoMemory>
         ensures ok { OnOk result (let m = said sent.sender sent.number item.now in self.new ≡ record self.old { delays = last_given (delays_of m) self.old.delays }) }
         ensures err { OnErr result (self.new ≡ self.old) }

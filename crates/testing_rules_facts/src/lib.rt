@@ -1,5 +1,5 @@
-//! The facts of the covered messages: taken one by one, with the lists that they stand in, unstable's rows in blocks,
-//! and what of them a run may use.
+//! The facts of the covered messages: how messages are taken one by one, the lists of facts, unstable's rows in blocks,
+//! and the part that a run may use.
 #![tactic(auto)]
 
 mod build_blocks;

@@ -1,4 +1,4 @@
-//! Unstable as moves see it.
+//! Unstable, for moves.
 
 ghost use Rattle.std.specs.Prelude.{◌≡◌, IfOk, length, option_copied};
 ghost use Rattle.std.specs.List.Sorted.{IsBinarySearchResult, IsSearchInRange};
@@ -15,7 +15,7 @@ use std::cmp::Ordering;
 use testing_rules_items::search_near;
 use testing_rules_model::{LentRow, SourceIn, UploadIn};
 
-/// Unstable as moves see it: its sources by name, and its rows by architecture and name, which are lent.
+/// Unstable in the form that moves use: its sources by name, and its rows, borrowed, by architecture and name.
 #[derive(Clone, Copy)]
 pub struct Unstable<'u, 'a> {
     pub sources: &'u [Box<UploadIn>],
@@ -30,7 +30,7 @@ fn place_in(found: Result<usize, usize>) -> usize {
     }
 }
 
-/// Where the sources have the name, or else where it belongs. The guessed place is tried first, and then the next one.
+/// The place of the name among the sources, or where it belongs. The guessed place is tried first, then the next one.
 fn place_near(sources: &[Box<UploadIn>], name: &str, guess: usize) -> Result<usize, usize>
     ensures bound { IsSearchInRange result (length (unboxed sources.now)) }
     ensures found { IsBinarySearchResult (λ u. byte_cmp u.source name.now) (unboxed sources.now) result }
@@ -44,7 +44,7 @@ fn place_near(sources: &[Box<UploadIn>], name: &str, guess: usize) -> Result<usi
     )
 }
 
-/// The source of a name, by where the name was found among sources in the order of their names, or where it belongs.
+/// The source of a name, from the place where the name was found among the ordered sources, or belongs.
 fn source_found<'a>(
     sources: &'a [Box<UploadIn>],
     name: &str,
@@ -64,7 +64,7 @@ fn source_found<'a>(
     }
 }
 
-/// The source of a name, among sources in the order of their names.
+/// The source of a name, among sources ordered by name.
 pub fn source_in<'a>(sources: &'a [Box<UploadIn>], name: &str) -> Option<&'a UploadIn>
     requires { AreBySource (unboxed sources.now) }
     ensures { option_copied result ≡ rules.source_in (unboxed sources.now) name.now }
@@ -72,8 +72,7 @@ pub fn source_in<'a>(sources: &'a [Box<UploadIn>], name: &str) -> Option<&'a Upl
     source_found(sources, name, place_of_upload(sources, name))
 }
 
-/// The source of a name, among sources in the order of their names. The guessed place is tried first, and then the next
-/// one.
+/// The source of a name, among sources ordered by name. The guessed place is tried first, then the next one.
 pub fn source_near<'a>(
     sources: &'a [Box<UploadIn>],
     name: &str,
@@ -85,8 +84,8 @@ pub fn source_near<'a>(
     source_found(sources, name, place_near(sources, name, guess))
 }
 
-/// Where a group's first source is, among sources in the order of their names. The guessed place is tried first, and then
-/// the next one. It is a guess for `source_near`, and no answer rests on it.
+/// The place of a group's first source, among sources ordered by name. The guessed place is tried first, then the next
+/// one. It is only a guess for `source_near`: no result depends on it.
 pub fn place_of_group(sources: &[Box<UploadIn>], group: &[Text], guess: usize) -> usize {
     match group.first() {
         Some(name) => place_in(place_near(sources, name.as_str(), guess)),
@@ -94,7 +93,7 @@ pub fn place_of_group(sources: &[Box<UploadIn>], group: &[Text], guess: usize) -
     }
 }
 
-/// The source as testing holds it, once its unstable version is there.
+/// The source in testing, once its unstable version has moved.
 pub fn as_source(alloc: Global, upload: &UploadIn) -> Result<SourceIn, NoMemory>
     ensures { IfOk result (λ x. x ≡ rules.as_source upload.now) }
 {

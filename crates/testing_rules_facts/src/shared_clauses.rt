@@ -1,4 +1,4 @@
-//! Clauses that builds of one package have in common.
+//! Clauses shared by builds of one package.
 
 ghost use Rattle.std.specs.Prelude.{◌≡◌, IfOk, IfSome};
 
@@ -10,14 +10,14 @@ use testing_install::hash_of;
 use testing_rules_items::{Binaries, Item};
 use testing_rules_model::are_same;
 
-/// The clauses of the binary package that came last of each name, by the hash of the name. Most packages need the same on
+/// The clauses of the last binary package of each name, by the hash of the name. Most packages have the same needs on
 /// each architecture, so that their builds can share one list.
 #[derive(Drop)]
 pub struct LastClauses {
     clauses: HashMap<u64, Clauses>,
 }
 
-/// The clauses that came last at the hash, if they equal these.
+/// The last clauses at the hash, if they equal these.
 fn equal_clauses(
     last: &HashMap<u64, Clauses>,
     hash: u64,
@@ -38,7 +38,7 @@ fn equal_clauses(
 }
 
 impl LastClauses {
-    /// None has come.
+    /// No clauses yet.
     pub fn new(alloc: Global) -> LastClauses {
         LastClauses {
             clauses: HashMap::new(alloc),
@@ -68,7 +68,7 @@ impl LastClauses {
         Ok(())
     }
 
-    /// The same item. What was built shares clauses with what came before.
+    /// The same item. A build shares the clauses of earlier ones.
     pub fn shared(&mut self, item: Item) -> Result<Item, NoMemory>
         ensures { IfOk result (λ shared. shared ≡ item) }
     {

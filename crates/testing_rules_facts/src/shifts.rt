@@ -1,4 +1,4 @@
-//! The rows of what gives way to a hint or an unhint, read off before that is put in, and of the last delays.
+//! The row that gives way to a hint or an unhint, found before that is put in, and the row of the last delays.
 
 ghost use Rattle.std.specs.Prelude.{◌≡◌, map, option_to_list};
 ghost use Rattle.testing_rules_facts.specs.HintOrder.{AreHintsByNumber, AreUnhintsByNumber};

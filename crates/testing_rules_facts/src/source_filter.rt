@@ -1,4 +1,4 @@
-//! A few sources among all, by the hashes of their names.
+//! A few of all sources, by the hashes of their names.
 
 ghost use Rattle.std.specs.Prelude.{◌≡◌, ℕ, IfOk};
 ghost use Rattle.std.specs.List.{list_all};
@@ -13,18 +13,18 @@ use std::collections::HashSet;
 use testing_install::hash_of;
 use testing_rules_model::{Excuse, LentRow, SharedBinary};
 
-/// Hashes of sources' names. A source whose name has the hash of another's is taken for it, so they tell which sources
-/// are certainly not let through.
+/// Hashes of sources' names. Two names with the same hash can't be told apart, so the set only shows which sources
+/// certainly don't pass.
 pub type Hashes = HashSet<u64>;
 
-/// The sources that are let through: every one, or those of these hashes.
+/// The sources that pass: all, or those with these hashes.
 #[derive(Drop)]
 pub enum SourceFilter {
     Every,
     Those(Hashes),
 }
 
-/// The hashes of the names of the sources that have an excuse.
+/// The hashes of the names of the sources with an excuse.
 fn hashes_of_excused(alloc: Global, excuses: &[Excuse]) -> Result<Vec<u64>, NoMemory>
     ensures { IfOk result (λ hashes. hashes.items ≡ rules.excused excuses.now) }
 {
@@ -43,7 +43,7 @@ pub fn set_of(alloc: Global, hashes: &[u64]) -> Result<Hashes, NoMemory>
     Ok(set)
 }
 
-/// The sources that may move: those that have an excuse.
+/// The sources that may move: those with an excuse.
 pub fn candidates(alloc: Global, excuses: &[Excuse]) -> Result<Hashes, NoMemory>
     ensures { IfOk result (λ set. (hash : ℕ) → rules.is_one_of set.keys hash ≡ rules.is_one_of (rules.excused excuses.now) hash) }
 {
@@ -52,14 +52,14 @@ pub fn candidates(alloc: Global, excuses: &[Excuse]) -> Result<Hashes, NoMemory>
     Ok(set)
 }
 
-/// The hash is one of those.
+/// The hash is one of these.
 fn is_one_of(hashes: &Hashes, hash: u64) -> bool
     ensures { result ≡ rules.is_one_of hashes.now.keys hash }
 {
     hashes.contains(&hash)
 }
 
-/// The source of the package is let through.
+/// The package's source passes.
 pub fn filter_passes(passing: &SourceFilter, binary: &SharedBinary) -> bool
     ensures { result ≡ facts_rules.filter_passes passing.now binary.now.source }
 {
@@ -69,7 +69,7 @@ pub fn filter_passes(passing: &SourceFilter, binary: &SharedBinary) -> bool
     }
 }
 
-/// Each of the sources is one of those.
+/// Each of the sources is one of these.
 pub fn hashes_pass(hashes: &Hashes, group: &[Text]) -> bool
     ensures { result ≡ list_all (rules.hash_passes hashes.now.keys) group.now }
 {

@@ -25,10 +25,10 @@ use testing_rules_fact_order::{
 };
 use testing_rules_model::{BugIn, BuildIn, DropIn, FactRow, HintIn, UnhintIn, UploadIn};
 
-/// So many rows are tried from a guess on, before all are searched.
+/// The number of rows tried from a guess on, before all are searched.
 const TRIES: usize = 4;
 
-/// Where a list takes an element: over the one at a place, before it, or nowhere.
+/// Where a list takes an element: in place of the one at a place, before it, or nowhere.
 #[derive(Clone, Copy)]
 pub enum Slot {
     Over(usize),
@@ -36,14 +36,14 @@ pub enum Slot {
     Nowhere,
 }
 
-/// Where a list takes an element, and what that does to the rows of the facts.
+/// The slot of an element in a list, and its effect on the rows of the facts.
 #[derive(Clone, Copy)]
 pub struct Placement {
     pub slot: Slot,
     pub shifted: Shifted,
 }
 
-/// The list stays as it is, and so do the rows.
+/// The list and the rows are unchanged.
 fn no_step() -> Placement
     ensures slot { result.slot ≡ Slot.Nowhere }
     ensures left { result.shifted.left ≡ None }
@@ -58,7 +58,7 @@ fn no_step() -> Placement
     }
 }
 
-/// An element joins a list at its slot. There is room for it.
+/// Puts an element in a list at its slot. There is room for it.
 fn put_at<T: Drop>(list: &mut Vec<T>, slot: Slot, element: T)
     requires slot { IsSlotIn list.old.items slot }
     requires room { vec_len list.old < vec_capacity list.old }
@@ -75,7 +75,7 @@ fn put_at<T: Drop>(list: &mut Vec<T>, slot: Slot, element: T)
     }
 }
 
-/// Where the sources have the name, or else where it belongs.
+/// The place of the name among the sources, or where it belongs.
 pub fn place_of_upload(sources: &[Box<UploadIn>], name: &str) -> Result<usize, usize>
     ensures bound { IsSearchInRange result (length (unboxed sources.now)) }
     ensures found { IsBinarySearchResult (λ u. byte_cmp u.source name.now) (unboxed sources.now) result }
@@ -87,7 +87,7 @@ pub fn place_of_upload(sources: &[Box<UploadIn>], name: &str) -> Result<usize, u
     )
 }
 
-/// Where the sources take the upload, and what that does to the rows.
+/// The upload's slot among the sources, and its effect on the rows.
 fn step_of_upload(sources: &[Box<UploadIn>], upload: &UploadIn) -> Placement
     requires { AreBySource (unboxed sources.now) }
     ensures { IsStep (λ u. u.source) byte_cmp unstable.upload_order fact_rows.source_row upload.now (unboxed sources.now) result }
@@ -112,8 +112,8 @@ fn step_of_upload(sources: &[Box<UploadIn>], upload: &UploadIn) -> Placement
     }
 }
 
-/// An upload joins unstable's sources, where its own has none before it. Gives what that does to the rows. There is room
-/// for it.
+/// Adds an upload to unstable's sources, if its source has no earlier one, and returns the effect on the rows. There is
+/// room for it.
 pub fn put_upload(sources: &mut Vec<Box<UploadIn>>, upload: Box<UploadIn>) -> Shifted
     requires order { AreBySource (unboxed sources.old.items) }
     requires room { vec_len sources.old < vec_capacity sources.old }
@@ -125,7 +125,7 @@ pub fn put_upload(sources: &mut Vec<Box<UploadIn>>, upload: Box<UploadIn>) -> Sh
     step.shifted
 }
 
-/// An upload joins the uploads, unless it is there. Gives its row where it came. There is room for it.
+/// Adds an upload to the uploads and returns its row, unless it is already there. There is room for it.
 pub fn put_kept(uploads: &mut Vec<UploadIn>, upload: UploadIn) -> Option<FactRow>
     requires order { AreByMessage uploads.old.items }
     requires room { vec_len uploads.old < vec_capacity uploads.old }
@@ -143,7 +143,7 @@ pub fn put_kept(uploads: &mut Vec<UploadIn>, upload: UploadIn) -> Option<FactRow
     }
 }
 
-/// The order of a drop's architecture and name beside these.
+/// How a drop's architecture and name compare with these.
 fn order_drop(drop: &DropIn, arch: &str, name: &str) -> Ordering
     ensures { result ≡ pair_order (drop_pair drop.now) (arch.now, name.now) }
 {
@@ -153,7 +153,7 @@ fn order_drop(drop: &DropIn, arch: &str, name: &str) -> Ordering
     }
 }
 
-/// Where the drops have the architecture and the name, or else where these belong.
+/// The place of the architecture and the name among the drops, or where these belong.
 pub fn place_of_drop(drops: &[Box<DropIn>], arch: &str, name: &str) -> Result<usize, usize>
     ensures bound { IsSearchInRange result (length (unboxed drops.now)) }
     ensures found { IsBinarySearchResult (λ d. pair_order (drop_pair d) (arch.now, name.now)) (unboxed drops.now) result }
@@ -165,7 +165,7 @@ pub fn place_of_drop(drops: &[Box<DropIn>], arch: &str, name: &str) -> Result<us
     )
 }
 
-/// Where the drops take the drop, and what that does to the rows.
+/// The drop's slot among the drops, and its effect on the rows.
 fn step_of_drop(drops: &[Box<DropIn>], drop: &DropIn) -> Placement
     requires { AreDropsByPair (unboxed drops.now) }
     ensures { IsStep unstable.drop_pair unstable.pair_order unstable.drop_order fact_rows.drop_row drop.now (unboxed drops.now) result }
@@ -190,8 +190,8 @@ fn step_of_drop(drops: &[Box<DropIn>], drop: &DropIn) -> Placement
     }
 }
 
-/// A drop joins the greatest ones, where its architecture and name have none before it. Gives what that does to the rows.
-/// There is room for it.
+/// Adds a drop to the greatest ones, if its architecture and name have no earlier one, and returns the effect on the
+/// rows. There is room for it.
 pub fn put_drop(drops: &mut Vec<Box<DropIn>>, drop: Box<DropIn>) -> Shifted
     requires order { AreDropsByPair (unboxed drops.old.items) }
     requires room { vec_len drops.old < vec_capacity drops.old }
@@ -203,7 +203,7 @@ pub fn put_drop(drops: &mut Vec<Box<DropIn>>, drop: Box<DropIn>) -> Shifted
     step.shifted
 }
 
-/// Where the bugs have the number, or else where it belongs.
+/// The place of the number among the bugs, or where it belongs.
 pub fn place_of_bug(bugs: &[Box<BugIn>], bug: u32) -> Result<usize, usize>
     ensures bound { IsSearchInRange result (length (unboxed bugs.now)) }
     ensures found { IsBinarySearchResult (λ b. nat_cmp b.bug bug) (unboxed bugs.now) result }
@@ -215,7 +215,7 @@ pub fn place_of_bug(bugs: &[Box<BugIn>], bug: u32) -> Result<usize, usize>
     )
 }
 
-/// Where the states take the message on a bug, and what that does to the rows.
+/// The slot of the message among the states of bugs, and its effect on the rows.
 fn step_of_bug(bugs: &[Box<BugIn>], bug: &BugIn) -> Placement
     requires { AreByNumber (unboxed bugs.now) }
     ensures { IsStep (λ b. b.bug) nat_cmp unstable.bug_order fact_rows.bug_row bug.now (unboxed bugs.now) result }
@@ -240,8 +240,8 @@ fn step_of_bug(bugs: &[Box<BugIn>], bug: &BugIn) -> Placement
     }
 }
 
-/// A message on a bug joins the states, where the bug has none after it. Gives what that does to the rows. There is room
-/// for it.
+/// Adds a message on a bug to the states, if the bug has no later one, and returns the effect on the rows. There is
+/// room for it.
 pub fn put_bug(bugs: &mut Vec<Box<BugIn>>, bug: Box<BugIn>) -> Shifted
     requires order { AreByNumber (unboxed bugs.old.items) }
     requires room { vec_len bugs.old < vec_capacity bugs.old }
@@ -253,7 +253,7 @@ pub fn put_bug(bugs: &mut Vec<Box<BugIn>>, bug: Box<BugIn>) -> Shifted
     step.shifted
 }
 
-/// The order of a build's architecture and name beside these.
+/// How a build's architecture and name compare with these.
 pub fn order_pair(build: &BuildIn, arch: &str, name: &str) -> Ordering
     ensures { result ≡ pair_order (pair_of build.now) (arch.now, name.now) }
 {
@@ -263,7 +263,7 @@ pub fn order_pair(build: &BuildIn, arch: &str, name: &str) -> Ordering
     }
 }
 
-/// Where the rows have the architecture and the name, or else where these belong.
+/// The place of the architecture and the name among the rows, or where these belong.
 pub fn place_of_pair(rows: &[BuildIn], arch: &str, name: &str) -> Result<usize, usize>
     ensures bound { IsSearchInRange result (length rows.now) }
     ensures found { IsBinarySearchResult (λ b. pair_order (pair_of b) (arch.now, name.now)) rows.now result }
@@ -275,7 +275,7 @@ pub fn place_of_pair(rows: &[BuildIn], arch: &str, name: &str) -> Result<usize, 
     )
 }
 
-/// Where the rows have the architecture and the name, or else where these belong, if the row at the place is above
+/// The place of the architecture and the name among the rows, or where these belong, if the row at this place is above
 /// them. The row before it is tried first.
 fn place_below(rows: &[BuildIn], arch: &str, name: &str, place: usize) -> Result<usize, usize>
     requires within { place < length rows.now }
@@ -293,8 +293,8 @@ fn place_below(rows: &[BuildIn], arch: &str, name: &str, place: usize) -> Result
     }
 }
 
-/// Where the rows have the architecture and the name, or else where these belong. Some rows from the guess on are tried
-/// first, and the row before it.
+/// The place of the architecture and the name among the rows, or where these belong. Some rows from the guess on are
+/// tried first, and the row before it.
 fn place_from(rows: &[BuildIn], arch: &str, name: &str, guess: usize) -> Result<usize, usize>
     ensures bound { IsSearchInRange result (length rows.now) }
     ensures found { IsBinarySearchResult (λ b. pair_order (pair_of b) (arch.now, name.now)) rows.now result }
@@ -318,7 +318,7 @@ fn place_from(rows: &[BuildIn], arch: &str, name: &str, guess: usize) -> Result<
     place_of_pair(rows, arch, name)
 }
 
-/// Where the rows take the build, and what that does to the rows of the facts. That place is the next guess.
+/// The build's slot among the rows, and its effect on the rows of the facts. Its place is the next guess.
 fn step_of_build(rows: &[BuildIn], build: &BuildIn, guess: &mut usize) -> Placement
     requires { AreByPair rows.now }
     ensures { IsStep unstable.pair_of unstable.pair_order unstable.build_order fact_rows.build_row build.now rows.now result }
@@ -354,8 +354,8 @@ fn step_of_build(rows: &[BuildIn], build: &BuildIn, guess: &mut usize) -> Placem
     }
 }
 
-/// A build joins the rows, where its own has none before it. Gives what that does to the rows of the facts. There is room
-/// for it. Its place is looked for at the guess first, and is the next guess.
+/// Adds a build to the rows, if no row of its own comes before it, and returns the effect on the rows of the facts.
+/// There is room for it. Its place is searched from the guess on, and is the next guess.
 pub fn put_build(rows: &mut Vec<BuildIn>, guess: &mut usize, build: BuildIn) -> Shifted
     requires order { AreByPair rows.old.items }
     requires room { vec_len rows.old < vec_capacity rows.old }
@@ -369,7 +369,7 @@ pub fn put_build(rows: &mut Vec<BuildIn>, guess: &mut usize, build: BuildIn) -> 
     step.shifted
 }
 
-/// The build stands beside all of the drops.
+/// The build outlives all of the drops.
 pub fn stands_beside(drops: &[Box<DropIn>], build: &BuildIn) -> bool
     requires { AreDropsByPair (unboxed drops.now) }
     ensures { result ≡ taken.stands_beside (unboxed drops.now) build.now }
@@ -381,7 +381,7 @@ pub fn stands_beside(drops: &[Box<DropIn>], build: &BuildIn) -> bool
     }
 }
 
-/// The rows lose the one that the drop takes, if there is one. Gives its row of the facts.
+/// Removes the row that the drop takes, if there is one, and returns its row of the facts.
 pub fn remove_dropped(rows: &mut Vec<BuildIn>, drop: &DropIn) -> Option<FactRow>
     requires { AreByPair rows.old.items }
     ensures items { rows.new.items ≡ taken.with_drop drop.now rows.old.items }
@@ -403,7 +403,7 @@ pub fn remove_dropped(rows: &mut Vec<BuildIn>, drop: &DropIn) -> Option<FactRow>
     }
 }
 
-/// Where the hints have one of this number and sender, or else where it belongs.
+/// The place of the hint with this number and sender, or where it belongs.
 pub fn place_of_hint(hints: &[HintIn], hint: &HintIn) -> Result<usize, usize>
     ensures bound { IsSearchInRange result (length hints.now) }
     ensures found { IsBinarySearchResult (λ h. hint_order h hint.now) hints.now result }
@@ -415,7 +415,7 @@ pub fn place_of_hint(hints: &[HintIn], hint: &HintIn) -> Result<usize, usize>
     )
 }
 
-/// Where the list takes the hint.
+/// The hint's slot in the list.
 fn slot_of_hint(hints: &[HintIn], hint: &HintIn) -> Slot
     requires { AreHintsByNumber hints.now }
     ensures { IsSlotFor hints.now hint.now (taken.with_hint hint.now hints.now) result }
@@ -426,7 +426,7 @@ fn slot_of_hint(hints: &[HintIn], hint: &HintIn) -> Slot
     }
 }
 
-/// A hint joins the hints. There is room for it.
+/// Adds a hint to the hints. There is room for it.
 pub fn put_hint(hints: &mut Vec<HintIn>, hint: HintIn)
     requires order { AreHintsByNumber hints.old.items }
     requires room { vec_len hints.old < vec_capacity hints.old }
@@ -436,7 +436,7 @@ pub fn put_hint(hints: &mut Vec<HintIn>, hint: HintIn)
     put_at(hints, slot, hint);
 }
 
-/// Where the unhints have one of this number and sender, or else where it belongs.
+/// The place of the unhint with this number and sender, or where it belongs.
 pub fn place_of_unhint(unhints: &[UnhintIn], unhint: &UnhintIn) -> Result<usize, usize>
     ensures bound { IsSearchInRange result (length unhints.now) }
     ensures found { IsBinarySearchResult (λ c. unhint_order c unhint.now) unhints.now result }
@@ -448,7 +448,7 @@ pub fn place_of_unhint(unhints: &[UnhintIn], unhint: &UnhintIn) -> Result<usize,
     )
 }
 
-/// Where the list takes the unhint.
+/// The unhint's slot in the list.
 fn slot_of_unhint(unhints: &[UnhintIn], unhint: &UnhintIn) -> Slot
     requires { AreUnhintsByNumber unhints.now }
     ensures { IsSlotFor unhints.now unhint.now (taken.with_unhint unhint.now unhints.now) result }
@@ -459,7 +459,7 @@ fn slot_of_unhint(unhints: &[UnhintIn], unhint: &UnhintIn) -> Slot
     }
 }
 
-/// An unhint joins the unhints. There is room for it.
+/// Adds an unhint to the unhints. There is room for it.
 pub fn put_unhint(unhints: &mut Vec<UnhintIn>, unhint: UnhintIn)
     requires order { AreUnhintsByNumber unhints.old.items }
     requires room { vec_len unhints.old < vec_capacity unhints.old }

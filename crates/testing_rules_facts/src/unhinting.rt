@@ -10,8 +10,8 @@ use std::collections::HashSet;
 use std::marker::Model;
 use testing_rules_model::{HintIn, UnhintIn};
 
-/// Unhints, beside the set of the numbers that they cancel. So to ask about a hint takes one look-up, however many
-/// unhints there are.
+/// Unhints, with the set of the numbers that they cancel. So checking a hint takes one look-up, however many unhints
+/// there are.
 #[derive(Drop)]
 pub struct Unhints<'a> {
     unhints: &'a [UnhintIn],
@@ -49,7 +49,7 @@ fn number_set(alloc: Global, numbers: &[u32]) -> Result<HashSet<u32>, NoMemory>
     Ok(set)
 }
 
-/// The number is one of those.
+/// The number is one of these.
 fn has_number(numbers: &HashSet<u32>, number: u32) -> bool
     ensures { result ≡ list_any (λ n. number == n) numbers.now.keys }
 {
@@ -57,7 +57,7 @@ fn has_number(numbers: &HashSet<u32>, number: u32) -> bool
 }
 
 impl<'a> Unhints<'a> {
-    /// These unhints. NoMemory where memory runs out.
+    /// These unhints. NoMemory if memory runs out.
     pub fn of(alloc: Global, unhints: &'a [UnhintIn]) -> Result<Unhints<'a>, NoMemory>
         ensures { IfOk result (λ u. u ≡ unhints.now) }
     {

@@ -1,4 +1,4 @@
-//! Of the candidates that live, such as may all move together.
+//! Living candidates that may all move together.
 
 use crate::flags::{copy_flags, flags_of, is_set, is_set_for, set_all, set_places};
 use crate::scope::{ArchRows, Scope};
@@ -6,11 +6,11 @@ use deb_control::{Clause, NoMemory};
 use std::alloc::Global;
 use testing_rules_suites::is_watched_on;
 
-/// The most times that candidates are left out.
+/// The most rounds of leaving candidates out.
 const ROUNDS: u32 = 64;
 
-/// The candidates that move, by flags; the places of the rows that leave with them, by flags; and which rows work behind
-/// their move, for each architecture.
+/// The candidates that move, the places of the rows that leave with them, both as flags, and which rows work after
+/// their move on each architecture.
 #[derive(Drop)]
 pub struct Agreement {
     pub moving: Vec<bool>,
@@ -18,15 +18,15 @@ pub struct Agreement {
     pub after: Vec<Vec<bool>>,
 }
 
-/// The candidates that are to be left out, since a row of testing would be lost, and since one of their own would be.
+/// The candidates to leave out because a row of testing would be lost, and because one of their own would be.
 #[derive(Drop)]
 struct Objections {
     staying: Vec<usize>,
     coming: Vec<usize>,
 }
 
-/// Which rows leave once some candidates have moved: those of testing that one of them takes away, and those that the
-/// others bring.
+/// The rows that leave once some candidates have moved: rows of testing taken away by one of them, and the rows that
+/// the other candidates bring.
 fn leaving_flags(alloc: Global, scope: &Scope, moving: &[bool]) -> Result<Vec<bool>, NoMemory> {
     let mut flags = Vec::with_capacity(alloc, scope.pool.len())?;
     for place in 0..scope.pool.len() {
@@ -41,7 +41,7 @@ fn leaving_flags(alloc: Global, scope: &Scope, moving: &[bool]) -> Result<Vec<bo
     Ok(flags)
 }
 
-/// The rows of testing leave that have the key of this one.
+/// The rows of testing with the key of this one leave.
 fn leave_rivals(
     alloc: Global,
     scope: &Scope,
@@ -58,7 +58,7 @@ fn leave_rivals(
     Ok(())
 }
 
-/// Which rows work once the flagged ones have left and those at the places are lost.
+/// The rows that work once the flagged ones have left and those at the places are lost.
 fn flags_after(
     alloc: Global,
     up: &[bool],
@@ -73,7 +73,7 @@ fn flags_after(
     Ok(after)
 }
 
-/// The later of two candidates in the order in which they are left out: one that isn't wanted, and of two such the last.
+/// The later of two candidates in the order of leaving out: an unwanted one, and of two such the last.
 fn later(wanted: &[bool], first: Option<usize>, second: usize) -> usize {
     match first {
         Some(first) => {
@@ -88,7 +88,7 @@ fn later(wanted: &[bool], first: Option<usize>, second: usize) -> usize {
     }
 }
 
-/// The last of the candidates that take one of the rows away.
+/// The last candidate that takes one of the rows away.
 fn last_taker(
     alloc: Global,
     scope: &Scope,
@@ -117,7 +117,7 @@ fn is_any_set(flags: &[bool], places: &[usize]) -> bool {
     false
 }
 
-/// Who is to be left out for a clause of a row of testing that is lost: nobody where a row still meets it.
+/// The candidate to leave out for a clause of a lost row of testing: none if a row still meets it.
 fn objection_to(
     alloc: Global,
     scope: &Scope,
@@ -135,7 +135,7 @@ fn objection_to(
     }
 }
 
-/// Who is to be left out for a row of testing that is lost.
+/// The candidate to leave out for a lost row of testing.
 fn object_for_row(
     alloc: Global,
     scope: &Scope,
@@ -155,7 +155,7 @@ fn object_for_row(
     Ok(None)
 }
 
-/// Who is to be left out for the rows that an architecture loses.
+/// The candidates to leave out for the rows that an architecture loses.
 fn object(
     alloc: Global,
     scope: &Scope,
@@ -178,14 +178,14 @@ fn object(
     Ok(())
 }
 
-/// A watched row that is lost on an architecture.
+/// A watched row lost on an architecture.
 #[derive(Clone, Copy)]
 struct Lost {
     arch: u32,
     place: usize,
 }
 
-/// Those of the rows that are watched, and worked so far or come.
+/// Adds the rows that are watched, and worked so far or come.
 fn push_lost(
     lost: &mut Vec<Lost>,
     scope: &Scope,
@@ -206,7 +206,7 @@ fn push_lost(
     Ok(())
 }
 
-/// The watched rows that are lost once some candidates have moved, and what works then.
+/// The watched rows lost once some candidates have moved, and what works then.
 fn moved(
     alloc: Global,
     scope: &Scope,
@@ -232,7 +232,7 @@ fn moved(
     Ok((agreement, lost))
 }
 
-/// Who is to be left out: those for whose move a row of testing is lost, and where there are none, those whose own rows
+/// The candidates to leave out: those whose move loses a row of testing, or if there are none, those whose own rows
 /// don't work.
 fn left_out(
     alloc: Global,
@@ -254,7 +254,7 @@ fn left_out(
     }
 }
 
-/// Of the candidates that live, such as may all move together. Where that isn't found after so many times, nobody moves.
+/// Living candidates that may all move together. If none are found after this many rounds, nobody moves.
 pub fn agree(
     alloc: Global,
     scope: &Scope,

@@ -27,7 +27,7 @@ pub fn remaining<'a>(
     Ok(candidates)
 }
 
-/// The number of the candidate of a name, which is its place.
+/// The number of the candidate with a name: its place.
 pub fn number_of(candidates: &[&Excuse], name: &str) -> Option<usize> {
     candidates
         .binary_search_by(
@@ -46,7 +46,7 @@ fn is_up_to_date(facts: &Facts, row: &LentRow) -> bool {
     }
 }
 
-/// Those of unstable's rows that are current.
+/// Unstable's current rows.
 pub fn current_rows<'a>(
     alloc: Global,
     facts: &Facts,
@@ -61,7 +61,7 @@ pub fn current_rows<'a>(
     Ok(current)
 }
 
-/// Those of unstable's current rows that the candidates bring.
+/// Unstable's current rows that the candidates bring.
 pub fn brought_rows<'a>(
     alloc: Global,
     candidates: &[&Excuse],
@@ -87,7 +87,7 @@ pub fn named(alloc: Global, candidates: &[&Excuse], names: &[Text]) -> Result<Ve
     Ok(flags)
 }
 
-/// Those of the names that no candidate has.
+/// The names that no candidate has.
 pub fn other_names(
     alloc: Global,
     candidates: &[&Excuse],

@@ -1,7 +1,7 @@
-//! The candidates that no group frees. Whatever groups and single moves follow, the rows that stand once a candidate has
-//! moved are among those of testing that aren't its own, and those that candidates bring which live. Where a row that it
-//! brings isn't installable among these, or one of testing that stays whatever moves, the candidate is dead; and then
-//! its rows may not stand for any other.
+//! The candidates that no group frees. Whatever groups and single moves follow, the rows present once a candidate has
+//! moved are among those of testing that aren't its own and those that living candidates bring. The candidate is dead
+//! if a row that it brings, or one of testing that stays whatever moves, isn't installable among these; then its rows
+//! can't be used by any other.
 
 use crate::flags::{copy_flags, flags_of, is_set, is_set_for, set};
 use crate::found::DeadSource;
@@ -11,10 +11,10 @@ use std::alloc::Global;
 use testing_rules_model::{Excuse, LentRow};
 use testing_rules_suites::is_watched_on;
 
-/// The most times that a search looks for more of the dead.
+/// The most rounds of looking for more dead candidates.
 const ROUNDS: u32 = 64;
 
-/// A candidate that is found dead, and the row that isn't installable on an architecture.
+/// A candidate found dead, and the row that isn't installable on an architecture.
 #[derive(Clone, Copy)]
 struct Fall {
     number: usize,
@@ -22,14 +22,14 @@ struct Fall {
     place: usize,
 }
 
-/// Which candidates live, by flags, and the dead.
+/// Which candidates live, as flags, and the dead ones.
 #[derive(Drop)]
 pub struct Living {
     pub flags: Vec<bool>,
     pub dead: Vec<DeadSource>,
 }
 
-/// A dead candidate, as it is told.
+/// A dead candidate, for the result.
 fn dead_source(
     alloc: Global,
     candidate: &Excuse,
@@ -47,7 +47,7 @@ fn dead_source(
     })
 }
 
-/// A candidate dies, unless it is dead already.
+/// Kills a candidate, unless it is already dead.
 fn kill(
     alloc: Global,
     scope: &Scope,
@@ -70,7 +70,7 @@ fn kill(
     Ok(())
 }
 
-/// Candidates die.
+/// Kills candidates.
 fn kill_all(
     alloc: Global,
     scope: &Scope,
@@ -93,7 +93,7 @@ fn bringer(scope: &Scope, arch: u32, place: usize) -> Option<usize> {
     }
 }
 
-/// The candidates fall that bring one of the lost rows, if it is watched.
+/// Adds the falls of the candidates that bring one of the lost rows, if it is watched.
 fn push_falls(
     falls: &mut Vec<Fall>,
     scope: &Scope,
@@ -112,7 +112,7 @@ fn push_falls(
     Ok(())
 }
 
-/// The rows of all candidates come. Those candidates fall of which one doesn't work.
+/// The rows of all candidates come. Candidates with a row that doesn't work fall.
 fn falls_of_all(
     alloc: Global,
     scope: &Scope,
@@ -134,7 +134,7 @@ fn next_arch(arch: u32) -> u32 {
     arch.saturating_add(1)
 }
 
-/// The rows of some candidates leave for good. Those candidates fall of which one no longer works.
+/// The rows of some candidates leave for good. Candidates with a row that stops working fall.
 fn falls_without(
     alloc: Global,
     scope: &Scope,
@@ -165,7 +165,7 @@ fn rows_brought(alloc: Global, scope: &Scope, numbers: &[usize]) -> Result<Vec<u
     Ok(places)
 }
 
-/// A living candidate brings a row of the key of this one.
+/// A living candidate brings a row with this row's key.
 fn is_replaced(
     alloc: Global,
     scope: &Scope,
@@ -180,8 +180,8 @@ fn is_replaced(
     Ok(false)
 }
 
-/// A row of testing that works stays whatever moves: its source doesn't live, and nobody who lives brings a row of its
-/// key.
+/// A working row of testing stays whatever moves: its source isn't living, and no living candidate brings a row with
+/// its key.
 fn stays(
     alloc: Global,
     scope: &Scope,
@@ -198,7 +198,7 @@ fn stays(
     }
 }
 
-/// A candidate falls by the loss of a row that is watched: it brings the row, or the row is one of testing's that stays.
+/// A candidate falls by the loss of a watched row: it brings the row, or the row is one of testing's that stays.
 fn falls_by(
     alloc: Global,
     scope: &Scope,
@@ -218,7 +218,7 @@ fn falls_by(
     }
 }
 
-/// The row of an architecture by whose loss a candidate falls once its rows have left testing.
+/// The row of an architecture whose loss makes a candidate fall once its rows have left testing.
 fn fall_on(
     alloc: Global,
     scope: &Scope,
@@ -245,7 +245,7 @@ fn fall_on(
     Ok(None)
 }
 
-/// The row by whose loss a candidate falls once its rows have left testing.
+/// The row whose loss makes a candidate fall once its rows have left testing.
 fn fall_of(
     alloc: Global,
     scope: &Scope,
@@ -282,7 +282,7 @@ fn falls_by_leaving(
     Ok(falls)
 }
 
-/// The candidates die that fall once their rows have left testing.
+/// Kills the candidates that fall once their rows have left testing.
 fn kill_leaving(
     alloc: Global,
     scope: &Scope,
@@ -295,7 +295,8 @@ fn kill_leaving(
     kill_all(alloc, scope, living, &falls, rank)
 }
 
-/// Which candidates live, beside the dead. Behind it the rows stand that the living ones bring, and those of testing.
+/// The living candidates and the dead ones. Afterwards the rows of testing and those brought by living candidates are
+/// present.
 pub fn find_living(
     alloc: Global,
     scope: &Scope,

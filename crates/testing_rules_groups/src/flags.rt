@@ -1,9 +1,9 @@
-//! Flags by place. What is past their end isn't set.
+//! Flags by place. Flags past the end aren't set.
 
 use deb_control::NoMemory;
 use std::alloc::Global;
 
-/// So many flags.
+/// This many flags.
 pub fn flags_of(alloc: Global, count: usize, flag: bool) -> Result<Vec<bool>, NoMemory> {
     let mut flags = Vec::new(alloc);
     flags.resize(count, flag)?;
@@ -33,14 +33,14 @@ pub fn is_set_for(flags: &[bool], owner: Option<usize>) -> bool {
     }
 }
 
-/// The flag at the place becomes this one.
+/// Puts this flag at the place.
 pub fn set(flags: &mut Vec<bool>, place: usize, flag: bool) {
     if place < flags.len() {
         flags[place] = flag;
     }
 }
 
-/// The flags at the places become this one.
+/// Puts this flag at the places.
 pub fn set_all(flags: &mut Vec<bool>, places: &[usize], flag: bool) {
     for place in places {
         set(flags, *place, flag);
@@ -58,7 +58,7 @@ pub fn set_places(alloc: Global, flags: &[bool]) -> Result<Vec<usize>, NoMemory>
     Ok(places)
 }
 
-/// Some flag is set in the first ones, and not in the others.
+/// Some flag is set in the first list, and not in the second.
 pub fn is_one_more(flags: &[bool], others: &[bool]) -> bool {
     for (place, flag) in flags.iter().enumerate() {
         if *flag && !is_set(others, place) {

@@ -1,9 +1,9 @@
-//! What the search finds.
+//! The result of the search.
 
 use deb_control::Text;
 
-/// A candidate that no group frees: the package that isn't installable on an architecture among all rows that may stand
-/// once the candidate has moved. Of two of them the one with the lower rank was found first, without the other.
+/// A candidate that no group frees: the package isn't installable on an architecture among all rows that may be present
+/// once the candidate has moved. Of two, the one with the lower rank was found first, without the other.
 #[derive(Drop)]
 pub struct DeadSource {
     pub name: Text,
@@ -12,7 +12,8 @@ pub struct DeadSource {
     pub rank: u32,
 }
 
-/// A group whose hint would be too long for a message: its first source, how many it has, and the bytes of the hint.
+/// A group whose hint would be too long for a message: its first source, its number of sources, and the bytes of the
+/// hint.
 #[derive(Drop)]
 pub struct LongGroup {
     pub first: Text,
@@ -20,9 +21,9 @@ pub struct LongGroup {
     pub bytes: usize,
 }
 
-/// What the search finds: an `easy` hint for each group, in the order in which the groups may move, and the groups that
-/// are too long for a hint; how many candidates haven't moved behind the standing hints, and those of them that are dead;
-/// and those of the wanted sources that are no such candidates.
+/// The result of the search: an `easy` hint for each group, in the order in which the groups may move, and the groups
+/// that are too long for a hint; the number of candidates that haven't moved after today's hints, and the dead ones of
+/// them; and the wanted sources that aren't such candidates.
 #[derive(Drop)]
 pub struct Found {
     pub hints: Vec<Text>,

@@ -1,4 +1,4 @@
-//! Groups: each knot with all on which it rests that no group before it has.
+//! Groups: each knot with everything on which it rests, except what earlier groups have.
 
 use crate::flags::{flags_of, is_set, set_places};
 use crate::found::{Found, LongGroup};
@@ -7,7 +7,7 @@ use deb_control::{NoMemory, Text};
 use std::alloc::Global;
 use testing_rules_model::Excuse;
 
-/// The most bytes of a hint. A message has at most 65,536, and the rest of it is less than a hundred.
+/// The most bytes of a hint. A message has at most 65,536, and the rest of it is under a hundred.
 const MOST_BYTES: usize = 65_400;
 
 /// The hint that moves these candidates.
@@ -35,7 +35,7 @@ fn first_name(alloc: Global, candidates: &[&Excuse], numbers: &[usize]) -> Resul
     Ok(Text::from_str(alloc, "")?)
 }
 
-/// The bytes that a candidate takes in a hint.
+/// The bytes of a candidate in a hint.
 fn bytes_of(candidates: &[&Excuse], number: usize) -> usize {
     match candidates.get(number) {
         Some(candidate) => {
@@ -56,7 +56,7 @@ fn line_bytes(candidates: &[&Excuse], numbers: &[usize]) -> usize {
     bytes
 }
 
-/// A hint that moves these candidates; or, if it would be too long, a group without one.
+/// Adds a hint that moves these candidates; or, if it would be too long, a group without one.
 fn push_hint(
     alloc: Global,
     found: &mut Found,
@@ -78,7 +78,7 @@ fn push_hint(
     Ok(())
 }
 
-/// Hints that move these candidates, each behind those before it, as many in one as it may have.
+/// Adds hints that move these candidates, one after another, each with as many as it may have.
 fn push_in_parts(
     alloc: Global,
     found: &mut Found,
@@ -105,7 +105,7 @@ fn push_in_parts(
     Ok(())
 }
 
-/// The nodes that were visited, in that order.
+/// The visited nodes, in that order.
 fn nodes_of(alloc: Global, visits: &[Visit]) -> Result<Vec<usize>, NoMemory> {
     let mut nodes = Vec::with_capacity(alloc, visits.len())?;
     for visit in visits {
@@ -114,7 +114,7 @@ fn nodes_of(alloc: Global, visits: &[Visit]) -> Result<Vec<usize>, NoMemory> {
     Ok(nodes)
 }
 
-/// Those of the nodes that aren't in the knot.
+/// The nodes that aren't in the knot.
 fn beside(alloc: Global, nodes: &[usize], knot: &[usize]) -> Result<Vec<usize>, NoMemory> {
     let mut beside = Vec::new(alloc);
     for node in nodes {
@@ -125,8 +125,8 @@ fn beside(alloc: Global, nodes: &[usize], knot: &[usize]) -> Result<Vec<usize>, 
     Ok(beside)
 }
 
-/// A group of a knot and of those on which it rests. If its hint would be too long, those beside the knot have hints of
-/// their own in front: they rest on nothing of the knot.
+/// Adds the group of a knot and of those on which it rests. If its hint would be too long, the others get their own
+/// hints before it: they rest on nothing in the knot.
 fn push_group(
     alloc: Global,
     found: &mut Found,
@@ -144,7 +144,7 @@ fn push_group(
     push_hint(alloc, found, candidates, &nodes)
 }
 
-/// All that these nodes reach and that wasn't seen is visited.
+/// Visits everything that these nodes reach and that wasn't seen.
 fn visit_all(
     alloc: Global,
     walk: &mut Walk,
@@ -158,7 +158,7 @@ fn visit_all(
     Ok(())
 }
 
-/// The group of a knot: all that it reaches and no group before it has.
+/// The group of a knot: everything that it reaches, except what earlier groups have.
 fn group_of(
     alloc: Global,
     found: &mut Found,
@@ -175,7 +175,7 @@ fn group_of(
     Ok(seen)
 }
 
-/// All that the flagged nodes reach, and they themselves; or all nodes, where none is flagged.
+/// The flagged nodes and all that they reach; or all nodes, if none is flagged.
 fn reached(alloc: Global, rests: &[Vec<usize>], wanted: &[bool]) -> Result<Vec<bool>, NoMemory> {
     let roots = set_places(alloc, wanted)?;
     let mut walk = Walk::new(alloc, flags_of(alloc, rests.len(), false)?);
@@ -184,7 +184,7 @@ fn reached(alloc: Global, rests: &[Vec<usize>], wanted: &[bool]) -> Result<Vec<b
     Ok(seen)
 }
 
-/// The nodes of a knot, by number, if it has some and those are to move.
+/// The nodes of a knot, by number, if it has some and they are to move.
 fn knot_nodes(
     alloc: Global,
     knot: &Knot,
@@ -203,7 +203,8 @@ fn knot_nodes(
     }
 }
 
-/// The groups of the knots that the wanted candidates reach, or of all if none is wanted. What they move is told, by flags.
+/// Adds the groups of the knots reached from the wanted candidates, or of all if none is wanted. Returns flags of what
+/// they move.
 pub fn push_groups(
     alloc: Global,
     found: &mut Found,

@@ -1,31 +1,31 @@
-//! Knots: candidates that rest on each other, and in which order the others are finished.
+//! Knots: candidates that rest on each other, and the order in which the others are finished.
 
 use crate::flags::{flags_of, is_set, set};
 use deb_control::NoMemory;
 use std::alloc::Global;
 
-/// A node that is finished, and the one from which it was reached.
+/// A finished node, and the one from which it was reached.
 #[derive(Clone, Copy)]
 pub struct Visit {
     pub node: usize,
     pub root: usize,
 }
 
-/// A node on the way, and the number of the edge that is followed next.
+/// A node on the way, and the number of the next edge to follow.
 #[derive(Clone, Copy)]
 struct Stop {
     node: usize,
     edge: usize,
 }
 
-/// A walk over the edges: the nodes that were seen, and those that are finished, in that order.
+/// A walk over the edges: the nodes seen, and those finished, in that order.
 #[derive(Drop)]
 pub struct Walk {
     pub seen: Vec<bool>,
     pub visits: Vec<Visit>,
 }
 
-/// The node at which an edge ends, if there is such an edge.
+/// The node at the end of an edge, if there is such an edge.
 fn end_of(edges: &[Vec<usize>], stop: Stop) -> Option<usize> {
     match edges.get(stop.node) {
         Some(ends) => ends.get(stop.edge).copied(),
@@ -33,7 +33,7 @@ fn end_of(edges: &[Vec<usize>], stop: Stop) -> Option<usize> {
     }
 }
 
-/// How many edges there are.
+/// The number of edges.
 fn count_edges(edges: &[Vec<usize>]) -> usize {
     let mut count = 0usize;
     for ends in edges {
@@ -42,8 +42,7 @@ fn count_edges(edges: &[Vec<usize>]) -> usize {
     count
 }
 
-/// The most turns that a walk takes: one for each node that is begun, one for each that is finished, and one for each
-/// edge.
+/// The most turns of a walk: one for each node begun, one for each node finished, and one for each edge.
 pub fn most_turns(edges: &[Vec<usize>]) -> usize {
     let nodes = edges.len();
     nodes
@@ -53,7 +52,7 @@ pub fn most_turns(edges: &[Vec<usize>]) -> usize {
 }
 
 impl Walk {
-    /// Nothing is seen yet but what these flags say.
+    /// Nothing is seen yet, except for these flags.
     pub fn new(alloc: Global, seen: Vec<bool>) -> Walk {
         Walk {
             seen,
@@ -61,7 +60,7 @@ impl Walk {
         }
     }
 
-    /// A node is begun, unless it was seen.
+    /// Begins a node, unless it was seen.
     fn begin(&mut self, way: &mut Vec<Stop>, node: usize) -> Result<(), NoMemory> {
         if node < self.seen.len() && !is_set(&self.seen, node) {
             set(&mut self.seen, node, true);
@@ -70,7 +69,7 @@ impl Walk {
         Ok(())
     }
 
-    /// One step on the way: an edge is followed, or its last node is finished.
+    /// One step on the way: follows an edge, or finishes the last node.
     fn step(
         &mut self,
         edges: &[Vec<usize>],
@@ -95,7 +94,7 @@ impl Walk {
         }
     }
 
-    /// All that a node reaches is finished, each behind what it reaches, but for what was seen before.
+    /// Finishes everything that a node reaches, except what was seen before, each after what it reaches.
     pub fn visit(
         &mut self,
         alloc: Global,
@@ -115,7 +114,7 @@ impl Walk {
     }
 }
 
-/// The nodes as they are finished by a walk from these, each after what it reaches.
+/// The nodes in the order in which a walk from these finishes them, each after what it reaches.
 fn finish(alloc: Global, edges: &[Vec<usize>], order: &[usize]) -> Result<Vec<Visit>, NoMemory> {
     let turns = most_turns(edges);
     let mut walk = Walk::new(alloc, flags_of(alloc, edges.len(), false)?);
@@ -126,7 +125,7 @@ fn finish(alloc: Global, edges: &[Vec<usize>], order: &[usize]) -> Result<Vec<Vi
     Ok(visits)
 }
 
-/// The edges the other way round.
+/// The edges reversed.
 fn reversed(alloc: Global, edges: &[Vec<usize>]) -> Result<Vec<Vec<usize>>, NoMemory> {
     let mut back = Vec::with_capacity(alloc, edges.len())?;
     for _node in 0..edges.len() {
@@ -157,7 +156,7 @@ fn first_numbers(alloc: Global, count: usize) -> Result<Vec<usize>, NoMemory> {
     Ok(numbers)
 }
 
-/// The nodes, the last one first.
+/// The nodes in reverse order.
 fn nodes_from_last(alloc: Global, visits: &[Visit]) -> Result<Vec<usize>, NoMemory> {
     let mut nodes = Vec::with_capacity(alloc, visits.len())?;
     for visit in visits {
@@ -173,7 +172,7 @@ pub struct Knot {
     pub nodes: Vec<usize>,
 }
 
-/// A node goes to the last knot, if it has the same root, or else to a new one.
+/// Adds a node to the last knot if it has the same root, else to a new one.
 fn push_node(
     alloc: Global,
     knots: &mut Vec<Knot>,
@@ -191,7 +190,7 @@ fn push_node(
     Ok(())
 }
 
-/// The nodes by knots: those of one knot reach each other. A knot comes behind those that it reaches.
+/// The nodes in knots: those of one knot reach each other. A knot comes after those that it reaches.
 pub fn knots_of(alloc: Global, edges: &[Vec<usize>]) -> Result<Vec<Knot>, NoMemory> {
     let back = reversed(alloc, edges)?;
     let all = first_numbers(alloc, edges.len())?;

@@ -1,5 +1,5 @@
-//! Groups of candidates that may move together, each behind those before it, and the candidates that no group frees. The
-//! search promises nothing of what it finds: whoever prints its groups has a run try them first.
+//! Groups of candidates that may move together, in order, and the candidates that no group frees. The search promises
+//! nothing about its result: whoever prints its groups lets a run try them first.
 #![tactic(auto)]
 
 mod agreeing;

@@ -1,5 +1,5 @@
-//! Who rests on whom: a candidate on another one whose rows are needed before it may move. Where each candidate moves behind
-//! those on which it rests, or together with them, each clause of each row that stands is met at each moment.
+//! Who rests on whom: a candidate rests on another one whose rows are needed before it may move. If each candidate
+//! moves after those on which it rests, or with them, each clause of each present row is met at every moment.
 
 use crate::agreeing::Agreement;
 use crate::flags::is_set;
@@ -10,7 +10,7 @@ use testing_install::{NameIndex, note_row};
 use testing_rules_model::LentRow;
 use testing_rules_suites::is_row_on;
 
-/// An architecture as a search for rests sees it: which rows of testing work now, and which work behind the move of all.
+/// An architecture in a search for rests: which rows of testing work now, and which work after all candidates moved.
 #[derive(Clone, Copy)]
 struct Moment<'m> {
     agreement: &'m Agreement,
@@ -19,8 +19,8 @@ struct Moment<'m> {
     after: &'m [bool],
 }
 
-/// The rows that meet a clause: `now` those of testing that work, `later` the candidates that bring one that works behind
-/// the move.
+/// The rows that meet a clause: in `now` the working rows of testing, in `later` the candidates that bring a row that
+/// works after the move.
 #[derive(Drop)]
 struct Bearers {
     now: Vec<usize>,
@@ -45,7 +45,7 @@ fn has(numbers: &[usize], number: usize) -> bool {
     false
 }
 
-/// Two lists have a number in common.
+/// The two lists have a number in common.
 fn have_common(numbers: &[usize], others: &[usize]) -> bool {
     for number in numbers {
         if has(others, *number) {
@@ -55,7 +55,7 @@ fn have_common(numbers: &[usize], others: &[usize]) -> bool {
     false
 }
 
-/// The candidate rests on one of these already, or is one of them.
+/// The candidate already rests on one of these, or is one of them.
 fn is_settled(rests: &[Vec<usize>], number: usize, others: &[usize]) -> bool {
     match rests.get(number) {
         Some(rests) => has(others, number) || have_common(rests, others),
@@ -75,7 +75,7 @@ fn first_of(numbers: &[usize]) -> Option<usize> {
     first
 }
 
-/// A candidate rests on the first of these, unless it rests on one of them already, or is one of them.
+/// The candidate rests on the first of these, unless it already rests on one of them or is one of them.
 fn rest_on_one(
     rests: &mut Vec<Vec<usize>>,
     number: usize,
@@ -112,7 +112,7 @@ fn bearers_of(
     Ok(Bearers { now, later })
 }
 
-/// A row of testing that works now, and behind the move of all too, is among these.
+/// One of these is a row of testing that works now and after all candidates moved.
 fn is_any_lasting(moment: Moment, places: &[usize]) -> bool {
     for place in places {
         if is_set(moment.after, *place) {
@@ -138,7 +138,7 @@ fn is_handed_on_at(
     Ok(true)
 }
 
-/// The clause is handed on: each candidate that takes some row away which meets it now brings one that does.
+/// The clause is handed on: each candidate that takes away a row meeting it now brings one that does.
 fn is_handed_on(
     alloc: Global,
     scope: &Scope,
@@ -166,7 +166,7 @@ fn is_always_met(
     is_handed_on(alloc, scope, moment, bearers)
 }
 
-/// A candidate rests, for a row that it brings, on those that meet the clauses of the row.
+/// A candidate rests, for a row that it brings, on candidates that meet the row's clauses.
 fn rest_row(
     alloc: Global,
     scope: &Scope,
@@ -184,7 +184,7 @@ fn rest_row(
     Ok(())
 }
 
-/// The candidates rest on others for the rows that they bring.
+/// The candidates rest on others for their own rows.
 fn rest_coming(
     alloc: Global,
     scope: &Scope,
@@ -202,8 +202,8 @@ fn rest_coming(
     Ok(())
 }
 
-/// Whoever takes away one of the rows that meet a clause of a row of testing rests on a candidate that brings another; and
-/// where nobody does, on the one with which the row itself leaves.
+/// A candidate that takes away one of the rows meeting a clause of a row of testing rests on one that brings another;
+/// without such, on the one with which the row itself leaves.
 fn rest_takers(
     alloc: Global,
     scope: &Scope,
@@ -226,7 +226,7 @@ fn rest_takers(
     Ok(())
 }
 
-/// One of the places is of a row that meets the clause now and stays.
+/// One of the places has a row that meets the clause now and stays.
 fn is_any_staying(moment: Moment, places: &[usize]) -> bool {
     for place in places {
         if !is_set(&moment.agreement.leaving, *place) {
@@ -236,7 +236,7 @@ fn is_any_staying(moment: Moment, places: &[usize]) -> bool {
     false
 }
 
-/// A clause of a row of testing, all of whose bearers leave: whoever takes them away rests on others.
+/// A clause of a row of testing whose bearers all leave: the candidates that take them away rest on others.
 fn rest_for_clause(
     alloc: Global,
     scope: &Scope,
@@ -260,7 +260,7 @@ fn rest_for_clause(
     )
 }
 
-/// The clause names a package that a row bears which leaves.
+/// The clause names a package that a leaving row bears.
 fn is_touched(leaving: &NameIndex, clause: &Clause) -> bool {
     for alternative in clause.as_slice() {
         if !leaving.places(alternative.name.as_str()).is_empty() {
@@ -270,7 +270,7 @@ fn is_touched(leaving: &NameIndex, clause: &Clause) -> bool {
     false
 }
 
-/// A row of testing that works: whoever takes away what meets its clauses rests on others.
+/// A working row of testing: candidates that take away what meets its clauses rest on others.
 fn rest_for_row(
     alloc: Global,
     scope: &Scope,
@@ -291,7 +291,7 @@ fn rest_for_row(
     Ok(())
 }
 
-/// The candidates rest on others for the rows of testing that stand.
+/// The candidates rest on others for the present rows of testing.
 fn rest_standing(
     alloc: Global,
     scope: &Scope,
@@ -307,7 +307,7 @@ fn rest_standing(
     Ok(())
 }
 
-/// The names that rows of testing bear which leave.
+/// The names that leaving rows of testing bear.
 fn leaving_names(
     alloc: Global,
     scope: &Scope,
@@ -333,7 +333,7 @@ fn no_rests(alloc: Global, count: usize) -> Result<Vec<Vec<usize>>, NoMemory> {
     Ok(rests)
 }
 
-/// For each candidate those on which it rests.
+/// For each candidate, those on which it rests.
 pub fn rests_of(
     alloc: Global,
     scope: &Scope,

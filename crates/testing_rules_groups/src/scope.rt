@@ -1,4 +1,4 @@
-//! The rows that may stand, whose they are, and which of them work on each architecture.
+//! The rows that may be present, their owners, and which of them work on each architecture.
 
 use crate::candidates::number_of;
 use crate::flags::{flags_of, is_set_for, set_all};
@@ -9,8 +9,8 @@ use testing_install::meets;
 use testing_rules_model::{Excuse, LentRow};
 use testing_rules_suites::{ArchSuite, Pool, is_row_on};
 
-/// What a search looks at: the candidates by name, testing's rows, and behind them, from the place `first` on, those that
-/// the candidates bring. `owners` has for each row the number of the candidate whose source it names.
+/// The input of a search: the candidates by name, testing's rows, and after these, from the place `first` on, the rows
+/// that the candidates bring. `owners` has for each row the number of the candidate whose source it names.
 #[derive(Drop)]
 pub struct Scope<'a> {
     pub candidates: Vec<&'a Excuse>,
@@ -20,7 +20,7 @@ pub struct Scope<'a> {
     pub archs: u32,
 }
 
-/// The two rows are of one architecture and one name.
+/// The two rows have the same architecture and name.
 pub fn is_same_key(row: &LentRow, other: &LentRow) -> bool {
     row.arch == other.arch && row.binary.name.as_str() == other.binary.name.as_str()
 }
@@ -39,7 +39,7 @@ fn owners_of(
     Ok(owners)
 }
 
-/// Those of the places that stand below a first one.
+/// Adds the places below a first one.
 fn push_below(places: &mut Vec<usize>, others: &[usize], first: usize) -> Result<(), NoMemory> {
     for place in others {
         if *place < first {
@@ -50,7 +50,7 @@ fn push_below(places: &mut Vec<usize>, others: &[usize], first: usize) -> Result
 }
 
 impl<'a> Scope<'a> {
-    /// Testing's rows, and behind them those that the candidates bring.
+    /// Testing's rows, and after them those that the candidates bring.
     pub fn new(
         alloc: Global,
         archs: u32,
@@ -88,7 +88,7 @@ impl<'a> Scope<'a> {
         }
     }
 
-    /// The row is one of those that candidates bring, and its owner's flag is set.
+    /// The row is brought by a candidate, and its owner's flag is set.
     pub fn is_brought_by(&self, flags: &[bool], place: usize) -> bool {
         place >= self.first && is_set_for(flags, self.owner(place))
     }
@@ -101,7 +101,7 @@ impl<'a> Scope<'a> {
         }
     }
 
-    /// Those of the places whose rows are on the architecture and meet the clause.
+    /// Adds the places whose rows are on the architecture and meet the clause.
     fn push_bearers(
         &self,
         bearers: &mut Vec<usize>,
@@ -132,7 +132,7 @@ impl<'a> Scope<'a> {
         Ok(bearers)
     }
 
-    /// The row at the other place has the key of this one.
+    /// The row at the other place has this row's key.
     fn is_rival(&self, row: &LentRow, other: usize) -> bool {
         match self.row(other) {
             Some(other) => is_same_key(row, &other),
@@ -140,7 +140,7 @@ impl<'a> Scope<'a> {
         }
     }
 
-    /// The places of the rows that have the key of this one; its own is among them.
+    /// The places of the rows with this row's key, including its own.
     pub fn rivals(&self, alloc: Global, row: &LentRow) -> Result<Vec<usize>, NoMemory> {
         let mut rivals = Vec::new(alloc);
         for place in self.pool.of_name(row.binary.name.as_str()) {
@@ -151,8 +151,8 @@ impl<'a> Scope<'a> {
         Ok(rivals)
     }
 
-    /// The candidates that take a row of testing away by a move, of those whose flags are set: its own, and each that
-    /// brings a row of its key.
+    /// The flagged candidates that take a row of testing away by a move: its own, and each that brings a row with its
+    /// key.
     pub fn takers(
         &self,
         alloc: Global,
@@ -172,7 +172,7 @@ impl<'a> Scope<'a> {
         Ok(takers)
     }
 
-    /// The owners of those of the rows that candidates bring whose flags are set.
+    /// Adds the owners of those brought rows whose flags are set.
     fn push_bringers(
         &self,
         bringers: &mut Vec<usize>,
@@ -206,7 +206,7 @@ impl<'a> Scope<'a> {
     }
 }
 
-/// The rows of an architecture that stand, and which of them work. Flags of rows that aren't on it say nothing.
+/// The present rows of an architecture, and which of them work. Flags of rows that aren't on it mean nothing.
 #[derive(Drop)]
 pub struct ArchRows {
     suite: ArchSuite,
@@ -214,14 +214,14 @@ pub struct ArchRows {
 }
 
 impl ArchRows {
-    /// The rows of an architecture, none of which stands yet.
+    /// The rows of an architecture, all absent at first.
     fn new(alloc: Global, arch: u32, pool: &Pool) -> Result<ArchRows, NoMemory> {
         let suite = ArchSuite::new(alloc).with_rows(alloc, arch, pool, 0)?;
         let up = flags_of(alloc, pool.len(), false)?;
         Ok(ArchRows { suite, up })
     }
 
-    /// The places of the rows that no longer work once those at some places have left; they stay.
+    /// The places of the rows that stop working once those at some places have left; the rows are unchanged.
     pub fn lost_without(
         &mut self,
         alloc: Global,
@@ -230,7 +230,7 @@ impl ArchRows {
         self.suite.trial(alloc, leaving, &[])
     }
 
-    /// The rows at some places come. Those of them are given that don't work.
+    /// The rows at some places come. Returns those that don't work.
     pub fn add(&mut self, alloc: Global, coming: &[usize]) -> Result<SmallVec<usize, 4>, NoMemory> {
         let lost = self.suite.trial(alloc, &[], coming)?;
         self.suite.change(alloc, &[], coming)?;
@@ -239,7 +239,7 @@ impl ArchRows {
         Ok(lost)
     }
 
-    /// The rows at some places leave. Those are given that no longer work.
+    /// The rows at some places leave. Returns those that stop working.
     pub fn remove(
         &mut self,
         alloc: Global,
@@ -262,7 +262,7 @@ fn places_between(alloc: Global, from: usize, to: usize) -> Result<Vec<usize>, N
     Ok(places)
 }
 
-/// The rows of each architecture, of which those of testing stand.
+/// The rows of each architecture, with those of testing present.
 pub fn arch_rows(alloc: Global, scope: &Scope) -> Result<Vec<ArchRows>, NoMemory> {
     let standing = places_between(alloc, 0, scope.first)?;
     let mut all = Vec::new(alloc);

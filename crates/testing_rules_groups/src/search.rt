@@ -1,4 +1,4 @@
-//! The search for groups. It goes from above: it leaves out who is dead, lets all others move together, and only then asks
+//! The search for groups. It works top down: it leaves out the dead, lets all others move together, and only then asks
 //! who rests on whom.
 
 use crate::agreeing::{Agreement, agree};
@@ -17,11 +17,11 @@ use testing_rules_items::Archs;
 use testing_rules_model::{Decision, Excuse, Excuses, LentRow};
 use testing_rules_suites::{Testing, lend_rows};
 
-/// The most rounds of a search: a candidate that had to be left out may find a group once others have moved.
+/// The most rounds of a search: a left-out candidate may find a group once others have moved.
 const ROUNDS: u32 = 3;
 
-/// Where a search stands: the rows of testing, the candidates that haven't moved, whether no group moved before, and
-/// whether all of the candidates that live agreed.
+/// The state of a search: the rows of testing, the candidates that haven't moved, whether no group moved before, and
+/// whether all living candidates agreed.
 #[derive(Drop)]
 struct Stage<'a> {
     rows: Vec<LentRow<'a>>,
@@ -52,7 +52,7 @@ fn rows_after<'a>(
     Ok(after)
 }
 
-/// The candidates that live and haven't moved.
+/// The living candidates that haven't moved.
 fn left_over<'a>(
     alloc: Global,
     candidates: &[&'a Excuse],
@@ -68,7 +68,7 @@ fn left_over<'a>(
     Ok(left)
 }
 
-/// The groups of candidates that agree. Which of them moved is told, by flags.
+/// The groups of candidates that agree, with flags of those that moved.
 fn groups_of(
     alloc: Global,
     scope: &Scope,
@@ -93,7 +93,7 @@ fn wanted_of<'f>(names: &[Text], flags: &'f [bool]) -> Option<&'f [bool]> {
     if names.is_empty() { None } else { Some(flags) }
 }
 
-/// One round of a search. Who is dead is told in the first one alone: behind a group it says nothing of all groups.
+/// One round of a search. Only the first round reports dead candidates: later rounds assume that earlier groups moved.
 fn search_once<'a>(
     alloc: Global,
     archs: u32,
@@ -139,7 +139,7 @@ fn search_once<'a>(
     })
 }
 
-/// Where a search begins: behind the removals and groups of a run by the hints that stand.
+/// The start of a search: after the removals and groups of a run by today's hints.
 fn first_stage<'a>(
     alloc: Global,
     excuses: &'a Excuses,
@@ -159,9 +159,9 @@ fn first_stage<'a>(
     })
 }
 
-/// Groups of candidates that may move, each behind those before it, once the hints that stand are done: those of the knots
-/// on which the wanted sources rest, or all where none is wanted. The decisions are those of a run by the hints that stand,
-/// or none where no such hint moves or removes anything.
+/// Groups of candidates that may move one after another once today's hints are done: those of the knots on which the
+/// wanted sources rest, or all if none is wanted. The decisions are those of a run by today's hints, or none if no such
+/// hint moves or removes anything.
 pub fn find_groups(
     alloc: Global,
     archs: &Archs,

@@ -1,4 +1,4 @@
-//! Testing behind the removals and the groups of a run by hints that stand already.
+//! Testing after the removals and the groups of a run by today's hints.
 
 use crate::scope::is_same_key;
 use deb_control::NoMemory;
@@ -8,7 +8,7 @@ use testing_install::{NameIndex, hash_of, note_row};
 use testing_rules_facts::set_of;
 use testing_rules_model::{Decision, LentRow, Moved};
 
-/// The sources that a run's hints took out of testing or moved, and those that they moved, by the hashes of their names.
+/// The sources that a run's hints removed or moved, and those that they moved, by the hashes of their names.
 #[derive(Drop)]
 pub struct StandingMoves {
     left: HashSet<u64>,
@@ -23,7 +23,7 @@ fn push_hashes(hashes: &mut Vec<u64>, items: &[Moved]) -> Result<(), NoMemory> {
     Ok(())
 }
 
-/// The sources that a decision by a hint took out of testing or moved, and those that it moved.
+/// The sources that a decision by a hint removed or moved, and those that it moved.
 fn push_decision(
     left: &mut Vec<u64>,
     moved: &mut Vec<u64>,
@@ -39,7 +39,7 @@ fn push_decision(
     }
 }
 
-/// The sources that a run's hints took out of testing or moved.
+/// The sources that a run's hints removed or moved.
 pub fn standing_moves(alloc: Global, decisions: &[Decision]) -> Result<StandingMoves, NoMemory> {
     let mut left = Vec::new(alloc);
     let mut moved = Vec::new(alloc);
@@ -73,7 +73,7 @@ impl StandingMoves {
         Ok(arrivals)
     }
 
-    /// The rows of testing behind the removals and groups, where unstable has these current rows.
+    /// The rows of testing after the removals and groups, with these current rows of unstable.
     pub fn rows_behind<'a>(
         &self,
         alloc: Global,
@@ -103,7 +103,7 @@ fn names_of(alloc: Global, rows: &[LentRow]) -> Result<NameIndex, NoMemory> {
     Ok(names)
 }
 
-/// One of the rows, whose places stand by name, has the key of this one.
+/// One of the rows, found by their names, has this row's key.
 fn is_replaced(names: &NameIndex, rows: &[LentRow], row: &LentRow) -> bool {
     for place in names.places(row.binary.name.as_str()) {
         if let Some(other) = rows.get(*place) {

@@ -1,4 +1,4 @@
--- Architectures: what their list may be.
+-- The architectures of an office.
 use Rattle.std.specs.Prelude.{◌≡◌, ◌≤◌, Bool, true, not, ◌&&◌, ◌||◌, nat_le, if◌then◌else◌, List, length, codes, Result, Ok, Err}
 use Rattle.std.specs.List.{list_all}
 use Rattle.std.specs.Str.{bytes_eq}
@@ -8,7 +8,7 @@ use Rattle.testing_rules_items.specs.Distinct.{is_distinct}
 use Rattle.testing_rules_items.specs.declared.archs.ArchsFault.{ArchsFault}
 use Rattle.testing_rules_items.specs.declared.archs.ArchsFault.TheVariants.{BadArchitecture, TooMany, NoMemory}
 
--- words in the place of an architecture that stand for several or for sources (Debian Policy 5.6.8)
+-- architecture words that mean several architectures, or sources (Debian Policy 5.6.8)
 abbrev pub is_reserved : Text → Bool
 is_reserved name = bytes_eq name (codes "all") || bytes_eq name (codes "any") || bytes_eq name (codes "source")
 
@@ -23,7 +23,7 @@ pub record IsArchs (names : List Text) : Type 0 where
   pub named : list_all is_arch_name names ≡ true
   pub distinct : is_distinct names ≡ true
 
--- architectures: one at least, each with a good name, and none twice
+-- architectures: at least one, each with a valid name, all different
 unfoldable pub are_archs : List Text → Bool
 are_archs names = nat_le 1 (length names) && list_all is_arch_name names && is_distinct names
 
@@ -33,7 +33,7 @@ archs_of names =
     if are_archs names then if nat_le (length names) most_archs then Ok names else Err TooMany
     else Err BadArchitecture
 
--- an answer is the one that is due; in the place of good architectures it may be that memory ran out
+-- the result is the correct one, or for valid architectures possibly that memory ran out
 abbrev pub GivesArchs : Result (List Text) ArchsFault → List Text → Type 0
 GivesArchs (Ok archs) names = archs_of names ≡ Ok archs
 GivesArchs (Err BadArchitecture) names = archs_of names ≡ Err BadArchitecture

@@ -8,7 +8,7 @@ ghost use Rattle.testing_rules_items.specs.Archs.{are_archs, is_arch_name, is_re
 use crate::distinct::are_distinct;
 use deb_control::{is_lower_or_digit, is_qualifier_char};
 
-/// Whether there is a name at least, each is one of an architecture, and none stands twice.
+/// Whether there is at least one name, each is an architecture's, and all are different.
 #[tactic(auto, unfolding(crate::specs::Archs::are_archs))]
 pub fn are_archs(names: &[&str]) -> bool
     ensures { result ≡ are_archs (map (λ n. n.now) names.now) }

@@ -12,13 +12,13 @@ use std::alloc::{AllocError, AllocFailed, Global};
 use std::marker::Model;
 use thiserror::Error;
 
-/// The place that stands for `all` wherever an architecture is named by its place.
+/// The place of `all` wherever a place names an architecture.
 pub const ALL: u32 = 16;
 
-/// Why names aren't those of an office's architectures. The first that applies is given.
+/// Why names aren't those of an office's architectures. The first fault that applies is reported.
 #[derive(Clone, Copy, Debug, PartialEq, Eq, Error)]
 pub enum ArchsFault {
-    /// There is no name, one isn't an architecture's, or one stands twice.
+    /// There is no name, one isn't an architecture's, or one occurs twice.
     #[error("a bad architecture")]
     BadArchitecture,
 
@@ -26,7 +26,7 @@ pub enum ArchsFault {
     #[error("too many architectures")]
     TooMany,
 
-    /// A growth of memory was refused.
+    /// An allocation failed.
     #[error("out of memory")]
     NoMemory,
 }
@@ -72,7 +72,7 @@ impl Model for Archs {
 }
 
 impl Archs {
-    /// These architectures. It takes no memory.
+    /// These architectures. It allocates nothing.
     pub fn of(names: Vec<Text>) -> Archs
         requires { IsArchs names.items }
         ensures { result ≡ names.items }
@@ -80,8 +80,8 @@ impl Archs {
         Archs { names }
     }
 
-    /// The architectures of these names, in order; else `BadArchitecture` or `TooMany`, the first that applies.
-    /// `NoMemory` comes only where the names are good.
+    /// The architectures with these names, in order; else `BadArchitecture` or `TooMany`, the first that applies.
+    /// `NoMemory` comes only if the names are valid.
     #[tactic(auto, unfolding(crate::specs::Archs::archs_of))]
     pub fn parse(alloc: Global, names: &[&str]) -> Result<Archs, ArchsFault>
         ensures { GivesArchs result (map (λ n. n.now) names.now) }
@@ -113,7 +113,7 @@ impl Archs {
         Ok(Archs { names })
     }
 
-    /// How many are listed.
+    /// The number of architectures.
     pub fn len(&self) -> u32
         ensures len { result ≡ length self.now }
         ensures few { result ≤ 16 }
@@ -121,7 +121,7 @@ impl Archs {
         self.names.len() as u32
     }
 
-    /// The name of the architecture at a place, `all` for its place, and nothing past the end.
+    /// The name of the architecture at a place, `all` for its place, or an empty text past the end.
     pub fn name(&self, place: u32) -> &str
         ensures { result.now ≡ arch_name self.now place }
     {

@@ -1,10 +1,10 @@
-//! Texts of which none stands twice.
+//! Texts that are all different.
 ghost use Rattle.std.specs.Prelude.{◌≡◌, map};
 ghost use Rattle.std.specs.List.{list_any};
 ghost use Rattle.std.specs.Str.{bytes_eq};
 ghost use Rattle.testing_rules_items.specs.Distinct.{is_distinct};
 
-/// Whether no text stands twice.
+/// Whether all texts are different.
 pub fn are_distinct(texts: &[&str]) -> bool
     ensures { result ≡ is_distinct (map (λ t. t.now) texts.now) }
 {

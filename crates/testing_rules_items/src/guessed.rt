@@ -7,7 +7,7 @@ ghost use Rattle.std.specs.List.Sorted.{IsBinarySearchResult, IsSearchInRange};
 
 use std::cmp::Ordering;
 
-/// How the element at a place lies to what is searched for. Where there is none, it lies above.
+/// How the element at a place compares with the searched one. A missing element is above it.
 fn order_at<T, F: Fn(&T) -> Ordering>(items: &[T], place: usize, order: &F) -> Ordering
     requires { F.IsAlwaysCallable order.now }
     ensures at { place < length items.now → (ord : T → Ordering) → ComputesKey F.FnMut ord order.now → HoldsAt (λ y. ord y ≡ result) items.now place }
@@ -19,7 +19,7 @@ fn order_at<T, F: Fn(&T) -> Ordering>(items: &[T], place: usize, order: &F) -> O
     }
 }
 
-/// Whether the element before a place lies below what is searched for. Where there is none, it does.
+/// Whether the element before a place is below the searched one. A missing element is.
 fn is_behind<T, F: Fn(&T) -> Ordering>(items: &[T], place: usize, order: &F) -> bool
     requires { F.IsAlwaysCallable order.now }
     ensures within { IsTrue result → place ≤ length items.now }
@@ -31,8 +31,8 @@ fn is_behind<T, F: Fn(&T) -> Ordering>(items: &[T], place: usize, order: &F) -> 
     }
 }
 
-/// Where the list has what is searched for, or else where it belongs. It lies above the element at a place. The next place
-/// is tried first.
+/// The place of the searched element, or where it belongs. It is above the element at a place; the next place is tried
+/// first.
 fn search_behind<T, F: Fn(&T) -> Ordering>(
     items: &[T],
     place: usize,
@@ -52,7 +52,7 @@ fn search_behind<T, F: Fn(&T) -> Ordering>(
     }
 }
 
-/// Where an ordered list has what is searched for, or else where it belongs. `order` says how an element lies to that. The
+/// The place of the searched element in an ordered list, or where it belongs. `order` compares an element with it. The
 /// guessed place is tried first, and then the next one.
 pub fn search_near<T, F: Fn(&T) -> Ordering>(
     items: &[T],
@@ -71,7 +71,7 @@ pub fn search_near<T, F: Fn(&T) -> Ordering>(
     }
 }
 
-/// The place where the one behind what was found, or belongs, at a place may stand. It is a guess for the next search.
+/// The likely place of the element after one found, or belonging, at a place. It is a guess for the next search.
 pub fn next_place(found: Result<usize, usize>) -> usize
     ensures ok { IfOk found (λ place. result ≤ place + 1) }
     ensures err { IfErr found (λ place. result ≡ place) }

@@ -1,4 +1,4 @@
-//! What a message says.
+//! The content of messages.
 
 ghost use Rattle.std.specs.Prelude.{◌≡◌, IfOk, option_copied};
 ghost use Rattle.testing_rules_items.specs.declared.item.Item.TheVariants.{Upload, Dropped, Bug};
@@ -9,7 +9,7 @@ use jiff_core::civil::Date;
 use std::alloc::Global;
 use std::marker::Model;
 
-/// How urgent an upload is (Debian Policy 5.6.17). Emergency and critical count alike.
+/// How urgent an upload is (Debian Policy 5.6.17). Emergency equals critical.
 #[derive(Clone, Copy, Debug, PartialEq, Eq)]
 pub enum Urgency {
     Low,
@@ -51,7 +51,7 @@ impl Model for Names {
 }
 
 impl Names {
-    /// These names. It takes no memory.
+    /// These names. It allocates nothing.
     pub fn of(names: Vec<Text>) -> Names
         ensures { result ≡ names.items }
     {
@@ -85,7 +85,7 @@ pub fn copy_texts(alloc: Global, texts: &[Text]) -> Result<Vec<Text>, NoMemory>
     Ok(copies)
 }
 
-/// An equal version, where there is one.
+/// An equal version, if there is one.
 pub fn copy_version(alloc: Global, version: Option<&Version>) -> Result<Option<Version>, NoMemory>
     ensures { IfOk result (λ v. v ≡ option_copied version.entry) }
 {
@@ -145,7 +145,7 @@ fn copy_items(alloc: Global, items: &[HintItem]) -> Result<Vec<HintItem>, NoMemo
 }
 
 impl HintItems {
-    /// These items. It takes no memory.
+    /// These items. It allocates nothing.
     pub fn of(items: Vec<HintItem>) -> HintItems
         ensures { result ≡ items.items }
     {
@@ -180,7 +180,7 @@ pub enum Hint {
     /// Moves all items as one.
     Easy(HintItems),
 
-    /// So many days are needed for these versions.
+    /// These versions need this many days.
     AgeDays(u32, HintItems),
 
     /// Asks that these versions go out of testing.
@@ -227,7 +227,7 @@ impl Model for Binaries {
 }
 
 impl Binaries {
-    /// These binaries. It takes no memory.
+    /// These binaries. It allocates nothing.
     pub fn of(binaries: Vec<Binary>) -> Binaries
         ensures { result ≡ binaries.items }
     {
@@ -241,7 +241,7 @@ impl Binaries {
         self.binaries.as_slice()
     }
 
-    /// The binary packages, in order. It takes no memory.
+    /// The binary packages, in order. It allocates nothing.
     pub fn into_vec(self) -> Vec<Binary>
         ensures { result.items ≡ self }
     {
@@ -269,7 +269,7 @@ fn copy_binaries(alloc: Global, binaries: &[Binary]) -> Result<Vec<Binary>, NoMe
     Ok(copies)
 }
 
-/// What a message says, apart from orders of runs.
+/// The content of a message, apart from run orders.
 #[derive(Drop)]
 pub enum Item {
     /// A version of a source came to unstable.
@@ -280,7 +280,7 @@ pub enum Item {
         day: Date,
     },
 
-    /// A binary package went out of unstable, up to a version, on an architecture or on `all`.
+    /// A binary package left unstable, up to a version, on an architecture or on `all`.
     Dropped {
         name: Text,
         arch: Text,
@@ -290,7 +290,7 @@ pub enum Item {
     /// What was built.
     Build(Binaries),
 
-    /// The state of a bug: the versions where it was found and fixed, where they are known.
+    /// The state of a bug, with the versions where it was found and fixed, if known.
     Bug {
         bug: u32,
         source: Text,
@@ -302,10 +302,10 @@ pub enum Item {
     /// A wish.
     Hint(Hint),
 
-    /// The hint of this number no longer stands.
+    /// The hint with this number no longer holds.
     Unhint(u32),
 
-    /// The days that an upload of each urgency waits, from 0 to 9,999. Emergency waits as critical does.
+    /// The days that an upload of each urgency waits, from 0 to 9,999. Emergency equals critical.
     Delays {
         low: u32,
         medium: u32,
@@ -313,7 +313,7 @@ pub enum Item {
         critical: u32,
     },
 
-    /// Nothing: the message takes its number alone.
+    /// Nothing: the message only uses its number.
     Nothing,
 }
 

@@ -1,4 +1,4 @@
-//! What the messages of the office say: architectures, uploads, builds, bugs and wishes, as values.
+//! The content of the office's messages as values: architectures, uploads, builds, bugs and wishes.
 #![tactic(auto)]
 
 mod arch_names;

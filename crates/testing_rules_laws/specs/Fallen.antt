@@ -1,4 +1,4 @@
--- The sources that testing lost, or has in a lower version now.
+-- The sources that testing lost, or has in a lower version than before.
 use Rattle.std.specs.Prelude.{List, map, filter}
 use Rattle.testing_rules_model.specs.Suite.{Suite}
 use Rattle.testing_rules_items.specs.Words.{Text}
@@ -9,6 +9,6 @@ use Rattle.testing_rules_model.specs.KeptFacts.{AreFallen}
 abbrev pub fallen_names : Suite → Suite → List Text
 fallen_names old new = map (λ s. s.name) (filter (λ s. is_news (testing_version new s.name) s.version) old.sources)
 
--- For each other source, what counts beside the new testing counted beside the old one.
+-- For each other source, what counts with the new testing counted with the old one.
 abbrev pub NamesAreFallen : Type 0
 NamesAreFallen = (old new : Suite) → AreFallen (fallen_names old new) old new

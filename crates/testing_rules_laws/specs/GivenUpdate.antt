@@ -1,4 +1,4 @@
--- What a run brings into testing, where its facts are said by covered messages. That facts are kept is this office's own.
+-- What a run brings into testing, if covered messages say its facts. This office decides to keep facts.
 use Rattle.std.specs.Prelude.{◌≤◌, List, length}
 use Rattle.testing_rules_items.specs.Words.{Text, most_archs}
 use Rattle.testing_rules_laws.specs.SameRows.{AreSaidBy}
@@ -14,7 +14,8 @@ use Rattle.testing_rules_model.specs.Updates.{update_by}
 abbrev pub suite_by : List Text → FactLists → List Excuse → Suite → Suite
 suite_by archs f excuses t = (update_by archs f.sources (built_rows archs f.rows) f.hints f.unhints excuses t).suite
 
--- Messages that say the facts give all that a run over the facts brings into testing, and no row of another architecture comes.
+-- Messages that say the facts give everything that a run over the facts brings into testing, and no row of another
+-- architecture comes.
 abbrev pub FactsGiveUpdate : Type 0
 FactsGiveUpdate =
     (archs : List Text) (s : Covered) (f : FactLists) (excuses : List Excuse) (old : Suite) → length archs ≤ most_archs → AreSaidBy f s

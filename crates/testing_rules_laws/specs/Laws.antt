@@ -11,23 +11,25 @@ use Rattle.testing_rules_model.specs.Covered.{Covered, uploads_in, builds_in, dr
 use Rattle.testing_rules_model.specs.Moves.{source_in}
 use Rattle.testing_rules_model.specs.Unstable.{upload_order, unstable_source, unstable_sources, build_order, unstable_row, is_build_of, is_above_drops, drop_order, is_drop_of, greatest_drop}
 
--- no upload of the name comes before the unstable source: none is of a greater version, and none of the same version has a smaller sender and number
+-- no upload with the name comes before the unstable source: none has a greater version, or the same version and a
+-- smaller sender and number
 abbrev pub UnstableSourceIsFirst : Type 0
 UnstableSourceIsFirst =
     (s : Covered) (name : Text) (u : UploadIn) → unstable_source s name ≡ Some u
     → AllByRecursion (λ v. is_lt (upload_order v u) ≡ false) (filter (λ v. bytes_eq v.source name) (uploads_in s))
 
--- among unstable's sources the one of a name is the unstable source of that name
+-- the source with a name among unstable's sources is the unstable source of that name
 abbrev pub UnstableSourceIsFound : Type 0
 UnstableSourceIsFound = (s : Covered) (name : Text) → source_in (unstable_sources s) name ≡ unstable_source s name
 
--- no build of the architecture and name above every drop comes before the unstable row
+-- no build of the architecture and name that is above every drop comes before the unstable row
 abbrev pub UnstableRowIsFirst : Type 0
 UnstableRowIsFirst =
     (s : Covered) (arch name : Text) (b : BuildIn) → unstable_row s arch name ≡ Some b
     → AllByRecursion (λ v. is_lt (build_order v b) ≡ false) (filter (λ v. is_build_of arch name v && is_above_drops s v) (builds_in s))
 
--- no drop of the architecture and name comes before the greatest: none is of a greater version, and none of the same version has a smaller sender and number
+-- no drop of the architecture and name comes before the greatest: none has a greater version, or the same version and a
+-- smaller sender and number
 abbrev pub GreatestDropIsFirst : Type 0
 GreatestDropIsFirst =
     (s : Covered) (arch name : Text) (d : DropIn) → greatest_drop s arch name ≡ Some d

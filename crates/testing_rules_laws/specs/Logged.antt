@@ -1,4 +1,4 @@
--- Which rows came and which left since the facts were kept, and what is made of them. That facts are kept as rows is this office's own.
+-- The rows that came and left since the facts were kept, and their effect. This office decides to keep facts as rows.
 use Rattle.std.specs.Prelude.{◌≡◌, ℕ, ◌+◌, ◌<◌, ◌≤◌, List}
 use Rattle.testing_rules_fact_order.specs.declared.entry.FactUpdate.{FactUpdate}
 use Rattle.testing_rules_facts.specs.Entries.{with_entry}
@@ -10,24 +10,25 @@ use Rattle.testing_rules_model.specs.FactRows.{rows_of, times}
 use Rattle.testing_rules_model.specs.KeptFacts.{trimmed}
 use Rattle.testing_rules_model.specs.Suite.{Suite}
 
--- What a row was before, is now, and is put or gone. Where no row stands twice, a row that is put wasn't there, and one that is
--- gone was there and isn't any more.
+-- The count of a row before, plus how often it is put, minus how often it is gone, is its count now. Without repeated
+-- rows, a put row is new and a gone row is missing afterwards.
 pub record AreMade (count : FactRow → ℕ) (now put gone : List FactRow) : Type 0 where
   pub balance : (r : FactRow) → times r now + times r gone ≡ count r + times r put
   pub fresh : (r : FactRow) → times r now ≤ 1 → 0 < times r put → count r ≡ 0
   pub was : (r : FactRow) → count r ≤ 1 → 0 < times r gone → (count r ≡ 1) × (times r now ≡ 0)
 
--- one more message shifts just these rows
+-- one more message shifts exactly these rows
 abbrev pub EntryShifts : Type 0
 EntryShifts = (e : FactUpdate) (f : FactLists) → Shifts (rows_of f) (rows_of (with_entry e f)) (shift_of e f)
 
--- Taking and trimming log what they change.
+-- Taking a message logs what it changes.
 abbrev pub TakesLog : Type 0
 TakesLog = (count : FactRow → ℕ) (e : FactUpdate) (f : FactLists) → IsChangedFrom count f → IsChangedFrom count (with_entry e f)
 
+-- Trimming logs what it changes.
 abbrev pub TrimsLog : Type 0
 TrimsLog = (count : FactRow → ℕ) (t : Suite) (f : FactLists) → IsChangedFrom count f → IsChangedFrom count (trimmed t f)
 
--- Old rows without those gone and with those put are the new ones.
+-- The new rows are the old ones, minus those gone, plus those put.
 abbrev pub ChangesMake : Type 0
 ChangesMake = (count : FactRow → ℕ) (f : FactLists) (put gone : List FactRow) → IsChangedFrom count f → IsDifference f.came f.left put gone → AreMade count (rows_of f) put gone

@@ -1,4 +1,4 @@
--- Laws of moves (Debian Developer's Reference 5.13): which changes are allowed, and when the single moves end.
+-- Laws of moves (Debian Developer's Reference 5.13): which changes are allowed, and when single moves end.
 use Rattle.std.specs.Prelude.{◌≡◌, ◌<◌, ◌↔◌, ◌⊎◌, ℕ, true, false, List, length, None, Contains}
 use Rattle.std.specs.List.{AllByRecursion}
 use Rattle.testing_rules_model.specs.declared.facts.UploadIn.{UploadIn}
@@ -9,12 +9,13 @@ use Rattle.testing_rules_items.specs.Words.{Text}
 use Rattle.testing_rules_model.specs.Moves.{RowAnswer, is_row_of, is_watched_on, was_installable, judged_on, offender_of}
 use Rattle.testing_rules_model.specs.Updates.{Outcome, accepted, is_allowed_alone, move_circle}
 
--- where the row is watched, and came in with the group or was installable before, it is installable
+-- the row is installable if it is watched and came with the group or was installable before
 abbrev pub IsUnbroken : ℕ → List Text → List RowAnswer → RowAnswer → Type 0
 IsUnbroken arch group before j =
     is_watched_on arch j.row ≡ true → (is_row_of group j.row ≡ true) ⊎ (was_installable before j.row ≡ true) → j.is_installable ≡ true
 
--- a change has no offender exactly where on each architecture every watched row that came in is installable, and each other watched row that was
+-- a change has no offender exactly if on each architecture every watched row that came, or was installable before, is
+-- installable
 abbrev pub AllowedMeans : Type 0
 AllowedMeans =
     (archs : List Text) (old new : List RowIn) (group : List Text)
@@ -25,7 +26,7 @@ AllowedMeans =
 abbrev pub HasMovedOrMayNot : List Text → List UploadIn → List RowIn → Outcome → Excuse → Type 0
 HasMovedOrMayNot archs sources rows o e = Contains o.decisions (accepted e) ⊎ (is_allowed_alone archs sources rows o.suite e ≡ false)
 
--- single moves go on until none is allowed: of the candidates each has moved in the end, or moving it alone isn't allowed then
+-- single moves continue until none is allowed: in the end each candidate has moved, or moving it alone isn't allowed
 abbrev pub NoneIsLeft : Type 0
 NoneIsLeft =
     (archs : List Text) (sources : List UploadIn) (rows : List RowIn) (es : List Excuse) (t : Suite)

@@ -1,4 +1,4 @@
--- Facts put back from their rows. That facts are kept as rows is this office's own.
+-- Facts restored from their rows. This office decides to keep facts as rows.
 use Rattle.std.specs.Prelude.{◌≡◌, List, [], ◌∷◌, length, map, Contains}
 use Rattle.testing_rules_model.specs.FactLists.{FactLists}
 pub use Rattle.testing_rules_model.specs.FactLists.{no_facts}
@@ -10,17 +10,17 @@ use Rattle.testing_rules_model.specs.declared.fact_row.FactRow.{FactRow}
 use Rattle.testing_rules_model.specs.FactRows.{rows_of, times}
 use Rattle.testing_rules_facts.specs.Restored.{Given, message_of, restored}
 
--- one after the other
+-- all rows restored in turn
 abbrev pub restored_all : List Given → FactLists → FactLists
 restored_all [] f = f
 restored_all (x ∷ xs) f = restored_all xs (restored x f)
 
--- these are the rows of the facts, in any order and with any repeats, each with the item that the set has there
+-- these are the rows of the facts, in any order and with repetitions, each with the set's item there
 pub record AreRowsOf (xs : List Given) (f : FactLists) (s : Covered) : Type 0 where
   pub rows : SameElements (map (λ x. x.0) xs) (rows_of f)
   pub items : (x : Given) → Contains xs x → Contains s (message_of x)
 
--- the same facts, but for the order of the uploads and the rows that came and left
+-- the same facts, except for the order of the uploads and the rows that came and left
 pub record AreSameFacts (f g : FactLists) : Type 0 where
   pub sources : g.sources ≡ f.sources
   pub uploads : SameElements g.uploads f.uploads
@@ -31,13 +31,13 @@ pub record AreSameFacts (f g : FactLists) : Type 0 where
   pub unhints : g.unhints ≡ f.unhints
   pub delays : g.delays ≡ f.delays
 
--- The rows of facts, put back in any order, give these facts again.
+-- The rows of facts, restored in any order, give the same facts.
 abbrev pub RowsDetermine : Type 0
 RowsDetermine =
     (f : FactLists) (s : Covered) (t : Suite) (xs : List Given) → HasOneOfEach s → StandsFor f s t → AreRowsOf xs f s
     → AreSameFacts f (restored_all xs no_facts) × StandsFor (restored_all xs no_facts) s t
 
--- Where facts have as many rows as were put back, these are their rows.
+-- If facts have as many rows as were restored, these are their rows.
 abbrev pub AllCame : Type 0
 AllCame =
     (xs : List Given) → length (rows_of (restored_all xs no_facts)) ≡ length xs → (r : FactRow)

@@ -1,4 +1,4 @@
--- Facts that have the same rows. That facts are kept as rows is this office's own.
+-- Facts that have the same rows. This office decides to keep facts as rows.
 use Rattle.testing_rules_model.specs.FactLists.{FactLists}
 use Rattle.testing_rules_model.specs.Suite.{Suite}
 use Rattle.testing_rules_model.specs.Covered.{Covered}
@@ -7,12 +7,12 @@ use Rattle.testing_rules_model.specs.StandsFor.{StandsFor}
 use Rattle.testing_rules_model.specs.FactRows.{rows_of}
 pub use Rattle.testing_rules_model.specs.Tells.{AreSaidBy, AreOrderly, Tells}
 
--- Facts that have the rows of facts that stand for a set, and that its messages say, stand for it too.
+-- If facts stand for a set, other facts with their rows, said by the set's messages, stand for it too.
 abbrev pub RowsTell : Type 0
 RowsTell =
     (f g : FactLists) (s : Covered) (t : Suite) → HasOneOfEach s → StandsFor f s t → AreSaidBy g s → AreOrderly g → SameElements (rows_of f) (rows_of g)
     → StandsFor g s t
 
--- Facts that stand for a set are said by its messages, and in order.
+-- If facts stand for a set, its messages say them, and they are in order.
 abbrev pub StandsAreSaid : Type 0
 StandsAreSaid = (f : FactLists) (s : Covered) (t : Suite) → StandsFor f s t → AreSaidBy f s × AreOrderly f

@@ -1,4 +1,4 @@
--- Facts that messages say, row by row. That facts are kept as rows is this office's own.
+-- Facts that messages say, row by row. This office decides to keep facts as rows.
 use Rattle.std.specs.Prelude.{◌≡◌, ◌≤◌, List, Contains, IsSome}
 use Rattle.testing_rules_facts.specs.Restored.{Given, message_of, restored}
 use Rattle.testing_rules_facts.specs.Uploads.{AreByMessage}
@@ -14,21 +14,23 @@ use Rattle.testing_rules_model.specs.StandsFor.{StandsFor}
 use Rattle.testing_rules_model.specs.Suite.{Suite}
 use Rattle.testing_rules_model.specs.Tells.{Tells}
 
--- Messages that say facts say them with one row more, and with more rows, where the messages of these rows are among them.
+-- Messages that say facts also say them with one more row, if they include its message.
 abbrev pub RestoredTell : Type 0
 RestoredTell = (x : Given) (f : FactLists) (s : Covered) → Tells f s → Contains s (message_of x) → Tells (restored x f) s
 
+-- The same with more rows, if the messages include those of the rows.
 abbrev pub AllRestoredTell : Type 0
 AllRestoredTell = (xs : List Given) (f : FactLists) (s : Covered) → Tells f s → ((x : Given) → Contains xs x → Contains s (message_of x)) → Tells (restored_all xs f) s
 
--- They say them with other rows that came and left, and trimmed.
+-- They also say them with other rows that came and left.
 abbrev pub LoggedTell : Type 0
 LoggedTell = (came left : List FactRow) (f : FactLists) (s : Covered) → Tells f s → Tells (record f { came = came; left = left }) s
 
+-- They also say them trimmed.
 abbrev pub TrimmedTell : Type 0
 TrimmedTell = (t : Suite) (f : FactLists) (s : Covered) → Tells f s → Tells (trimmed t f) s
 
--- More messages say them too.
+-- More messages also say them.
 abbrev pub MoreTell : Type 0
 MoreTell = (f : FactLists) (s more : Covered) → ((m : CoveredItem) → Contains s m → Contains more m) → Tells f s → Tells f more
 
@@ -36,15 +38,15 @@ MoreTell = (f : FactLists) (s more : Covered) → ((m : CoveredItem) → Contain
 abbrev pub StandTell : Type 0
 StandTell = (f : FactLists) (s : Covered) (t : Suite) → StandsFor f s t → Tells f s
 
--- Facts that messages say, and that have the rows of facts that stand for these messages, stand for them too.
+-- If facts stand for messages, other facts with the same rows that these messages say stand for them too.
 abbrev pub SaidRowsTell : Type 0
 SaidRowsTell = (f g : FactLists) (s : Covered) (t : Suite) → HasOneOfEach s → StandsFor f s t → Tells g s → SameElements (rows_of f) (rows_of g) → StandsFor g s t
 
--- No row of facts that messages say stands twice.
+-- No row occurs twice in facts that messages say.
 abbrev pub RowsOnce : Type 0
 RowsOnce = (f : FactLists) (s : Covered) → HasOneOfEach s → Tells f s → AreByMessage f.uploads → (r : FactRow) → times r (rows_of f) ≤ 1
 
--- the message that a row names is among these, and where the row is that of the last delays, it tells delays
+-- the message that a row names is among these; for the row of the last delays, it sets delays
 pub record NamesMessage (s : Covered) (r : FactRow) : Type 0 where
   pub message : CoveredItem
   pub among : Contains s message
@@ -52,7 +54,7 @@ pub record NamesMessage (s : Covered) (r : FactRow) : Type 0 where
   pub number : message.number ≡ r.number
   pub delays : r.kind ≡ Delays → IsSome (delays_of message)
 
--- rows that facts can have, each of a message, and no two of delays
+-- rows that facts can have, each with a message, and at most one of delays
 pub record AreFactRows (s : Covered) (rows : List FactRow) : Type 0 where
   pub each : (r : FactRow) → Contains rows r → IsFactRow r
   pub named : (r : FactRow) → Contains rows r → NamesMessage s r

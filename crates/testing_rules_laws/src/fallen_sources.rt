@@ -1,4 +1,4 @@
-//! The sources that testing lost, or has in a lower version than it had.
+//! The sources that testing lost, or has in a lower version than before.
 
 ghost use Rattle.std.specs.Prelude.{◌≡◌, IfOk, option_copied, option_map};
 ghost use Rattle.testing_rules_laws.specs.Fallen.{fallen_names};
@@ -11,7 +11,7 @@ use testing_rules_excuses::source_near;
 use testing_rules_model::SourceIn;
 use testing_rules_suites::Testing;
 
-/// Whether the version is above that of the source, or there is no source.
+/// Whether the version is above the source's, or there is no source.
 fn is_above(version: &Version, source: Option<&SourceIn>) -> bool
     ensures { result ≡ rules.is_news (option_map (λ s. s.version) (option_copied source.entry)) version.now }
 {
@@ -21,12 +21,12 @@ fn is_above(version: &Version, source: Option<&SourceIn>) -> bool
     }
 }
 
-/// The names of the sources that testing lost, or has in a lower version now. They stand in the order of the testing
-/// before. Each source costs a look-up by name and one comparison of versions.
+/// The names of the sources that testing lost, or has in a lower version now, in the order of the earlier testing. Each
+/// source costs a look-up by name and one comparison of versions.
 ///
 /// # Errors
 ///
-/// `NoMemory` where the names find no memory.
+/// `NoMemory` if the names can't be allocated.
 pub fn fallen(alloc: Global, before: &Testing, after: &Testing) -> Result<Vec<Text>, NoMemory>
     ensures { IfOk result (λ names. names.items ≡ fallen_names before.now after.now) }
 {

@@ -1,4 +1,4 @@
-//! Laws of facts that are kept as rows. Each is a call that does nothing, whose contract is the law.
+//! Laws of facts kept as rows. Each is a call that does nothing; its contract is the law.
 
 ghost use Rattle.testing_rules_laws.specs.Fallen.{NamesAreFallen};
 ghost use Rattle.testing_rules_laws.specs.GivenUpdate.{FactsGiveUpdate};
@@ -8,82 +8,82 @@ ghost use Rattle.testing_rules_laws.specs.Retaken.{TrimKeeps, RetakenStand};
 ghost use Rattle.testing_rules_laws.specs.SameRows.{RowsTell, StandsAreSaid};
 ghost use Rattle.testing_rules_laws.specs.Told.{AllRestoredTell, LoggedTell, MoreTell, RestoredTell, RowsOnce, SaidRowsTell, StandTell, ToldRowsAreFactRows, TrimmedTell};
 
-/// One more message changes the rows of the facts by just those that its shift says.
+/// One more message changes the rows of the facts exactly by its shift.
 pub fn entry_shifts()
     ensures { EntryShifts }
 {}
 
-/// The rows of facts, put back in any order, give these facts again.
+/// The rows of facts, restored in any order, give the same facts.
 pub fn rows_determine()
     ensures { RowsDetermine }
 {}
 
-/// Rows that are put back, of which the facts have as many then, are the facts' rows: each came, and none gave way.
+/// If facts have as many rows as were restored, these are their rows: each came, and none gave way.
 pub fn all_came()
     ensures { AllCame }
 {}
 
-/// Facts that stand for a set are said by its messages, and their lists are in order.
+/// If facts stand for a set, its messages say them, and their lists are in order.
 pub fn stands_are_said()
     ensures { StandsAreSaid }
 {}
 
-/// Facts that have the rows of facts that stand for a set, and that its messages say, stand for it too.
+/// If facts stand for a set, other facts with their rows, said by the set's messages, stand for it too.
 pub fn rows_tell()
     ensures { RowsTell }
 {}
 
-/// Facts that stand beside a testing are kept facts beside it once they are trimmed.
+/// Facts that stand for a set with a testing are kept facts with it once trimmed.
 pub fn trim_keeps()
     ensures { TrimKeeps }
 {}
 
-/// Facts that took the uploads of the fallen sources again stand beside the new testing.
+/// Facts that took the uploads of the fallen sources again stand for the set with the new testing.
 pub fn retaken_stand()
     ensures { RetakenStand }
 {}
 
-/// Taking a message logs what it changes of the rows.
+/// Taking a message logs how it changes the rows.
 pub fn takes_log()
     ensures { TakesLog }
 {}
 
-/// Trimming logs what it changes of the rows.
+/// Trimming logs how it changes the rows.
 pub fn trims_log()
     ensures { TrimsLog }
 {}
 
-/// Old rows without those gone and with those put are the new ones.
+/// The new rows are the old ones, minus those gone, plus those put.
 pub fn changes_make()
     ensures { ChangesMake }
 {}
 
-/// But for the sources of these names, what counts beside the new testing counted beside the old one.
+/// Except for the sources with these names, what counts with the new testing counted with the old one.
 pub fn names_are_fallen()
     ensures { NamesAreFallen }
 {}
 
-/// Messages that say the facts give all that a run over these facts brings into testing.
+/// Messages that say the facts give everything that a run over these facts brings into testing.
 pub fn facts_give_update()
     ensures { FactsGiveUpdate }
 {}
 
-/// Messages that say facts say them with one row more, which is that of a message among them.
+/// Messages that say facts also say them with one more row, if they include its message.
 pub fn restored_tell()
     ensures { RestoredTell }
 {}
 
-/// Messages that say facts say them with more rows, which are those of messages among them.
+/// Messages that say facts also say them with more rows, if they include the rows' messages.
 pub fn all_restored_tell()
     ensures { AllRestoredTell }
 {}
 
-/// Messages that say facts say them with other rows that came and left.
+/// Messages that say facts also say them with other rows that came and left.
 pub fn logged_tell()
     ensures { LoggedTell }
 {}
 
-/// Messages that say facts say them trimmed.
+/// Messages that say facts also say them trimmed.
 pub fn trimmed_tell()
     ensures { TrimmedTell }
 {}
@@ -98,12 +98,12 @@ pub fn stand_tell()
     ensures { StandTell }
 {}
 
-/// Facts that messages say, and that have the rows of facts that stand for these messages, stand for them too.
+/// If facts stand for messages, other facts with the same rows that these messages say stand for them too.
 pub fn said_rows_tell()
     ensures { SaidRowsTell }
 {}
 
-/// No row of facts that messages say stands twice.
+/// No row occurs twice in facts that messages say.
 pub fn rows_once()
     ensures { RowsOnce }
 {}

@@ -1,4 +1,4 @@
-//! Laws of the rules, which no call needs.
+//! Laws of the rules that no call needs.
 
 ghost use Rattle.testing_rules_model.specs.Provenance.{UpdateIsGiven, ArchsStayKnown};
 ghost use Rattle.testing_rules_laws.specs.Laws.{UnstableSourceIsFirst, UnstableSourceIsFound, UnstableRowIsFirst, GreatestDropIsFirst};
@@ -12,12 +12,12 @@ pub fn unstable_source_is_first()
     ensures { UnstableSourceIsFirst }
 {}
 
-/// Among unstable's sources the one of a name is the unstable source of that name.
+/// The source with a name among unstable's sources is the unstable source of that name.
 pub fn unstable_source_is_found()
     ensures { UnstableSourceIsFound }
 {}
 
-/// The unstable row of an architecture and a name is the first build that stands.
+/// The unstable row of an architecture and a name is the first build above the drops.
 pub fn unstable_row_is_first()
     ensures { UnstableRowIsFirst }
 {}
@@ -47,7 +47,7 @@ pub fn drop_puts_one()
     ensures { DropPutsOne }
 {}
 
-/// The greatest drops tell of each build whether it stands.
+/// The greatest drops decide which builds are above the drops.
 pub fn greatest_drops_decide()
     ensures { GreatestDropsDecide }
 {}
@@ -57,33 +57,33 @@ pub fn greatest_drop_is_first()
     ensures { GreatestDropIsFirst }
 {}
 
-/// Facts that stand for a set of messages stand for it in every order and with any repeats.
+/// Facts that stand for a set of messages stand for it in every order and with repetitions.
 pub fn facts_stand_for_sets()
     ensures { FactsStandForSets }
 {}
 
-/// A run leaves every watched row installable, as it was before.
+/// A run leaves every watched row installable, if it was so before.
 pub fn watched_rows_stay()
     ensures { WatchedRowsStay }
 {}
 
-/// A change is allowed exactly where every watched row that comes in is installable, and each other watched row that was
-/// stays so.
+/// A change is allowed exactly if every watched row that comes in is installable, and each other watched row that was
+/// installable stays so.
 pub fn allowed_means()
     ensures { AllowedMeans }
 {}
 
-/// Single moves go on until none is allowed.
+/// Single moves continue until none is allowed.
 pub fn none_is_left()
     ensures { NoneIsLeft }
 {}
 
-/// Covered uploads and builds give all that a run brings into testing.
+/// Covered uploads and builds give everything that a run brings into testing.
 pub fn update_is_given()
     ensures { UpdateIsGiven }
 {}
 
-/// A run brings in no row of an architecture that isn't listed.
+/// A run brings in no row of an unlisted architecture.
 pub fn archs_stay_known()
     ensures { ArchsStayKnown }
 {}

@@ -1,5 +1,5 @@
-//! What the promotion rules promise over whole runs, and of facts that are kept as rows; which sources testing lost, or
-//! holds in a lower version.
+//! What the promotion rules guarantee over whole runs and about facts kept as rows, and which sources testing lost or
+//! has in a lower version.
 #![tactic(auto)]
 
 mod fallen_sources;

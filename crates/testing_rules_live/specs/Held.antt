@@ -1,5 +1,5 @@
 -- Steps: no contract of a call that users make rests on this file.
--- Testing's rows during a run: those that stand of a pool, or a list.
+-- Testing's rows during a run: the present rows of a pool, or a list.
 use Rattle.std.specs.Prelude.{◌≡◌, true, List}
 use Rattle.std.specs.List.{list_all}
 use Rattle.testing_rules_model.specs.declared.facts.UploadIn.{UploadIn}
@@ -21,18 +21,18 @@ abbrev pub held : LiveRows → List RowIn
 held (Pooled s) = present_rows s
 held (Listed rows) = rows.items
 
--- where they stand of a pool, it is one of rows before the run and of unstable's, for these architectures
+-- if they are the present rows of a pool, it has rows before the run and unstable's, for these architectures
 abbrev pub AreLive : LiveRows → List Text → List RowIn → Type 0
 AreLive (Pooled s) archs unstable = IsLive s archs unstable (present_rows s)
 AreLive (Listed rows) archs unstable = Unit {0}
 
--- the change is the move of the group, all of whose rows that come are in the pool
+-- the change is the move of the group, with all its coming rows in the pool
 pub record IsPoolMove (s : PoolState) (sources : List UploadIn) (group : List Text) (change : Change) : Type 0 where
   pub offered : list_all (hash_passes s.candidates) group ≡ true
   pub within : IsWithin s.rows change.leaving.items change.coming.items
   pub moves : IsMoveOf s.rows s.stands s.first sources group change.leaving.items change.coming.items
 
--- it is, where the rows stand of a pool
+-- the same, if the rows are those of a pool
 abbrev pub IsChangeBy : LiveRows → List UploadIn → List Text → Change → Type 0
 IsChangeBy (Pooled s) sources group change = IsPoolMove s sources group change
 IsChangeBy (Listed rows) sources group change = Unit {0}

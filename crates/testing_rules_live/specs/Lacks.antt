@@ -1,5 +1,5 @@
 -- Steps: no contract of a call that users make rests on this file.
--- A clause of a row that comes by a move, which no row meets that stands or comes.
+-- A clause of a coming row that no present or coming row meets.
 use Rattle.std.specs.Prelude.{◌≡◌, ℕ, ◌<◌, Bool, true, false, ◌&&◌, List, length, filter, Contains, Some}
 use Rattle.std.specs.List.{slice_get, list_any, flat_map}
 use Rattle.std.specs.Option.{option_map_or}
@@ -18,16 +18,16 @@ use Rattle.testing_rules_suites.specs.PresentSteps.{PoolState}
 abbrev pub meets_on : ℕ → List RowIn → Clause → ℕ → Bool
 meets_on arch pool clause k = option_map_or (λ r. is_row_on arch r && meets r.binary clause) (slice_get pool k) false
 
--- it stands, is on the architecture and meets the clause
+-- this row is present, on the architecture and meets the clause
 abbrev pub stands_for_it : ℕ → List RowIn → List Bool → Clause → ℕ → Bool
 stands_for_it arch pool stands clause k = marked stands k && meets_on arch pool clause k
 
--- no row of the pool on the architecture meets the clause that stands or comes
+-- no present or coming row of the pool on the architecture meets the clause
 pub record IsUnmet (arch : ℕ) (pool : List RowIn) (stands : List Bool) (coming : List ℕ) (clause : Clause) : Type 0 where
   pub standing : (k : ℕ) → stands_for_it arch pool stands clause k ≡ false
   pub came : list_any (meets_on arch pool clause) coming ≡ false
 
--- a row that comes is watched on an architecture and has the clause, which is unmet there
+-- a coming row is watched on an architecture and has the clause, which is unmet there
 pub record IsLack (archs : ℕ) (pool : List RowIn) (stands : List Bool) (coming : List ℕ) (clause : Clause) : Type 0 where
   pub arch : ℕ
   pub listed : arch < archs
@@ -39,21 +39,22 @@ pub record IsLack (archs : ℕ) (pool : List RowIn) (stands : List Bool) (coming
   pub needs : Contains row.binary.clauses clause
   pub unmet : IsUnmet arch pool stands coming clause
 
--- it is one of the rows that come by a move of the group
+-- this row is one of those that come when the group moves
 pub record IsLackOfMove (s : PoolState) (sources : List UploadIn) (group : List Text) (clause : Clause) : Type 0 where
   pub coming : List ℕ
   pub arrive : AreThose (comes_at s.rows s.first) (group_sources sources group) coming
   pub lack : IsLack s.archs s.rows s.stands coming clause
 
--- the rows that come by a move of the group
+-- the rows that come when the group moves
 abbrev pub arriving : List UploadIn → List RowIn → List Text → List RowIn
 arriving sources unstable group = flat_map (λ u. filter (is_current u) unstable) (group_sources sources group)
 
--- none of the rows that are on the architecture meets the clause
+-- none of the rows on the architecture meets the clause
 pub record NoneMeets (arch : ℕ) (clause : Clause) (rows : List RowIn) : Type 0 where
   pub each : (r : RowIn) → Contains rows r → is_row_on arch r ≡ true → meets r.binary clause ≡ true → ⊥
 
--- a row that comes by a move of the group is watched on an architecture and has the clause, and none of these rows meets it, nor one that comes
+-- a row that comes with the group is watched on an architecture and has the clause, and neither these rows nor coming
+-- ones meet it
 pub record Lacks (archs : List Text) (sources : List UploadIn) (unstable : List RowIn) (group : List Text) (rows : List RowIn) (clause : Clause) : Type 0 where
   pub arch : ℕ
   pub listed : arch < length archs

@@ -1,5 +1,5 @@
 -- Steps: no contract of a call that users make rests on this file.
--- Testing's sources during a run: they stand in slots by name, and a slot of a source that testing lacks is empty.
+-- Testing's sources during a run: slots ordered by name; the slot of a source that isn't in testing is empty.
 use Rattle.std.specs.Prelude.{List, map, Option, Some, None}
 use Rattle.std.specs.List.{filter_map}
 use Rattle.std.specs.List.Sorted.{IsStrictlySortedBy}

@@ -1,4 +1,4 @@
-//! Which rows come by a move, and which leave.
+//! The rows that come and leave when a group moves.
 
 ghost use Rattle.std.specs.Prelude.{◌≡◌, [], ◌++◌, ◌<◌, length, filter, OnOk, IfOk};
 ghost use Rattle.std.specs.List.{All};
@@ -26,7 +26,7 @@ fn comes_at(pool: &Pool, first: usize, upload: &UploadIn, place: usize) -> bool
     first <= place && is_current(upload, &pool.row(place))
 }
 
-/// The row at the place stands and names the source.
+/// The row at the place is present and names the source.
 fn stands_of(pool: &Pool, stands: &[bool], name: &str, place: usize) -> bool
     requires places { place < length pool.now }
     requires flags { length stands.now ≡ length pool.now }
@@ -35,7 +35,7 @@ fn stands_of(pool: &Pool, stands: &[bool], name: &str, place: usize) -> bool
     stands[place] && is_of(&pool.row(place), name)
 }
 
-/// The row at the place stands and has the key of the other.
+/// The row at the place is present and has the other's key.
 fn stands_for(pool: &Pool, stands: &[bool], other: &LentRow, place: usize) -> bool
     requires places { place < length pool.now }
     requires flags { length stands.now ≡ length pool.now }
@@ -44,7 +44,7 @@ fn stands_for(pool: &Pool, stands: &[bool], other: &LentRow, place: usize) -> bo
     stands[place] && is_same_key(other, &pool.row(place))
 }
 
-/// Those of the places whose rows come for the upload.
+/// Adds the places whose rows come for the upload.
 fn push_coming(
     coming: &mut SmallVec<usize, 4>,
     pool: &Pool,
@@ -63,8 +63,8 @@ fn push_coming(
     Ok(())
 }
 
-/// The places of the rows that come: unstable's rows, which begin at the first place, that are current for a source of
-/// the group. Near the guessed place a source is looked for first.
+/// The places of the coming rows: unstable's rows, from the first place on, that are current for a source of the group.
+/// A source is first looked for near the guessed place.
 pub fn coming_of(
     alloc: Global,
     pool: &Pool,
@@ -86,7 +86,7 @@ pub fn coming_of(
     Ok(coming)
 }
 
-/// Those of the places whose rows stand and name the source.
+/// Adds the places whose rows are present and name the source.
 fn push_standing(
     leaving: &mut SmallVec<usize, 4>,
     pool: &Pool,
@@ -124,7 +124,7 @@ fn standing_of_group(
     Ok(leaving)
 }
 
-/// Those of the places whose rows stand and have the key of the other.
+/// Adds the places whose rows are present and have the other's key.
 fn push_giving_way(
     leaving: &mut SmallVec<usize, 4>,
     pool: &Pool,
@@ -144,7 +144,7 @@ fn push_giving_way(
     Ok(())
 }
 
-/// The places of the present rows that give way to those that come: they have their key.
+/// The places of the present rows that give way to coming ones with the same key.
 fn giving_way(
     alloc: Global,
     pool: &Pool,
@@ -164,8 +164,8 @@ fn giving_way(
     Ok(leaving)
 }
 
-/// The rows that come by a move of the group, and those that leave: the present rows of its sources, and those of the
-/// key of one that comes. Unstable's rows begin at the first place. Near the guessed place a source is looked for first.
+/// The rows that come when the group moves, and those that leave: the present rows of its sources, and those with the
+/// key of a coming one. Unstable's rows begin at the first place. A source is first looked for near the guessed place.
 pub fn change_by_move(
     alloc: Global,
     pool: &Pool,
@@ -187,7 +187,7 @@ pub fn change_by_move(
     Ok(Change { leaving, coming })
 }
 
-/// The rows that leave by a removal of the source: its present rows.
+/// The rows that leave when the source is removed: its present rows.
 pub fn change_by_removal(
     alloc: Global,
     pool: &Pool,

@@ -1,5 +1,5 @@
-//! Moves that are refused by the rows that come alone: one of them has a clause that no row meets which stands or comes.
-//! That is seen without a trial.
+//! Moves that the coming rows alone refuse: one of them has a clause that no present or coming row meets. No trial is
+//! needed to see this.
 
 ghost use Rattle.std.specs.Prelude.{◌≡◌, ℕ, ◌<◌, false, true, IfSome, Contains, Some, length};
 ghost use Rattle.std.specs.List.{All, list_any, slice_get};
@@ -26,7 +26,7 @@ fn is_met_on(arch: u32, pool: &Pool, clause: &Clause, place: usize) -> bool
     is_row_on(arch, &row) && meets(row.binary, clause)
 }
 
-/// The row at the place stands, is on the architecture and meets the clause.
+/// The row at the place is present, on the architecture and meets the clause.
 fn is_met_at(arch: u32, suites: &CarriedSuites, clause: &Clause, place: usize) -> bool
     ensures { result ≡ stands_for_it arch suites.now.rows suites.now.stands clause.now place }
 {
@@ -35,7 +35,7 @@ fn is_met_at(arch: u32, suites: &CarriedSuites, clause: &Clause, place: usize) -
         && is_met_on(arch, suites.pool(), clause, place)
 }
 
-/// A row at one of the places stands, is on the architecture and meets the clause.
+/// A row at one of the places is present, on the architecture and meets the clause.
 fn is_met_among(arch: u32, suites: &CarriedSuites, clause: &Clause, places: &[usize]) -> bool
     ensures { result ≡ list_any (stands_for_it arch suites.now.rows suites.now.stands clause.now) places.now }
 {
@@ -44,7 +44,7 @@ fn is_met_among(arch: u32, suites: &CarriedSuites, clause: &Clause, places: &[us
         .any(|place| is_met_at(arch, suites, clause, *place))
 }
 
-/// A row that bears the name stands, is on the architecture and meets the clause.
+/// A row that bears the name is present, on the architecture and meets the clause.
 fn is_met_under(arch: u32, suites: &CarriedSuites, clause: &Clause, name: &str) -> bool
     ensures { result ≡ false → (k : ℕ) (r : ARow) → slice_get suites.now.rows k ≡ Some r → bears r.binary name.now ≡ true
         → stands_for_it arch suites.now.rows suites.now.stands clause.now k ≡ false }
@@ -52,7 +52,7 @@ fn is_met_under(arch: u32, suites: &CarriedSuites, clause: &Clause, name: &str) 
     is_met_among(arch, suites, clause, suites.pool().of_name(name))
 }
 
-/// A row stands, is on the architecture and meets the clause.
+/// A row is present, on the architecture and meets the clause.
 fn is_met(arch: u32, suites: &CarriedSuites, clause: &Clause) -> bool
     ensures { result ≡ false → (k : ℕ) → stands_for_it arch suites.now.rows suites.now.stands clause.now k ≡ false }
 {
@@ -73,14 +73,14 @@ fn is_met_by(arch: u32, pool: &Pool, clause: &Clause, places: &[usize]) -> bool
         .any(|place| is_met_on(arch, pool, clause, *place))
 }
 
-/// No row on the architecture meets the clause that stands or comes.
+/// No present or coming row on the architecture meets the clause.
 fn is_unmet(arch: u32, suites: &CarriedSuites, coming: &[usize], clause: &Clause) -> bool
     ensures { result ≡ true → IsUnmet arch suites.now.rows suites.now.stands coming.now clause.now }
 {
     !is_met(arch, suites, clause) && !is_met_by(arch, suites.pool(), clause, coming)
 }
 
-/// The first clause of the package that no row on the architecture meets which stands or comes.
+/// The package's first clause that no present or coming row on the architecture meets.
 fn unmet_clause<'a>(
     arch: u32,
     suites: &CarriedSuites,
@@ -105,7 +105,7 @@ fn watching(row: &LentRow) -> u32
     if row.arch == ALL { 0 } else { row.arch }
 }
 
-/// A clause of the row at a place that comes, which no row on its architecture meets that stands or comes.
+/// A clause of the coming row at a place that no present or coming row on its architecture meets.
 fn lack_at<'a>(suites: &'a CarriedSuites, coming: &[usize], place: usize) -> Option<&'a Clause>
     requires place { place < length suites.now.rows }
     requires comes { Contains coming.now place }
@@ -119,8 +119,8 @@ fn lack_at<'a>(suites: &'a CarriedSuites, coming: &[usize], place: usize) -> Opt
     unmet_clause(arch, suites, coming, row.binary)
 }
 
-/// A clause of a row that comes, which no row on its architecture meets that stands or comes. Where there is none, the
-/// change may lose a row nevertheless.
+/// A clause of a coming row that no present or coming row on its architecture meets. Without one the change may still
+/// lose a row.
 pub fn lack_among<'a>(suites: &'a CarriedSuites, coming: &[usize]) -> Option<&'a Clause>
     requires coming { All (λ k. k < length suites.now.rows) coming.now }
     ensures { IfSome result (λ clause. IsLack suites.now.archs suites.now.rows suites.now.stands coming.now clause.now) }

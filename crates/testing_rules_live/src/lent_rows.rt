@@ -1,4 +1,4 @@
-//! Rows that are lent, in the order of testing: a change moves places and copies no row.
+//! Borrowed rows, in the order of testing: a change moves places and copies no row.
 
 ghost use Rattle.std.specs.Prelude.{◌≡◌, ◌<◌, not, filter, OnOk, IfOk};
 ghost use Rattle.testing_rules_model.specs.Boxed.{unboxed};
@@ -18,7 +18,7 @@ use testing_rules_facts::{Unstable, is_current, source_in};
 use testing_rules_model::{LentRow, UploadIn};
 use testing_rules_suites::put_row;
 
-/// Puts in the current rows of a source, each under its key.
+/// Puts in the current rows of a source, each at its key.
 fn put_current<'a>(
     rows: &mut Vec<LentRow<'a>>,
     built: &[LentRow<'a>],
@@ -53,7 +53,7 @@ fn other_rows<'a>(
     Ok(kept)
 }
 
-/// Testing's rows after a group has moved: the rows of its sources leave, and their current ones come in.
+/// Testing's rows after a group has moved: the rows of its sources leave, and their current ones come.
 pub fn moved_rows<'a>(
     alloc: Global,
     rows: &[LentRow<'a>],

@@ -1,5 +1,5 @@
 //! Testing's rows and sources while a run changes them: what a move or a removal takes out and brings in, and the first
-//! row that a change breaks, judged anew.
+//! row that a change breaks, judged from scratch.
 #![tactic(auto)]
 
 mod change;

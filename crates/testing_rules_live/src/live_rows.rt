@@ -24,15 +24,15 @@ use testing_rules_items::Archs;
 use testing_rules_model::{LentRow, RowIn};
 use testing_rules_suites::{CarriedSuites, Change, Testing, copy_lent, lend_rows};
 
-/// Testing's rows: those that stand of a pool, whose suites judge a change, and make it, by what it touches; or a list
-/// of them, where there are no suites.
+/// Testing's rows: the present ones of a pool, whose suites judge and make a change by what it touches; or a list of
+/// them, without suites.
 #[derive(Drop)]
 pub enum LiveRows {
     Pooled(PoolSuites),
     Listed(Vec<RowIn>),
 }
 
-/// A list of the rows after the move of a group, in place of them.
+/// A list of the rows after the move of a group, instead of the rows.
 fn listed_moved<'a>(
     alloc: Global,
     rows: &'a LiveRows,
@@ -51,7 +51,7 @@ fn listed_moved<'a>(
     Ok(LiveRows::Listed(copies))
 }
 
-/// The rows after the move of a group by its change.
+/// The rows after the move of a group by this change.
 fn moved_by(
     alloc: Global,
     rows: LiveRows,
@@ -80,7 +80,7 @@ fn moved_by(
     }
 }
 
-/// The suites once a source is removed.
+/// The suites after the removal of a source.
 fn suites_without(alloc: Global, suites: PoolSuites, name: &Text) -> Result<PoolSuites, NoMemory>
     ensures rows { IfOk result (λ new. (archs : List Word) (unstable : List ARow) → IsLive suites archs unstable (present_rows suites)
         → present_rows new ≡ rows_without name.now (present_rows suites)) }
@@ -100,8 +100,8 @@ fn list_without(alloc: Global, rows: &[RowIn], name: &Text) -> Result<Vec<RowIn>
     copy_lent(alloc, &left)
 }
 
-/// The suites that are kept of the rows, or new ones: where there are none, where they are of another number of
-/// architectures, and where more than half of their rows no longer stand.
+/// The suites kept of the rows, or new ones: if there are none, if they have another number of architectures, or if
+/// more than half of their rows are absent.
 fn kept_or_new(
     alloc: Global,
     archs: u32,
@@ -126,7 +126,7 @@ fn kept_or_new(
 }
 
 impl LiveRows {
-    /// The rows before a run. To them those of unstable may come whose source is a candidate.
+    /// The rows before a run. Those unstable rows may come whose source is a candidate.
     pub fn new(
         alloc: Global,
         archs: &Archs,
@@ -145,7 +145,7 @@ impl LiveRows {
         Ok(LiveRows::Pooled(suites))
     }
 
-    /// The rows after the move of a group, by the change that was tried. Where none was, they are a list from then on.
+    /// The rows after the move of a group, by the tried change. Without one, they are a list from then on.
     pub fn moved(
         self,
         alloc: Global,
@@ -202,7 +202,7 @@ impl LiveRows {
         }
     }
 
-    /// The rows, and the suites that are kept of them, where there are any.
+    /// The rows, and the suites kept of them, if any.
     pub fn into_parts(self, alloc: Global) -> Result<(Vec<RowIn>, Option<CarriedSuites>), NoMemory>
         ensures rows { IfOk result (λ parts. parts.0.items ≡ held self) }
         ensures kept { IfOk result (λ parts. (archs : List Word) (unstable : List ARow) → AreLive self archs unstable → AreCarriedOver parts.1 (held self)) }

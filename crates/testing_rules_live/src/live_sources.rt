@@ -1,5 +1,5 @@
-//! Testing's sources during a run. They stand in slots by name, one for each source that testing or unstable has, so a
-//! move changes a slot and shifts none. Those that stay are lent: a run copies each source once, when it ends.
+//! Testing's sources during a run. They are in slots by name, one for each source of testing or unstable, so that a
+//! move changes a slot and shifts none. Unmoved ones are borrowed: a run copies each source once, when it ends.
 
 ghost use Rattle.std.specs.Prelude.{◌≡◌, ◌<◌, [], length, not, filter, find, option_map, option_copied, OnOk, OnErr, IfOk};
 ghost use Rattle.std.specs.List.Sorted.{IsBinarySearchResult, IsSearchInRange};
@@ -20,7 +20,7 @@ use testing_rules_facts::{as_source, source_near};
 use testing_rules_items::{next_place, search_near};
 use testing_rules_model::{SourceIn, UploadIn};
 
-/// A source during a run: testing lacks it, or it is as it was before, lent, or as a move has put it.
+/// A source during a run: it isn't in testing, it is as before (borrowed), or a move has put it.
 #[derive(Drop)]
 enum Slot<'u, 'a> {
     Absent(&'u UploadIn),
@@ -52,7 +52,7 @@ impl Slot<'_, '_> {
     }
 }
 
-/// Where the slots have the name, or else where it belongs.
+/// The place of the name among the slots, or where it belongs.
 fn place_of_name(slots: &[Slot], name: &str) -> Result<usize, usize>
     ensures bound { IsSearchInRange result (length slots.now) }
     ensures found { IsBinarySearchResult (λ s. byte_cmp (name_of s) name.now) slots.now result }
@@ -64,7 +64,7 @@ fn place_of_name(slots: &[Slot], name: &str) -> Result<usize, usize>
     )
 }
 
-/// Where the slots have the name, or else where it belongs. The guessed place is tried first, and then the next one.
+/// The place of the name among the slots, or where it belongs. The guessed place is tried first, then the next one.
 fn place_near(slots: &[Slot], name: &str, guess: usize) -> Result<usize, usize>
     ensures bound { IsSearchInRange result (length slots.now) }
     ensures found { IsBinarySearchResult (λ s. byte_cmp (name_of s) name.now) slots.now result }
@@ -78,7 +78,7 @@ fn place_near(slots: &[Slot], name: &str, guess: usize) -> Result<usize, usize>
     )
 }
 
-/// Puts a slot under its name, and returns its place. The guessed one is tried first.
+/// Puts a slot at its name, and returns its place. The guessed one is tried first.
 fn put_slot<'u, 'a>(
     slots: &mut Vec<Slot<'u, 'a>>,
     slot: Slot<'u, 'a>,
@@ -102,7 +102,7 @@ fn put_slot<'u, 'a>(
     }
 }
 
-/// A slot for each of unstable's sources, as if testing had none of them.
+/// A slot for each of unstable's sources, as if none were in testing.
 fn absent_sources<'u, 'a>(
     alloc: Global,
     unstable: &'u [Box<UploadIn>],
@@ -118,7 +118,7 @@ fn absent_sources<'u, 'a>(
     Ok(slots)
 }
 
-/// Testing's sources are lent to their slots.
+/// Borrows testing's sources in their slots.
 fn lend_sources<'u, 'a>(
     slots: &mut Vec<Slot<'u, 'a>>,
     testing: &'a [SourceIn],
@@ -136,8 +136,8 @@ fn lend_sources<'u, 'a>(
     Ok(())
 }
 
-/// The sources of a group get their unstable versions. The guessed place is tried first, among unstable's sources and
-/// among the slots: mostly these are the same sources.
+/// Gives the sources of a group their unstable versions. The guessed place is tried first, among unstable's sources and
+/// among the slots: usually these are the same sources.
 fn move_sources<'u, 'a>(
     alloc: Global,
     slots: &mut Vec<Slot<'u, 'a>>,
@@ -171,7 +171,7 @@ fn take_slot(slots: &mut Vec<Slot>, name: &str)
     }
 }
 
-/// The version of the source of a name, by where the name was found among the slots, or where it belongs.
+/// The version of the source of a name, from the place where the name was found among the slots, or belongs.
 fn version_found<'s>(
     slots: &'s [Slot],
     name: &str,
@@ -223,7 +223,7 @@ impl<'u, 'a> Model for LiveSources<'u, 'a> {
 }
 
 impl<'u, 'a> LiveSources<'u, 'a> {
-    /// Testing's sources before the run, beside unstable's, which may come.
+    /// Testing's sources before the run, with unstable's, which may come.
     pub fn new(
         alloc: Global,
         unstable: &'u [Box<UploadIn>],
@@ -246,7 +246,7 @@ impl<'u, 'a> LiveSources<'u, 'a> {
         version_found(slots, name, place_of_name(slots, name))
     }
 
-    /// The version of the source of a name, and at which place the next name may stand. The guessed place is tried first.
+    /// The version of the source of a name, and the place to try for the next name. The guessed place is tried first.
     pub fn version_near(&self, name: &str, guess: usize) -> (Option<&Version>, usize)
         ensures { option_copied result.0 ≡ option_map (λ s. s.version) (find (λ s. bytes_eq s.name name.now) self.now) }
     {
@@ -256,7 +256,7 @@ impl<'u, 'a> LiveSources<'u, 'a> {
         (version, next_place(place))
     }
 
-    /// The sources of a group get their unstable versions. The guessed place is tried first.
+    /// Gives the sources of a group their unstable versions. The guessed place is tried first.
     pub fn move_group(
         &mut self,
         alloc: Global,

@@ -30,7 +30,7 @@ fn was_installable(before: &[RowAnswer], row: &LentRow) -> bool
     false
 }
 
-/// The row fails: it isn't installable, though it came in with the group or was installable before.
+/// The row fails: it isn't installable, and came with the group or was installable before.
 pub fn fails_on(arch: u32, group: &[Text], before: &[RowAnswer], judged: RowAnswer) -> bool
     ensures { result ≡ moves.fails_on arch group.now (answers before.now) (record { row = row_of judged.entry.row; is_installable = judged.entry.is_installable }) }
 {
@@ -39,7 +39,7 @@ pub fn fails_on(arch: u32, group: &[Text], before: &[RowAnswer], judged: RowAnsw
         && (is_row_of(group, &judged.row) || was_installable(before, &judged.row))
 }
 
-/// The name of the first row that fails, in byte order.
+/// The first name in byte order of a row that fails.
 pub fn first_failing<'a>(
     arch: u32,
     group: &[Text],
@@ -113,7 +113,7 @@ fn judge<'a>(alloc: Global, arch: u32, rows: &[LentRow<'a>]) -> Result<Vec<RowAn
     Ok(with_answers(alloc, &there, &marks)?)
 }
 
-/// The first row that a change from the old rows to the new ones breaks, for a group that came in.
+/// The first row that a change from the old rows to the new ones breaks, for a moving group.
 pub fn offender_of(
     alloc: Global,
     archs: &Archs,

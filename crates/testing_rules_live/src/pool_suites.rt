@@ -1,4 +1,4 @@
-//! Which rows of a pool stand in testing during a run, and the suite of each architecture.
+//! Which rows of a pool are present in testing during a run, and the suite of each architecture.
 
 ghost use Rattle.std.specs.Prelude.{◌≡◌, ℕ, ◌++◌, false, length, replicate, [], IfOk, IfSome, Option};
 ghost use Rattle.std.specs.List.{list_all};
@@ -24,8 +24,8 @@ use testing_rules_facts::{Hashes, hashes_pass, passing_rows};
 use testing_rules_model::{LentRow, Offender, RowIn, UploadIn};
 use testing_rules_suites::{CarriedSuites, Change};
 
-/// The suites over the rows that may stand in testing during a run. Unstable's rows, which begin at the first place, are
-/// there where their source is a candidate.
+/// The suites over the rows that may be in testing during a run. Unstable's rows, from the first place on, are included
+/// if their source is a candidate.
 pub struct PoolSuites {
     kept: CarriedSuites,
     candidates: Hashes,
@@ -57,8 +57,7 @@ impl Model for PoolSuites {
 }
 
 impl PoolSuites {
-    /// The rows that the kept suites have, and behind them, none of which stands, those of unstable that may come: the rows
-    /// of the candidates.
+    /// The rows of the kept suites, then the rows of unstable that may come, absent at first: those of the candidates.
     pub fn new(
         alloc: Global,
         kept: CarriedSuites,
@@ -82,7 +81,7 @@ impl PoolSuites {
         })
     }
 
-    /// The suites alone, which are of no one run.
+    /// The suites only, which aren't specific to a run.
     pub fn into_kept(self) -> CarriedSuites
         ensures { result ≡ record { rows = self.rows; stands = self.stands; archs = self.archs } }
     {
@@ -94,21 +93,21 @@ impl PoolSuites {
         kept
     }
 
-    /// The rows that stand, by architecture and name.
+    /// The present rows, by architecture and name.
     pub fn rows(&self, alloc: Global) -> Result<Vec<LentRow<'_>>, NoMemory>
         ensures { IfOk result (λ rows. lent rows.items ≡ present_rows self.now) }
     {
         self.kept.rows(alloc)
     }
 
-    /// Copies of the rows that stand, by architecture and name.
+    /// Copies of the present rows, by architecture and name.
     pub fn copies(&self, alloc: Global) -> Result<Vec<RowIn>, NoMemory>
         ensures { IfOk result (λ copies. copies.items ≡ present_rows self.now) }
     {
         self.kept.copies(alloc)
     }
 
-    /// The suites alone, which are of no one run.
+    /// The suites only, which aren't specific to a run.
     pub fn kept(&self) -> &CarriedSuites
         ensures { result.now ≡ record { rows = self.now.rows; stands = self.now.stands; archs = self.now.archs } }
     {
@@ -122,8 +121,7 @@ impl PoolSuites {
         hashes_pass(&self.candidates, group)
     }
 
-    /// The rows that come by a move of the group, and those that leave. Near the guessed place a source is looked for
-    /// first.
+    /// The rows that come and leave when the group moves. A source is first looked for near the guessed place.
     pub fn change_by_move(
         &self,
         alloc: Global,
@@ -147,7 +145,7 @@ impl PoolSuites {
         )
     }
 
-    /// The rows that leave by a removal of the source.
+    /// The rows that leave when the source is removed.
     pub fn change_by_removal(&self, alloc: Global, name: &str) -> Result<Change, NoMemory>
         ensures within { IfOk result (λ change. IsWithin self.now.rows change.leaving.items change.coming.items) }
         ensures removal { IfOk result (λ change. IsRemovalOf self.now.rows self.now.stands name.now change.leaving.items) }
@@ -156,9 +154,8 @@ impl PoolSuites {
         change_by_removal(alloc, self.kept.pool(), self.kept.stands(), name)
     }
 
-    /// A clause of a row that would come by a move of the group, which no row on its architecture meets that stands or
-    /// would come. Where there is none, the move may break something nevertheless. Near the guessed place a source is
-    /// looked for first.
+    /// A clause of a row coming with the group that no present or coming row on its architecture meets. Without one,
+    /// the move may still break something. A source is first looked for near the guessed place.
     pub fn lack_by_move(
         &self,
         alloc: Global,
@@ -186,7 +183,7 @@ impl PoolSuites {
         self.kept.first_lost(alloc, change)
     }
 
-    /// The suites once the change is made.
+    /// The suites after the change.
     pub fn after(self, alloc: Global, change: &Change) -> Result<PoolSuites, NoMemory>
         requires { IsWithin self.rows change.now.leaving.items change.now.coming.items }
         ensures state { IfOk result (λ s. s ≡ record {

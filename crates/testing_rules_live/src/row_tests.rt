@@ -1,4 +1,4 @@
-//! Whether a row names a source, and whether two rows have one key.
+//! Whether a row names a source, and whether two rows have the same key.
 
 ghost use Rattle.std.specs.Prelude.{◌≡◌};
 ghost use Rattle.std.specs.Str.{bytes_eq};
@@ -27,7 +27,7 @@ pub fn is_row_of(group: &[Text], row: &LentRow) -> bool
     false
 }
 
-/// The two rows are of one architecture and one name.
+/// The two rows have the same architecture and name.
 pub fn is_same_key(row: &LentRow, other: &LentRow) -> bool
     ensures { result ≡ moves.is_same_key (row_of row.now) (row_of other.now) }
 {

@@ -1,5 +1,5 @@
--- The covered messages of a run, which are all that its rules may see. That the rules go by mail is decided by this office;
--- what the mail tells is what Debian's archive, builders, bug tracker and release team know (Debian Developer's Reference 5.13).
+-- The covered messages of a run, all that its rules may see. This office decides that the rules go by mail. The mail
+-- says what Debian's archive, builders, bug tracker and release team know (Debian Developer's Reference 5.13).
 use Rattle.std.specs.Prelude.{ℕ, ◌+◌, List, [], ◌∷◌, Option, Some, None}
 use Rattle.std.specs.List.{filter_map, flat_map}
 use Rattle.deb_control.specs.declared.binary.Binary.{Binary}
@@ -13,7 +13,7 @@ use Rattle.testing_rules_model.specs.declared.facts.HintIn.{HintIn}
 use Rattle.testing_rules_model.specs.declared.facts.UnhintIn.{UnhintIn}
 use Rattle.testing_rules_model.specs.declared.facts.DelaysIn.{DelaysIn}
 
--- a message: its sender as the place in the setup, its number, and what it says
+-- a message: its sender as a place in the setup, its number, and its content
 pub record CoveredItem : Type 0 where
   pub sender : ℕ
   pub number : ℕ
@@ -23,7 +23,7 @@ pub record CoveredItem : Type 0 where
 abbrev pub Covered : Type 0
 Covered = List CoveredItem
 
--- What the messages say, kind by kind.
+-- The content of messages, kind by kind.
 
 -- an upload (Debian Policy 5.6.12, its version; 5.6.17, its urgency)
 abbrev pub upload_of : CoveredItem → Option UploadIn
@@ -32,7 +32,7 @@ upload_of m = elim m.item [
   | _ ↦ None
 ]
 
--- a drop: a binary package that left unstable on an architecture (this office decides that it is told by mail)
+-- a drop: a binary package that left unstable on an architecture (this office decides that mail reports it)
 abbrev pub drop_of : CoveredItem → Option DropIn
 drop_of m = elim m.item [
   | Dropped name arch version ↦ Some (record { name = name; arch = arch; version = version; sender = m.sender; number = m.number })
@@ -60,14 +60,14 @@ unhint_of m = elim m.item [
   | _ ↦ None
 ]
 
--- delays (this office decides that they are told by mail)
+-- delays (this office decides that mail reports them)
 abbrev pub delays_of : CoveredItem → Option DelaysIn
 delays_of m = elim m.item [
   | Delays low medium high critical ↦ Some (record { delays = record { low = low; medium = medium; high = high; critical = critical }; sender = m.sender; number = m.number })
   | _ ↦ None
 ]
 
--- the binaries of a build, whose places are counted from the given one
+-- the binaries of a build, with places counted from the given one
 abbrev pub placed_from : ℕ → ℕ → ℕ → List Binary → List BuildIn
 placed_from place sender number [] = []
 placed_from place sender number (b ∷ bs) =
@@ -77,24 +77,30 @@ placed_from place sender number (b ∷ bs) =
 abbrev pub builds_of : CoveredItem → List BuildIn
 builds_of m = elim m.item [ Build binaries ↦ placed_from 1 m.sender m.number binaries | _ ↦ [] ]
 
--- what a set of messages says, kind by kind
+-- the uploads in a set of messages (this office decides these lists)
 abbrev pub uploads_in : Covered → List UploadIn
 uploads_in s = filter_map upload_of s
 
+-- the builds in a set of messages, by their binaries
 abbrev pub builds_in : Covered → List BuildIn
 builds_in s = flat_map builds_of s
 
+-- the drops in a set of messages
 abbrev pub drops_in : Covered → List DropIn
 drops_in s = filter_map drop_of s
 
+-- the messages on bugs in a set of messages
 abbrev pub bugs_in : Covered → List BugIn
 bugs_in s = filter_map bug_of s
 
+-- the hints in a set of messages
 abbrev pub hints_in : Covered → List HintIn
 hints_in s = filter_map hint_of s
 
+-- the unhints in a set of messages
 abbrev pub unhints_in : Covered → List UnhintIn
 unhints_in s = filter_map unhint_of s
 
+-- the messages on delays in a set of messages
 abbrev pub delays_in : Covered → List DelaysIn
 delays_in s = filter_map delays_of s

@@ -1,4 +1,4 @@
--- The excuses of a run (Debian Developer's Reference 5.13.2): why each source may or may not move.
+-- The excuses of a run: why each source may or may not move (Debian Developer's Reference 5.13.2).
 use Rattle.std.specs.Prelude.{ℕ, Bool, true, false, ◌&&◌, ◌||◌, not, nat_lt, ◌==◌, if◌then◌else◌, List, ◌++◌, map, filter, fold, find, Option, Some, None, option_map, unwrap_or, ◌-ℤ◌}
 use Rattle.std.specs.List.{filter_map, list_any, last_or}
 use Rattle.std.specs.Option.{option_map_or}
@@ -37,7 +37,7 @@ testing_version t name = option_map (λ s. s.version) (entry_of t.sources name)
 abbrev pub is_news : Option Text → Text → Bool
 is_news testing v = option_map_or (is_above v) testing true
 
--- Days (Debian Developer's Reference 5.13.2; that they are counted from day to day, and set by mail, is decided by this office).
+-- Days (Debian Developer's Reference 5.13.2; this office decides to count them in dates and to set them by mail).
 
 -- urgencies from the least to the most urgent (Debian Policy 5.6.17)
 abbrev pub urgency_rank : Urgency → ℕ
@@ -51,7 +51,7 @@ urgency_rank Critical = 4
 abbrev pub more_urgent : Urgency → Urgency → Urgency
 more_urgent a b = if nat_lt (urgency_rank a) (urgency_rank b) then b else a
 
--- the days of an urgency: emergency and critical count alike (Debian Policy 5.6.17)
+-- the days of an urgency; emergency equals critical (Debian Policy 5.6.17)
 abbrev pub days_of : Delays → Urgency → ℕ
 days_of d Low = d.low
 days_of d Medium = d.medium
@@ -59,19 +59,21 @@ days_of d High = d.high
 days_of d Emergency = d.critical
 days_of d Critical = d.critical
 
--- the days that hold where no message sets others: 10, 5 and 2 of Debian Developer's Reference 5.13.2; this office decides the 0
+-- the days without a message that sets others: 10, 5 and 2 of Debian Developer's Reference 5.13.2; this office decides
+-- the 0
 abbrev pub usual_delays : Delays
 usual_delays = record { low = 10; medium = 5; high = 2; critical = 0 }
 
--- those of the last message on delays, or else the usual ones
+-- the delays of the last message on them, or else the usual ones
 abbrev pub delays_in_force : Option DelaysIn → Delays
 delays_in_force last = option_map_or (λ d. d.delays) last usual_delays
 
--- the upload's urgency counts: it is the source's, and above testing's version
+-- the upload's urgency counts: it is the source's upload, and is above testing's version
 abbrev pub counts : Option Text → Text → UploadIn → Bool
 counts testing name u = bytes_eq u.source name && is_news testing u.version
 
--- the greatest urgency among the uploads that count: it sticks to the source until it moves (Debian Developer's Reference 5.13.2)
+-- the greatest urgency of the uploads that count: the source keeps it until it moves (Debian Developer's Reference
+-- 5.13.2)
 abbrev pub most_urgent : List UploadIn → Option Text → Text → Urgency
 most_urgent uploads testing name = fold more_urgent Low (map (λ u. u.urgency) (filter (counts testing name) uploads))
 
@@ -84,11 +86,11 @@ abbrev pub asked_days : Text → Text → Hint → Option ℕ
 asked_days name v (AgeDays n items) = if is_named items name v then Some n else None
 asked_days name v _ = None
 
--- those that the last such hint asks for (this office decides which)
+-- the days asked by the last hint that asks any for the upload (this office decides that the last one counts)
 abbrev pub hinted_days : List HintIn → UploadIn → Option ℕ
 hinted_days hints u = last_or None (filter_map (λ h. asked_days u.source u.version h.hint) hints)
 
--- the days that an unstable source needs: those asked for by hint, or else those of the most urgent upload that counts
+-- the days that an unstable source needs: those asked by a hint, or else those of the most urgent upload that counts
 abbrev pub days_needed : Delays → List HintIn → List UploadIn → Option Text → UploadIn → ℕ
 days_needed delays hints uploads testing u = unwrap_or (hinted_days hints u) (days_of delays (most_urgent uploads testing u.source))
 
@@ -98,29 +100,32 @@ age_of date u = floor_zero (epoch_day date -ℤ epoch_day u.day)
 
 -- Reasons (Debian Developer's Reference 5.13.2).
 
--- the bug is new for the source: release-critical, in the unstable version and not in testing's (Debian Developer's Reference 5.13.2)
+-- the bug is new for the source: release-critical, in the unstable version and not in testing's (Debian Developer's
+-- Reference 5.13.2)
 abbrev pub is_new_bug : Option Text → UploadIn → BugIn → Bool
 is_new_bug testing u b =
     bytes_eq b.source u.source && is_release_critical b.severity && affects b u.version
     && option_map_or (λ v. not (affects b v)) testing true
 
--- the source has a row of the architecture, and a current one
+-- unstable has a row of the source on the architecture (Debian Developer's Reference 5.13.2.1)
 abbrev pub has_row_on : List RowIn → UploadIn → ℕ → Bool
 has_row_on rows u arch = list_any (λ r. (r.arch == arch) && is_of_source u r) rows
 
--- the source has a current row of the architecture
+-- unstable has a current row of the source on the architecture
 abbrev pub has_current_on : List RowIn → UploadIn → ℕ → Bool
 has_current_on rows u arch = list_any (λ r. (r.arch == arch) && is_current u r) rows
 
--- the source has rows of the architecture, and none of them is current: it is out of date there (Debian Developer's Reference 5.13.2.1)
+-- the source has rows on the architecture, none of them current: it is out of date there (Debian Developer's Reference
+-- 5.13.2.1)
 abbrev pub is_missing_on : List RowIn → UploadIn → ℕ → Bool
 is_missing_on rows u arch = has_row_on rows u arch && not (has_current_on rows u arch)
 
--- some row of the source is current (that a source without one stays out is decided by this office)
+-- some row of the source is current (this office decides that a source without one stays out)
 abbrev pub has_current : List RowIn → UploadIn → Bool
 has_current rows u = list_any (is_current u) rows
 
--- a hint to keep the source out: it names it, or keeps out all sources (named after britney2's `block` and `block-all`)
+-- a hint that keeps the source out: it names it, or keeps out all sources (named after britney2's `block` and
+-- `block-all`)
 abbrev pub blocks : Text → Hint → Bool
 blocks name (Block names) = list_any (bytes_eq name) names
 blocks name BlockAll = true
@@ -147,7 +152,7 @@ removes name v (Unblock items) = false
 removes name v (Easy items) = false
 removes name v (AgeDays n items) = false
 
--- some hint does so
+-- some hint keeps the source out
 abbrev pub asks_block : List HintIn → Text → Bool
 asks_block hints name = list_any (λ h. blocks name h.hint) hints
 
@@ -155,7 +160,7 @@ asks_block hints name = list_any (λ h. blocks name h.hint) hints
 abbrev pub lifts_block : List HintIn → Text → Text → Bool
 lifts_block hints name v = list_any (λ h. unblocks name v h.hint) hints
 
--- the source is kept out by hint, and its unstable version isn't let in
+-- a hint keeps the source out, and no hint lifts this for its unstable version
 abbrev pub is_blocked : List HintIn → UploadIn → Bool
 is_blocked hints u = asks_block hints u.source && not (lifts_block hints u.source u.version)
 
@@ -163,7 +168,7 @@ is_blocked hints u = asks_block hints u.source && not (lifts_block hints u.sourc
 abbrev pub asks_removal : List HintIn → Text → Text → Bool
 asks_removal hints name v = list_any (λ h. removes name v h.hint) hints
 
--- its removal is asked for, at its unstable version or at testing's (this office decides it)
+-- a hint asks to remove it, at its unstable version or at testing's (this office decides it)
 abbrev pub is_removal_asked : List HintIn → Option Text → UploadIn → Bool
 is_removal_asked hints testing u =
     asks_removal hints u.source u.version || option_map_or (asks_removal hints u.source) testing false
@@ -178,7 +183,8 @@ reasons_of places rows bugs hints testing is_young u =
     ++ only_if (is_blocked hints u) Blocked
     ++ only_if (is_removal_asked hints testing u) RemovalAsked
 
--- what the excuses of a run are made from, beside testing: unstable's rows, the states of bugs, the hints in force, the uploads, the delays and the date
+-- the input of a run's excuses apart from testing: unstable's rows, the states of bugs, the hints in force, the
+-- uploads, the delays and the date
 pub record Ground : Type 0 where
   pub rows : List RowIn
   pub bugs : List BugIn
@@ -205,7 +211,7 @@ abbrev pub excuses_on : List ℕ → Ground → Suite → List UploadIn → List
 excuses_on places g t sources =
     map (λ u. excuse_on places g (testing_version t u.source) u) (filter (λ u. is_news (testing_version t u.source) u.version) sources)
 
--- what the covered messages give
+-- that input from the covered messages
 abbrev pub ground_of : List Text → Covered → Date → Ground
 ground_of archs s date = record {
   rows = unstable_rows archs s;

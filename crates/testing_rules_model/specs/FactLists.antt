@@ -1,4 +1,4 @@
--- What facts hold, and the rows that came and those that left since they were kept.
+-- The content of facts, and the rows that came and left since they were last kept.
 use Rattle.std.specs.Prelude.{List, [], Option, None}
 use Rattle.testing_rules_model.specs.declared.fact_row.FactRow.{FactRow}
 use Rattle.testing_rules_model.specs.declared.facts.UploadIn.{UploadIn}
@@ -21,6 +21,6 @@ pub record FactLists : Type 0 where
   pub came : List FactRow
   pub left : List FactRow
 
--- no facts, of which no row came or left
+-- no facts; no row came or left
 abbrev pub no_facts : FactLists
 no_facts = record { sources = []; uploads = []; rows = []; drops = []; bugs = []; hints = []; unhints = []; delays = None; came = []; left = [] }

@@ -34,7 +34,7 @@ pub record IsFactOrder (sources : List UploadIn) (rows : List BuildIn) (drops : 
   pub drops_by_pair : AreDropsByPair drops
   pub by_number : AreByNumber bugs
 
--- unstable's sources and rows as moves see them
+-- the order of unstable's sources and rows that moves use
 pub record IsUnstableOrder (sources : List UploadIn) (rows : List RowIn) : Type 0 where
   pub by_source : AreBySource sources
   pub by_key : AreByKey rows

@@ -1,4 +1,4 @@
--- The rows of facts: for each fact the message that gives it. That facts are kept as rows is this office's own.
+-- The rows of facts: for each fact, the message that gives it. This office decides to keep facts as rows.
 use Rattle.std.specs.Prelude.{◌≡◌, ◌⊎◌, ℕ, ◌==◌, ◌&&◌, if◌then◌else◌, Bool, List, ◌++◌, map, Option, Some, None, option_to_list}
 use Rattle.std.specs.List.{count_by}
 use Rattle.std.specs.declared.cmp.Ordering.{Ordering}
@@ -15,7 +15,7 @@ use Rattle.testing_rules_model.specs.declared.fact_row.FactKind.{FactKind}
 use Rattle.testing_rules_model.specs.declared.fact_row.FactKind.TheVariants.{Source, Upload, Build, Drop, Bug, Hint, Unhint, Delays}
 use Rattle.testing_rules_model.specs.declared.fact_row.FactRow.{FactRow}
 
--- the number by which tables keep a kind, in whose order rows stand
+-- the number of a kind in tables, by which rows are ordered
 abbrev pub number_of : FactKind → ℕ
 number_of Source = 1
 number_of Upload = 2
@@ -26,7 +26,7 @@ number_of Hint = 6
 number_of Unhint = 7
 number_of Delays = 8
 
--- the kind of a number, if it is one's
+-- the kind with a number, if there is one
 abbrev pub kind_of : ℕ → Option FactKind
 kind_of n =
     if n == 1 then Some Source else if n == 2 then Some Upload else if n == 3 then Some Build else if n == 4 then Some Drop
@@ -36,30 +36,35 @@ kind_of n =
 abbrev pub is_kind : FactKind → FactKind → Bool
 is_kind k l = number_of k == number_of l
 
--- the row of an unstable source, and that of an upload above testing's version
+-- the row of an unstable source
 abbrev pub source_row : UploadIn → FactRow
 source_row u = record { kind = Source; sender = u.sender; number = u.number; place = 0 }
 
+-- the row of an upload above testing's version
 abbrev pub upload_row : UploadIn → FactRow
 upload_row u = record { kind = Upload; sender = u.sender; number = u.number; place = 0 }
 
--- of an unstable row, with its paragraph
+-- the row of an unstable row, with its paragraph
 abbrev pub build_row : BuildIn → FactRow
 build_row b = record { kind = Build; sender = b.sender; number = b.number; place = b.place }
 
--- of a greatest drop, of a bug's last message, of a hint, of an unhint, and of the last delays
+-- the row of a greatest drop
 abbrev pub drop_row : DropIn → FactRow
 drop_row d = record { kind = Drop; sender = d.sender; number = d.number; place = 0 }
 
+-- the row of a bug's last message
 abbrev pub bug_row : BugIn → FactRow
 bug_row b = record { kind = Bug; sender = b.sender; number = b.number; place = 0 }
 
+-- the row of a hint
 abbrev pub hint_row : HintIn → FactRow
 hint_row h = record { kind = Hint; sender = h.sender; number = h.number; place = 0 }
 
+-- the row of an unhint
 abbrev pub unhint_row : UnhintIn → FactRow
 unhint_row c = record { kind = Unhint; sender = c.sender; number = c.number; place = 0 }
 
+-- the row of the last delays
 abbrev pub delays_row : DelaysIn → FactRow
 delays_row d = record { kind = Delays; sender = d.sender; number = d.number; place = 0 }
 
@@ -69,7 +74,7 @@ rows_of f =
     map source_row f.sources ++ (map upload_row f.uploads ++ (map build_row f.rows ++ (map drop_row f.drops
     ++ (map bug_row f.bugs ++ (map hint_row f.hints ++ (map unhint_row f.unhints ++ map delays_row (option_to_list f.delays)))))))
 
--- a row that facts can have: with a place where it is that of a paragraph
+-- a possible row of facts: only the row of a paragraph has a place
 pub record IsFactRow (r : FactRow) : Type 0 where
   pub place : (r.kind ≡ Build) ⊎ (r.place ≡ 0)
 
@@ -77,7 +82,7 @@ pub record IsFactRow (r : FactRow) : Type 0 where
 abbrev pub is_row : FactRow → FactRow → Bool
 is_row r x = is_kind x.kind r.kind && ((x.sender == r.sender) && ((x.number == r.number) && (x.place == r.place)))
 
--- how often a row stands in a list
+-- how often a row occurs in a list
 abbrev pub times : FactRow → List FactRow → ℕ
 times r rows = count_by (is_row r) rows
 

@@ -1,5 +1,5 @@
--- The uploads that count beside a testing, and the facts that keep no others. That facts are kept is this office's own; which uploads
--- count is said in Excuses (Debian Developer's Reference 5.13.2).
+-- The uploads that count with a testing, and the facts that keep no others. This office decides to keep facts; Excuses
+-- says which uploads count (Debian Developer's Reference 5.13.2).
 use Rattle.std.specs.Prelude.{◌≡◌, ◌++◌, ◌⊎◌, Bool, true, not, List, map, filter, Contains}
 use Rattle.testing_rules_items.specs.Words.{Text}
 use Rattle.testing_rules_model.specs.declared.facts.UploadIn.{UploadIn}
@@ -14,18 +14,19 @@ use Rattle.testing_rules_model.specs.StandsFor.{StandsFor}
 abbrev pub counts_beside : Suite → UploadIn → Bool
 counts_beside t u = is_news (testing_version t u.source) u.version
 
--- the facts with no more uploads than those that count: the rows of the others left
+-- the facts with only the uploads that count; the rows of the other uploads left
 abbrev pub trimmed : Suite → FactLists → FactLists
 trimmed t f = record f {
   uploads = filter (counts_beside t) f.uploads;
   left = f.left ++ map upload_row (filter (λ u. not (counts_beside t u)) f.uploads);
 }
 
--- facts as they are kept: they stand for the set, and no upload is among them that doesn't count
+-- kept facts: they stand for the set, and each of their uploads counts
 pub record KeptFacts (f : FactLists) (s : Covered) (t : Suite) : Type 0 where
   pub stand : StandsFor f s t
   pub only : (u : UploadIn) → Contains f.uploads u → counts_beside t u ≡ true
 
--- what counts beside the new testing counted beside the old one, but for the sources of these names, which were removed or fell
+-- what counts with the new testing counted with the old one, except for the sources with these names, which were
+-- removed or fell
 abbrev pub AreFallen : List Text → Suite → Suite → Type 0
 AreFallen names old new = (name v : Text) → is_news (testing_version new name) v ≡ true → (is_news (testing_version old name) v ≡ true) ⊎ Contains names name

@@ -1,5 +1,5 @@
 -- Steps: no contract of a call that users make rests on this file.
--- Items of a hint and excuses that are lent, and sources as they moved.
+-- Borrowed items of a hint, borrowed excuses, and sources as they moved.
 use Rattle.testing_rules_model.specs.declared.facts.UploadIn.{UploadIn}
 use Rattle.testing_rules_model.specs.declared.update.Moved.{Moved}
 

@@ -1,4 +1,4 @@
--- Changes of testing, and which of them are allowed: no change may break a row that worked, or bring in one that doesn't
+-- Changes of testing, and which of them are allowed: no change may break a row that worked, or add one that doesn't
 -- (Debian Developer's Reference 5.13.2 and 5.13.2.4).
 use Rattle.std.specs.Prelude.{ℕ, Bool, ◌&&◌, ◌||◌, not, ◌==◌, List, [], ◌∷◌, map, filter, find, fold, length, Option, Some, None, option_map}
 use Rattle.std.specs.declared.cmp.Ordering.{Ordering}
@@ -14,7 +14,7 @@ use Rattle.testing_rules_model.specs.Suite.{Suite}
 use Rattle.testing_rules_items.specs.Words.{Text, byte_cmp, least, put_by, all_place}
 use Rattle.testing_rules_model.specs.Unstable.{is_current}
 
--- rows stand by architecture and then by name (this office decides it)
+-- the order of rows: by architecture and then by name (this office decides it)
 abbrev pub row_cmp : ℕ × Text → ℕ × Text → Ordering
 row_cmp = then_cmp (on (λ p. p.0) nat_cmp) (on (λ p. p.1) byte_cmp)
 
@@ -30,7 +30,7 @@ put_source x xs = put_by (λ s. s.name) byte_cmp x xs
 abbrev pub put_row : RowIn → List RowIn → List RowIn
 put_row x xs = put_by row_key row_cmp x xs
 
--- the source as testing holds it, once its unstable version is there
+-- the source in testing once its unstable version has moved
 abbrev pub as_source : UploadIn → SourceIn
 as_source u = record { name = u.source; version = u.version; sender = u.sender; number = u.number }
 
@@ -42,12 +42,12 @@ is_row_of group r = list_any (bytes_eq r.binary.source) group
 abbrev pub source_in : List UploadIn → Text → Option UploadIn
 source_in sources name = find (λ u. bytes_eq u.source name) sources
 
--- those of unstable's sources that a group names, in its order
+-- the unstable sources that a group names, in its order
 abbrev pub group_sources : List UploadIn → List Text → List UploadIn
 group_sources sources group = filter_map (source_in sources) group
 
--- moving a group, where unstable has these sources and rows: all rows of its sources leave, their current rows come in, and the sources
--- get their unstable versions (Debian Developer's Reference 5.13.2; several sources at once, 5.13.2.3)
+-- moves a group, with these unstable sources and rows: all rows of its sources leave, their current rows come, and the
+-- sources get their unstable versions (Debian Developer's Reference 5.13.2; several sources at once, 5.13.2.3)
 abbrev pub move_group : List UploadIn → List RowIn → List Text → Suite → Suite
 move_group sources rows group t =
     let moving = group_sources sources group in
@@ -56,18 +56,18 @@ move_group sources rows group t =
       rows = fold (λ xs r. put_row r xs) (filter (λ r. not (is_row_of group r)) t.rows) (flat_map (λ u. filter (is_current u) rows) moving);
     }
 
--- removing a source: its rows and its version leave (britney2's `remove`)
+-- removes a source: its rows and its version leave (britney2's `remove`)
 abbrev pub remove_source : Text → Suite → Suite
 remove_source name t = record {
   sources = filter (λ x. not (bytes_eq x.name name)) t.sources;
   rows = filter (λ r. not (bytes_eq r.binary.source name)) t.rows;
 }
 
--- the rows on an architecture are its own and those of `all` (Debian Policy 5.6.8)
+-- an architecture's rows are its own and those of `all` (Debian Policy 5.6.8)
 abbrev pub is_row_on : ℕ → RowIn → Bool
 is_row_on arch r = (r.arch == arch) || (r.arch == all_place)
 
--- those of some rows that are on the architecture
+-- the given rows that are on the architecture
 abbrev pub rows_on : ℕ → List RowIn → List RowIn
 rows_on arch rows = filter (is_row_on arch) rows
 
@@ -76,18 +76,18 @@ pub record RowAnswer : Type 0 where
   pub row : RowIn
   pub is_installable : Bool
 
--- rows with their answers, place by place
+-- rows with their answers, one for one
 abbrev pub with_answers : List RowIn → List Bool → List RowAnswer
 with_answers [] answers = []
 with_answers (r ∷ rs) [] = []
 with_answers (r ∷ rs) (b ∷ bs) = record { row = r; is_installable = b } ∷ with_answers rs bs
 
--- each row on the architecture with the answer for it (Debian Policy 7.1, 7.2 and 7.5)
+-- each row on the architecture with its answer (Debian Policy 7.1, 7.2 and 7.5)
 abbrev pub judged_on : ℕ → List RowIn → List RowAnswer
 judged_on arch rows =
     let there = rows_on arch rows in with_answers there (are_installable (map (λ r. r.binary) there))
 
--- the rows are of the same architecture and name
+-- the rows have the same architecture and name
 abbrev pub is_same_key : RowIn → RowIn → Bool
 is_same_key r q = (r.arch == q.arch) && bytes_eq r.binary.name q.binary.name
 
@@ -95,16 +95,17 @@ is_same_key r q = (r.arch == q.arch) && bytes_eq r.binary.name q.binary.name
 abbrev pub was_installable : List RowAnswer → RowIn → Bool
 was_installable before r = list_any (λ j. j.is_installable && is_same_key j.row r) before
 
--- each architecture's own rows are watched there, and the rows of `all` on the first one (this office decides it)
+-- each architecture watches its own rows, and the first one also the rows of `all` (this office decides it)
 abbrev pub is_watched_on : ℕ → RowIn → Bool
 is_watched_on arch r = (r.arch == arch) || ((r.arch == all_place) && (arch == 0))
 
--- the row fails: it isn't installable, though it came in with the group or was installable before (Debian Developer's Reference 5.13.2)
+-- the row fails: it isn't installable, and came with the group or was installable before (Debian Developer's Reference
+-- 5.13.2)
 abbrev pub fails_on : ℕ → List Text → List RowAnswer → RowAnswer → Bool
 fails_on arch group before j =
     is_watched_on arch j.row && not j.is_installable && (is_row_of group j.row || was_installable before j.row)
 
--- the name of the first row that fails, in byte order (this office decides it)
+-- the first name in byte order of a row that fails (this office decides it)
 abbrev pub first_failing : ℕ → List Text → List RowAnswer → List RowAnswer → Option Text
 first_failing arch group before after =
     least byte_cmp (map (λ j. j.row.binary.name) (filter (fails_on arch group before) after))
@@ -119,7 +120,7 @@ abbrev pub first_of : {A : Type 0} → List A → Option A
 first_of [] = None
 first_of (x ∷ xs) = Some x
 
--- the first row that a change breaks, by architecture in listed order and then by package name (this office decides the order). The change
--- is allowed where there is none
+-- the first row that a change breaks, by architecture in listed order and then by package name (this office decides the
+-- order). Without one the change is allowed
 abbrev pub offender_of : List Text → List RowIn → List RowIn → List Text → Option Offender
 offender_of archs old new group = first_of (filter_map (offender_on old new group) (range_with_len 0 (length archs)))

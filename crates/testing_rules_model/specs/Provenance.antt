@@ -19,7 +19,7 @@ pub record IsUploaded (s : Covered) (source : SourceIn) : Type 0 where
   pub day : Date
   pub upload : Contains s (record { sender = source.sender; number = source.number; item = Upload source.name source.version urgency day })
 
--- the binary of a build at a place, of which the first is 1
+-- the binary of a build at a place, counted from 1
 abbrev pub binary_in : List Binary → ℕ → Option Binary
 binary_in binaries zero = None
 binary_in binaries (suc i) = slice_get binaries i
@@ -28,7 +28,7 @@ binary_in binaries (suc i) = slice_get binaries i
 abbrev pub IsArchPlace : List Text → ℕ → Type 0
 IsArchPlace archs place = (place < length archs) ⊎ (place ≡ all_place)
 
--- a covered build has the row's binary at its place, and the row's architecture is the binary's
+-- a covered build has the row's binary at its place, and the row has the binary's architecture
 pub record IsBuilt (archs : List Text) (s : Covered) (row : RowIn) : Type 0 where
   pub binaries : List Binary
   pub build : Contains s (record { sender = row.sender; number = row.number; item = Build binaries })
@@ -36,7 +36,7 @@ pub record IsBuilt (archs : List Text) (s : Covered) (row : RowIn) : Type 0 wher
   pub known : IsArchPlace archs row.arch
   pub arch : arch_name archs row.arch ≡ row.binary.architecture
 
--- what one testing has and an earlier one hadn't is given by covered messages
+-- covered messages give everything that one testing has and an earlier one hadn't
 pub record IsGivenBy (archs : List Text) (s : Covered) (old new : Suite) : Type 0 where
   pub sources : (source : SourceIn) → Contains new.sources source → Contains old.sources source ⊎ IsUploaded s source
   pub rows : (row : RowIn) → Contains new.rows row → Contains old.rows row ⊎ IsBuilt archs s row
@@ -45,12 +45,12 @@ pub record IsGivenBy (archs : List Text) (s : Covered) (old new : Suite) : Type 
 pub record KnowsArchs (archs : List Text) (rows : List RowIn) : Type 0 where
   pub each : (row : RowIn) → Contains rows row → IsArchPlace archs row.arch
 
--- covered messages give all that a run brings into testing, where places below that of `all` serve for the architectures
+-- covered messages give everything that a run brings into testing, if each architecture's place is below that of `all`
 abbrev pub UpdateIsGiven : Type 0
 UpdateIsGiven =
     (archs : List Text) (s : Covered) (excuses : List Excuse) (old : Suite) → length archs ≤ most_archs → IsGivenBy archs s old (update_of archs s excuses old).suite
 
--- and no row of another architecture comes
+-- no row of an unlisted architecture comes
 abbrev pub ArchsStayKnown : Type 0
 ArchsStayKnown =
     (archs : List Text) (s : Covered) (excuses : List Excuse) (old : Suite) → length archs ≤ most_archs

@@ -1,4 +1,4 @@
--- When facts stand for a set of covered messages, beside a testing. That facts are kept is this office's own; the rules over them are
+-- When facts stand for a set of covered messages, with a testing. This office decides to keep facts; their rules are
 -- those of Unstable and Excuses (Debian Developer's Reference 5.13.2).
 use Rattle.std.specs.Prelude.{◌≡◌, true, List, [], Contains}
 use Rattle.testing_rules_model.specs.Suite.{Suite}
@@ -8,16 +8,16 @@ use Rattle.testing_rules_model.specs.Covered.{Covered, uploads_in}
 use Rattle.testing_rules_model.specs.Unstable.{unstable_sources, unstable_builds, greatest_drops, bug_states, hints_by_number, unhints_by_number, last_delays}
 use Rattle.testing_rules_model.specs.Excuses.{is_news, testing_version}
 
--- each of them is an upload of the set
+-- each of these is an upload of the set
 abbrev pub AreUploadsOf : List UploadIn → Covered → Type 0
 AreUploadsOf uploads s = (u : UploadIn) → Contains uploads u → Contains (uploads_in s) u
 
--- all uploads of the set that count beside the testing are among them
+-- these include all uploads of the set that count with the testing
 abbrev pub HaveCountedUploads : List UploadIn → Covered → Suite → Type 0
 HaveCountedUploads uploads s t =
     (u : UploadIn) → Contains (uploads_in s) u → is_news (testing_version t u.source) u.version ≡ true → Contains uploads u
 
--- the facts have what the rules ask of the set. Of the uploads, those that don't count may be left out
+-- the facts have what the rules need from the set. Uploads that don't count may be missing
 pub record StandsFor (facts : FactLists) (s : Covered) (t : Suite) : Type 0 where
   pub sources : facts.sources ≡ unstable_sources s
   pub rows : facts.rows ≡ unstable_builds s
@@ -29,6 +29,6 @@ pub record StandsFor (facts : FactLists) (s : Covered) (t : Suite) : Type 0 wher
   pub are_uploads : AreUploadsOf facts.uploads s
   pub counted : HaveCountedUploads facts.uploads s t
 
--- the facts stand for no message, beside any testing
+-- the facts stand for no messages, with any testing
 abbrev pub StandsForNone : FactLists → Type 0
 StandsForNone facts = (t : Suite) → StandsFor facts [] t

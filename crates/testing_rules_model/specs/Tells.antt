@@ -1,4 +1,4 @@
--- Facts that messages say, whether or not they stand for them. That facts are kept is this office's own.
+-- Facts that messages say, whether or not they stand for the messages. This office decides to keep facts.
 use Rattle.std.specs.Prelude.{Contains, option_to_list}
 use Rattle.std.specs.List.Sorted.{IsStrictlySortedBy}
 use Rattle.testing_rules_model.specs.declared.facts.UploadIn.{UploadIn}
@@ -13,7 +13,7 @@ use Rattle.testing_rules_model.specs.FactOrder.{AreBySource, AreByPair, AreDrops
 use Rattle.testing_rules_model.specs.Covered.{Covered, uploads_in, builds_in, drops_in, bugs_in, hints_in, unhints_in, delays_in}
 use Rattle.testing_rules_model.specs.Unstable.{hint_order, unhint_order}
 
--- each fact is said by a message of the set
+-- a message of the set says each fact
 pub record AreSaidBy (f : FactLists) (s : Covered) : Type 0 where
   pub sources : (u : UploadIn) → Contains f.sources u → Contains (uploads_in s) u
   pub uploads : (u : UploadIn) → Contains f.uploads u → Contains (uploads_in s) u
@@ -24,7 +24,7 @@ pub record AreSaidBy (f : FactLists) (s : Covered) : Type 0 where
   pub unhints : (c : UnhintIn) → Contains f.unhints c → Contains (unhints_in s) c
   pub delays : (d : DelaysIn) → Contains (option_to_list f.delays) d → Contains (delays_in s) d
 
--- the lists are in their orders, as those of every facts are
+-- the lists are ordered like those of any facts
 pub record AreOrderly (f : FactLists) : Type 0 where
   pub by_source : AreBySource f.sources
   pub by_pair : AreByPair f.rows

@@ -1,5 +1,5 @@
--- Unstable, the bugs and the hints in force, as the covered messages give them. Versions are compared as in Debian Policy 5.6.12.
--- Which of two messages on the same thing counts is decided by this office, and so are the orders in which things stand.
+-- Unstable, the bugs and the hints in force, according to the covered messages. Versions compare as in Debian Policy
+-- 5.6.12. This office decides which of two messages on the same subject counts, and all orders.
 use Rattle.std.specs.Prelude.{ℕ, Bool, true, false, ◌&&◌, ◌||◌, not, ◌==◌, List, [], ◌∷◌, ◌++◌, map, filter, Option, codes, length}
 use Rattle.std.specs.List.{filter_map, flat_map, list_any, list_all, enumerate_from, range_with_len}
 use Rattle.std.specs.Option.{option_map_or}
@@ -20,7 +20,7 @@ use Rattle.testing_rules_model.specs.declared.suite.RowIn.{RowIn}
 use Rattle.testing_rules_items.specs.Words.{Text, byte_cmp, is_above, is_same_version, least, sorted_by, all_place}
 use Rattle.testing_rules_model.specs.Covered.{Covered, uploads_in, builds_in, drops_in, bugs_in, hints_in, unhints_in, delays_in}
 
--- uploads in the order in which they count: the greatest version first, and among the same version by sender and number
+-- uploads in the order in which they count: the greatest version first, then by sender and number
 abbrev pub upload_order : UploadIn → UploadIn → Ordering
 upload_order = then_cmp (flip_args (on (λ u. u.version) version_cmp)) (then_cmp (on (λ u. u.sender) nat_cmp) (on (λ u. u.number) nat_cmp))
 
@@ -41,17 +41,17 @@ abbrev pub is_above_drops : Covered → BuildIn → Bool
 is_above_drops s b =
     list_all (λ d. not (bytes_eq d.arch b.binary.architecture && bytes_eq d.name b.binary.name) || is_above b.binary.version d.version) (drops_in s)
 
--- builds in the order in which they count: the greatest version first, and among the same version by sender, number and place
+-- builds in the order in which they count: the greatest version first, then by sender, number and place
 abbrev pub build_order : BuildIn → BuildIn → Ordering
 build_order =
     then_cmp (flip_args (on (λ b. b.binary.version) version_cmp))
     (then_cmp (on (λ b. b.sender) nat_cmp) (then_cmp (on (λ b. b.number) nat_cmp) (on (λ b. b.place) nat_cmp)))
 
--- the unstable row of an architecture and a binary name: of its builds above every drop, the first in this order
+-- the unstable row of an architecture and a binary name: the first in this order of its builds above every drop
 abbrev pub unstable_row : Covered → Text → Text → Option BuildIn
 unstable_row s arch name = least build_order (filter (λ b. is_build_of arch name b && is_above_drops s b) (builds_in s))
 
--- rows stand by architecture and then by name
+-- the order of rows: by architecture and then by name
 abbrev pub pair_order : Text × Text → Text × Text → Ordering
 pair_order = then_cmp (on (λ p. p.0) byte_cmp) (on (λ p. p.1) byte_cmp)
 
@@ -59,7 +59,7 @@ pair_order = then_cmp (on (λ p. p.0) byte_cmp) (on (λ p. p.1) byte_cmp)
 abbrev pub pair_of : BuildIn → Text × Text
 pair_of b = (b.binary.architecture, b.binary.name)
 
--- drops in the order in which they count: the greatest version first, and among the same version by sender and number
+-- drops in the order in which they count: the greatest version first, then by sender and number
 abbrev pub drop_order : DropIn → DropIn → Ordering
 drop_order = then_cmp (flip_args (on (λ d. d.version) version_cmp)) (then_cmp (on (λ d. d.sender) nat_cmp) (on (λ d. d.number) nat_cmp))
 
@@ -99,11 +99,11 @@ row_at arch b = record { arch = arch; binary = b.binary; sender = b.sender; numb
 abbrev pub built_on : List BuildIn → ℕ × Text → List RowIn
 built_on builds p = map (row_at p.0) (filter (λ b. bytes_eq b.binary.architecture p.1) builds)
 
--- builds as rows, by place of the architecture
+-- builds as rows, by the place of their architecture
 abbrev pub built_rows : List Text → List BuildIn → List RowIn
 built_rows archs builds = flat_map (built_on builds) (places archs)
 
--- unstable's rows, by place of the architecture and by name
+-- unstable's rows, by the place of their architecture and by name
 abbrev pub unstable_rows : List Text → Covered → List RowIn
 unstable_rows archs s = built_rows archs (unstable_builds s)
 
@@ -111,11 +111,12 @@ unstable_rows archs s = built_rows archs (unstable_builds s)
 abbrev pub is_of_source : UploadIn → RowIn → Bool
 is_of_source u r = bytes_eq r.binary.source u.source
 
--- and was built from its version: it isn't out of date (Debian Developer's Reference 5.13.2.1)
+-- the row is current: built from the source's unstable version, so not out of date (Debian Developer's Reference
+-- 5.13.2.1)
 abbrev pub is_current : UploadIn → RowIn → Bool
 is_current u r = is_of_source u r && is_same_version r.binary.source_version u.version
 
--- messages on bugs in the order in which they count: the greatest number first, and among the same number by sender
+-- messages on bugs in the order in which they count: the greatest number first, then by sender
 abbrev pub bug_order : BugIn → BugIn → Ordering
 bug_order = then_cmp (flip_args (on (λ b. b.number) nat_cmp)) (on (λ b. b.sender) nat_cmp)
 
@@ -134,22 +135,24 @@ is_release_critical Grave = true
 is_release_critical Serious = true
 is_release_critical _ = false
 
--- the bug affects a version: from the version in which it was found on, and up to the one that fixes it (this office decides it)
+-- the bug affects a version: from the version in which it was found, up to but without the one that fixes it (this
+-- office decides it)
 abbrev pub affects : BugIn → Text → Bool
 affects b v = option_map_or (λ found. not (is_above found v)) b.found true && option_map_or (λ fixed. is_above fixed v) b.fixed true
 
--- hints stand by number, and among the same number by sender; so do unhints
+-- the order of hints: by number, then by sender (this office decides it)
 abbrev pub hint_order : HintIn → HintIn → Ordering
 hint_order = then_cmp (on (λ h. h.number) nat_cmp) (on (λ h. h.sender) nat_cmp)
 
+-- the order of unhints: by number, then by sender (this office decides it)
 abbrev pub unhint_order : UnhintIn → UnhintIn → Ordering
 unhint_order = then_cmp (on (λ c. c.number) nat_cmp) (on (λ c. c.sender) nat_cmp)
 
--- the hints, in this order
+-- the hints in their order
 abbrev pub hints_by_number : Covered → List HintIn
 hints_by_number s = sorted_by (λ h. h) hint_order (hints_in s)
 
--- the unhints, in this order
+-- the unhints in their order
 abbrev pub unhints_by_number : Covered → List UnhintIn
 unhints_by_number s = sorted_by (λ c. c) unhint_order (unhints_in s)
 
@@ -161,7 +164,7 @@ is_in_force unhints h = not (list_any (λ c. c.cancels == h.number) unhints)
 abbrev pub in_force : Covered → List HintIn
 in_force s = filter (is_in_force (unhints_by_number s)) (hints_by_number s)
 
--- messages on delays in the order in which they count: the greatest number first, and among the same number by sender
+-- messages on delays in the order in which they count: the greatest number first, then by sender
 abbrev pub delays_order : DelaysIn → DelaysIn → Ordering
 delays_order = then_cmp (flip_args (on (λ d. d.number) nat_cmp)) (on (λ d. d.sender) nat_cmp)
 

@@ -1,5 +1,5 @@
--- What no run breaks: watched rows that are installable (Debian Developer's Reference 5.13.2 and 5.13.2.4). Which rows are watched is
--- decided by this office.
+-- What no run breaks: installable watched rows (Debian Developer's Reference 5.13.2 and 5.13.2.4). This office decides
+-- which rows are watched.
 use Rattle.std.specs.Prelude.{◌≡◌, ℕ, ◌<◌, true, List, [], length}
 use Rattle.std.specs.List.{AllByRecursion}
 use Rattle.testing_rules_model.specs.declared.suite.RowIn.{RowIn}
@@ -11,12 +11,12 @@ use Rattle.testing_rules_model.specs.Covered.{Covered}
 use Rattle.testing_rules_model.specs.Moves.{is_watched_on, judged_on}
 use Rattle.testing_rules_model.specs.Updates.{IsUpdate}
 
--- on each architecture every row that is watched there is installable there
+-- every row watched on an architecture is installable there
 abbrev pub AllWatchedWork : List Text → List RowIn → Type 0
 AllWatchedWork archs rows =
     (arch : ℕ) → arch < length archs → AllByRecursion (λ j. is_watched_on arch j.row ≡ true → j.is_installable ≡ true) (judged_on arch rows)
 
--- where every watched row is installable before a run, so it is after it; and it is so where testing has no row
+-- if every watched row is installable before a run, it is so after the run; without rows in testing this is true
 abbrev pub WatchedRowsStay : Type 0
 WatchedRowsStay =
     ((archs : List Text) (s : Covered) (excuses : List Excuse) (old new : Suite) (decisions : List Decision)

@@ -17,7 +17,7 @@ pub enum Reason {
     RemovalAsked,
 }
 
-/// What keeps a source out, in the order in which the report tells it; none where it may move.
+/// What keeps a source out, in the report's order; empty if it may move.
 pub struct Reasons {
     reasons: Vec<Reason>,
 }
@@ -37,7 +37,7 @@ impl Model for Reasons {
     ghost view = { λ a. a.reasons.items };
 }
 
-/// A source whose unstable version is above testing's, or which isn't in testing.
+/// A source that isn't in testing, or whose unstable version is above testing's.
 #[derive(Drop)]
 pub struct Excuse {
     pub source: Text,
@@ -69,7 +69,7 @@ impl Model for Excuses {
 }
 
 impl Reasons {
-    /// These reasons. It takes no memory.
+    /// These reasons. It allocates nothing.
     pub fn new(reasons: Vec<Reason>) -> Reasons
         ensures { result ≡ reasons.items }
     {
@@ -85,7 +85,7 @@ impl Reasons {
 }
 
 impl Excuses {
-    /// These excuses. It takes no memory.
+    /// These excuses. It allocates nothing.
     pub fn of(excuses: Vec<Excuse>) -> Excuses
         ensures { result ≡ excuses.items }
     {

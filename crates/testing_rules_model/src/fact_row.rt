@@ -5,8 +5,8 @@ ghost use Rattle.testing_rules_model.specs.FactRows.{number_of, kind_of};
 
 use std::marker::Model;
 
-/// What a fact is: an unstable source, an upload above testing's version, an unstable row, a greatest drop of its pair,
-/// a bug's last message, a hint, an unhint, or the last delays. Rows stand in this order of their kinds.
+/// The kind of a fact: an unstable source, an upload above testing's version, an unstable row, a greatest drop of its
+/// pair, a bug's last message, a hint, an unhint, or the last delays. Rows are ordered by kind in this order.
 #[derive(Clone, Copy, Debug, PartialEq, Eq, PartialOrd, Ord)]
 pub enum FactKind {
     Source = 1,
@@ -20,14 +20,14 @@ pub enum FactKind {
 }
 
 impl FactKind {
-    /// The number by which tables keep the kind.
+    /// The number of the kind in tables.
     pub fn number(self) -> u32
         ensures { result ≡ number_of self }
     {
         self as u32
     }
 
-    /// The kind of a number, if it is one's.
+    /// The kind with a number, if there is one.
     pub fn of_number(number: u32) -> Option<FactKind>
         ensures { result ≡ kind_of number }
     {
@@ -45,8 +45,8 @@ impl FactKind {
     }
 }
 
-/// The message that gives a fact, and the kind of the fact. `sender` is the sender's place in the setup, from 0. `place`
-/// is that of the paragraph for an unstable row, from 1 on, and else 0.
+/// The message that gives a fact, and the fact's kind. `sender` is the sender's place in the setup, from 0. `place` is
+/// that of the paragraph, from 1, for an unstable row, else 0.
 #[derive(Clone, Copy, Debug, PartialEq, Eq, PartialOrd, Ord)]
 pub struct FactRow {
     pub kind: FactKind,
@@ -55,7 +55,7 @@ pub struct FactRow {
     pub place: u32,
 }
 
-/// Rows of facts, one behind another.
+/// Rows of facts, in a list.
 pub struct FactRows {
     rows: Vec<FactRow>,
 }
@@ -76,14 +76,14 @@ impl Model for FactRows {
 }
 
 impl FactRows {
-    /// These rows. It takes no memory.
+    /// These rows. It allocates nothing.
     pub fn of(rows: Vec<FactRow>) -> FactRows
         ensures { result ≡ rows.items }
     {
         FactRows { rows }
     }
 
-    /// The rows, as they stand.
+    /// The rows in their order.
     pub fn as_slice(&self) -> &[FactRow]
         ensures { result.now ≡ self.now }
     {
@@ -91,7 +91,7 @@ impl FactRows {
     }
 }
 
-/// What changed of the rows of facts: those that are put into the kept ones, and those that are taken out of them.
+/// The changes of the rows of facts: rows to add to the kept ones, and rows to remove from them.
 #[derive(Drop)]
 pub struct FactChanges {
     pub put: FactRows,

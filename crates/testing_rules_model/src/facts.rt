@@ -1,4 +1,4 @@
-//! Facts: what a run has to know of the covered messages.
+//! Facts: what a run needs to know about the covered messages.
 
 ghost use Rattle.std.specs.Prelude.{◌≡◌, IfOk};
 
@@ -67,7 +67,7 @@ pub struct UnhintIn {
     pub number: u32,
 }
 
-/// The days that an upload waits, by its urgency. Emergency and critical wait alike.
+/// The days that an upload waits, by its urgency. Emergency equals critical.
 #[derive(Clone, Copy, Debug, PartialEq, Eq)]
 pub struct Delays {
     pub low: u32,

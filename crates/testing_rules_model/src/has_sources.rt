@@ -1,4 +1,4 @@
-//! Suites that are asked for their sources alone.
+//! Suites of which only the sources are used.
 
 ghost use Rattle.std.specs.Prelude.{◌≡◌};
 ghost use Rattle.testing_rules_model.specs.InOrder.{AreByName};
@@ -6,7 +6,7 @@ ghost use Rattle.testing_rules_model.specs.Suite.{Suite};
 
 use crate::suite::SourceIn;
 
-/// A suite, of which no more is asked than its sources.
+/// A suite of which only the sources are used.
 pub trait HasSources {
     // The suite.
     ghost suite: { Self → Suite };

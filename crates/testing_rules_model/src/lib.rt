@@ -1,4 +1,4 @@
-//! The promotion rules as definitions, the records that they speak of, and whether two of these are the same.
+//! The promotion rules as definitions, the records that they use, and whether two of these are the same.
 #![tactic(auto)]
 
 mod excuse;

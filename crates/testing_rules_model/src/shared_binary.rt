@@ -11,9 +11,9 @@ use std::ops::Deref;
 use std::rc::Rc;
 use testing_install::hash_of;
 
-/// A binary package, of which a build of unstable, the rows of testing and a suite have one value together: a row that
-/// moves or stays costs no copy of its texts. The hash of its source's name stands beside it, so that the rows of a few
-/// sources are found among all without reading the texts of each.
+/// A binary package with one value shared by a build of unstable, the rows of testing and a suite: a row that moves or
+/// stays copies none of its texts. The value includes the hash of its source's name, so that the rows of a few sources
+/// are found without reading the texts of all.
 pub struct SharedBinary {
     shared: Rc<Binary>,
     source_hash: u64,

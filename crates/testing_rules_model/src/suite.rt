@@ -32,7 +32,7 @@ pub struct RowIn {
     pub place: u32,
 }
 
-/// A row that is lent: its binary stands in testing or among the builds of unstable.
+/// A borrowed row: its binary is in testing or among the builds of unstable.
 #[derive(Clone, Copy)]
 pub struct LentRow<'a> {
     pub binary: &'a SharedBinary,
@@ -42,7 +42,7 @@ pub struct LentRow<'a> {
     pub place: u32,
 }
 
-/// Where the sources have the name, or else where it belongs. The guessed place is tried first, and then the next one.
+/// The place of the name among the sources, or where it belongs. The guessed place is tried first, then the next one.
 pub fn source_place_near(sources: &[SourceIn], name: &str, guess: usize) -> Result<usize, usize>
     ensures bound { IsSearchInRange result (length sources.now) }
     ensures found { IsBinarySearchResult (λ s. byte_cmp s.name name.now) sources.now result }
@@ -73,7 +73,7 @@ impl SourceIn {
 }
 
 impl RowIn {
-    /// The row, lent.
+    /// The row, borrowed.
     pub fn lend(&self) -> LentRow<'_>
         ensures { row_of result ≡ self.now }
     {

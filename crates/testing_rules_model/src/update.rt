@@ -6,7 +6,7 @@ use deb_control::Text;
 use deb_version::Version;
 use std::marker::Model;
 
-/// The first row that a change would break: where, and which package.
+/// The first row that a change would break: its architecture and package.
 #[derive(Drop)]
 pub struct Offender {
     pub arch: u32,
@@ -99,7 +99,7 @@ impl Model for Update {
 }
 
 impl MovedItems {
-    /// These sources. It takes no memory.
+    /// These sources. It allocates nothing.
     pub fn new(items: Vec<Moved>) -> MovedItems
         ensures { result ≡ items.items }
     {
@@ -115,7 +115,7 @@ impl MovedItems {
 }
 
 impl Update {
-    /// These decisions. It takes no memory.
+    /// These decisions. It allocates nothing.
     pub fn of(decisions: Vec<Decision>) -> Update
         ensures { result ≡ decisions.items }
     {

@@ -8,7 +8,7 @@ use deb_version::Version;
 
 /// A value that can be compared with another.
 pub trait Same {
-    /// Whether the two are the same. It takes no memory.
+    /// Whether the two are the same. It allocates nothing.
     fn is_same(&self, other: &Self) -> bool
         ensures { IsTrue result ↔ (self.now ≡ other.now) };
 }
@@ -104,7 +104,7 @@ impl Same for SourceIn {
     }
 }
 
-/// Whether a row that is lent is the same as another. What is cheap to compare comes first.
+/// Whether a borrowed row is the same as another. Cheap comparisons come first.
 pub fn is_row(lent: &LentRow, row: &RowIn) -> bool
     ensures { IsTrue result ↔ (row_of lent.now ≡ row.now) }
 {

@@ -1,5 +1,5 @@
 -- Steps: no contract of a call that users make rests on this file.
--- What a run goes by, and how far it has come.
+-- The input of a run, and its progress.
 use Rattle.std.specs.Prelude.{ℕ, List, [], Option, map, filter}
 use Rattle.std.specs.List.{flat_map}
 use Rattle.deb_control.specs.declared.relation.Clause.{Clause}
@@ -23,7 +23,7 @@ pub record Basis : Type 0 where
   pub sources : List UploadIn
   pub rows : List RowIn
 
--- testing as it is at some moment of a run
+-- testing at some moment of a run
 pub record Moment : Type 0 where
   pub basis : Basis
   pub suite : Suite
@@ -36,7 +36,7 @@ after_move group m = record { basis = m.basis; suite = move_group m.basis.source
 abbrev pub broken_by_move : List Text → Moment → Option Offender
 broken_by_move group m = offender_of m.basis.archs m.suite.rows (move_group m.basis.sources m.basis.rows group m.suite).rows group
 
--- a row that comes by a move of the group has the clause, which no row on its architecture meets that stands or comes
+-- a row that comes with the group has the clause, and no present or coming row on its architecture meets it
 abbrev pub IsLacking : List Text → Moment → Clause → Type 0
 IsLacking group m clause = Lacks m.basis.archs m.basis.sources m.basis.rows group m.suite.rows clause
 
@@ -48,16 +48,16 @@ after_removal name m = record { basis = m.basis; suite = remove_source name m.su
 abbrev pub broken_by_removal : Text → Moment → Option Offender
 broken_by_removal name m = offender_of m.basis.archs m.suite.rows (remove_source name m.suite).rows []
 
--- a run so far: its decisions, and the testing that they leave
+-- a run so far: its decisions, and the resulting testing
 pub record Run : Type 0 where
   pub basis : Basis
   pub outcome : Outcome
 
--- testing as the run has it
+-- testing at this point of the run
 abbrev pub moment_of : Run → Moment
 moment_of r = record { basis = r.basis; suite = r.outcome.suite }
 
--- a run after one step more
+-- a run after one more step
 abbrev pub go_on : Run → (Basis → Suite → Outcome) → Run
 go_on r step = record { basis = r.basis; outcome = then_do r.outcome (step r.basis) }
 
@@ -70,13 +70,13 @@ after_turns excuses hints unhints r =
     let single = go_on grouped (λ b. move_singles b.archs b.sources b.rows excuses) in
     go_on single (λ b. wait_all b.archs b.sources b.rows excuses)
 
--- a run after the removals that hints ask for, and then the groups that some ask for
+-- a run after the removals asked by hints, and then the groups asked by some
 abbrev pub run_after_groups : List Excuse → List HintIn → List HintIn → List UnhintIn → Run → Run
 run_after_groups excuses hints grouped unhints r =
     let removed = go_on r (λ b. in_turn (remove_item b.archs) (flat_map removals_of (filter (is_in_force unhints) hints))) in
     go_on removed (λ b. in_turn (move_easy b.archs b.sources b.rows excuses) (filter (is_in_force unhints) grouped))
 
--- and one after the removals that hints ask for, and then of some items of a hint
+-- a run after the removals asked by hints, and then those of some items of a hint
 abbrev pub run_after_removals : List HintIn → ℕ → List HintItem → List UnhintIn → Run → Run
 run_after_removals hints number items unhints r =
     let removed = go_on r (λ b. in_turn (remove_item b.archs) (flat_map removals_of (filter (is_in_force unhints) hints))) in

@@ -1,6 +1,6 @@
 -- Steps: no contract of a call that users make rests on this file.
--- The testing against which a hint is judged: as it is at the hint's turn (this office decides the order of turns). Unstable has these sources
--- and rows, and the hints stand by number.
+-- The testing against which a hint is judged: the one at the hint's turn (this office decides the order of turns).
+-- Unstable has these sources and rows, and the hints are ordered by number.
 use Rattle.std.specs.Prelude.{ℕ, List, map, filter, nat_lt}
 use Rattle.std.specs.List.{flat_map}
 use Rattle.testing_rules_items.specs.Words.{Text}
@@ -18,24 +18,25 @@ use Rattle.testing_rules_model.specs.Updates.{in_turn, move_easy, remove_item, r
 abbrev pub hints_before : ℕ → List HintIn → List HintIn
 hints_before number hints = filter (λ h. nat_lt h.number number) hints
 
--- testing once the removals of those of the hints that are in force had their turns
+-- testing after the turns of the removals of those hints that are in force
 abbrev pub after_removals : List Text → List HintIn → List UnhintIn → Suite → Suite
 after_removals archs hints unhints t = (in_turn (remove_item archs) (flat_map removals_of (filter (is_in_force unhints) hints)) t).suite
 
--- and then the groups of those of the hints that are in force
+-- testing after the groups of those hints that are in force
 abbrev pub after_groups : List Text → List UploadIn → List RowIn → List Excuse → List HintIn → List UnhintIn → Suite → Suite
 after_groups archs sources rows excuses hints unhints t = (in_turn (move_easy archs sources rows excuses) (filter (is_in_force unhints) hints) t).suite
 
--- testing at the turn of the group of the hint with the number: behind all removals, and the groups of the hints before it
+-- testing at the turn of the group of the hint with the number: after all removals, and the groups of earlier hints
 abbrev pub turn_of_easy : List Text → List UploadIn → List RowIn → List Excuse → List HintIn → List UnhintIn → ℕ → Suite → Suite
 turn_of_easy archs sources rows excuses hints unhints number t =
     after_groups archs sources rows excuses (hints_before number hints) unhints (after_removals archs hints unhints t)
 
--- testing at the turn of a removal of the hint with the number: behind the removals of the hints before it, and the items before it in its own
+-- testing at the turn of a removal of the hint with the number: after the removals of earlier hints, and its own
+-- earlier items
 abbrev pub turn_of_removal : List Text → List HintIn → List UnhintIn → ℕ → List HintItem → Suite → Suite
 turn_of_removal archs hints unhints number earlier t =
     (in_turn (remove_item archs) (map (λ i. (number, i)) earlier) (after_removals archs (hints_before number hints) unhints t)).suite
 
--- testing behind all removals and groups, before any source moves alone
+-- testing after all removals and groups, before any source moves alone
 abbrev pub behind_hints : List Text → List UploadIn → List RowIn → List Excuse → List HintIn → List UnhintIn → Suite → Suite
 behind_hints archs sources rows excuses hints unhints t = after_groups archs sources rows excuses hints unhints (after_removals archs hints unhints t)

@@ -1,4 +1,4 @@
-//! What a change of testing would break, beside any run.
+//! What a change of testing would break, outside of any run.
 
 ghost use Rattle.std.specs.Prelude.{◌≡◌, [], IfOk};
 ghost use Rattle.testing_rules_model.specs.Boxed.{unboxed};
@@ -27,7 +27,7 @@ fn hashes_of_group(alloc: Global, group: &[Text]) -> Result<Hashes, NoMemory> {
     set_of(alloc, &hashes)
 }
 
-/// What moving the group would break, and testing with the suites that told it.
+/// What moving the group would break, and testing with the suites that judged it.
 fn group_breaks<'a>(
     alloc: Global,
     archs: &Archs,
@@ -50,9 +50,9 @@ fn group_breaks<'a>(
     Ok((offender, same))
 }
 
-/// What moving the group as one over testing would break, if anything. Testing stays as it is, and keeps the suites for
-/// the next call or run. Where it has them, it costs a copy of testing and what the move touches; else one judgement of
-/// all its rows more. The one error is want of memory.
+/// What moving the group as one over testing would break, if any. Testing is unchanged, and keeps the suites for the
+/// next call or run. If it has them, the cost is a copy of testing and what the move touches; else also one judgement
+/// of all its rows. The only error is running out of memory.
 pub fn broken_by_group(
     alloc: Global,
     archs: &Archs,
@@ -72,7 +72,7 @@ pub fn broken_by_group(
     Ok(offender)
 }
 
-/// What removing the source would break, and testing with the suites that told it.
+/// What removing the source would break, and testing with the suites that judged it.
 fn removal_breaks<'a>(
     alloc: Global,
     archs: &Archs,
@@ -94,8 +94,8 @@ fn removal_breaks<'a>(
     Ok((offender, same))
 }
 
-/// What removing the source from testing would break, if anything. Testing stays as it is, and keeps the suites for the
-/// next call or run. It costs what `broken_by_group` does. The one error is want of memory.
+/// What removing the source from testing would break, if any. Testing is unchanged, and keeps the suites for the next
+/// call or run. It costs as much as `broken_by_group`. The only error is running out of memory.
 pub fn broken_by_removal(
     alloc: Global,
     archs: &Archs,

@@ -1,4 +1,4 @@
-//! What a change of testing during a run would break, told by the suites of the architectures.
+//! What a change of testing during a run would break, judged by the suites of the architectures.
 
 ghost use Rattle.std.specs.Prelude.{◌≡◌, [], ◌<◌, IfOk, IfSome, List, length};
 ghost use Rattle.std.specs.List.{All};
@@ -28,7 +28,7 @@ use testing_rules_live::{LiveRows, PoolSuites, moved_rows, offender_of, rows_wit
 use testing_rules_model::{LentRow, Offender};
 use testing_rules_suites::{Change, Pool};
 
-/// What the move of a group would break, judged anew.
+/// What the move of a group would break, judged from scratch.
 fn broken_by_move_anew<'a>(
     alloc: Global,
     archs: &Archs,
@@ -45,7 +45,7 @@ fn broken_by_move_anew<'a>(
     offender_of(alloc, archs, rows, &moved, group)
 }
 
-/// What the removal of a source would break, judged anew.
+/// What the removal of a source would break, judged from scratch.
 fn broken_by_removal_anew(
     alloc: Global,
     archs: &Archs,
@@ -58,7 +58,7 @@ fn broken_by_removal_anew(
     offender_of(alloc, archs, rows, &left, &[])
 }
 
-/// What the move of a group breaks, judged anew over the rows that stand.
+/// What the move of a group breaks, judged from scratch over the present rows.
 fn broken_by_move_of_standing(
     alloc: Global,
     suites: &PoolSuites,
@@ -74,8 +74,8 @@ fn broken_by_move_of_standing(
     broken_by_move_anew(alloc, archs, unstable, group, &rows)
 }
 
-/// What the change of a group's move breaks, told by the suites. They can't tell where a row that comes stands already,
-/// that is where a source moves again: then the move is judged anew.
+/// What the change of a group's move breaks, judged by the suites. They can't judge it if a coming row is
+/// already present, that is, if a source moves again: then the move is judged from scratch.
 fn broken_by_change(
     alloc: Global,
     suites: &mut PoolSuites,
@@ -97,9 +97,9 @@ fn broken_by_change(
     suites.first_lost(alloc, change)
 }
 
-/// What the move of a group breaks, told by the suites, and the change that was tried. There is none where the suites
-/// leave out the rows of one of its sources: then the move is judged anew. Near the guessed place a source is looked for
-/// first.
+/// What the move of a group breaks, judged by the suites, and the tried change. If the suites don't
+/// include the rows of one of its sources, there is none, and the move is judged from scratch. A source is first looked
+/// for near the guessed place.
 fn broken_in_suites_by_move(
     alloc: Global,
     suites: &mut PoolSuites,
@@ -124,7 +124,7 @@ fn broken_in_suites_by_move(
     Ok((offender, Some(change)))
 }
 
-/// What the removal of a source breaks, told by the suites.
+/// What the removal of a source breaks, judged by the suites.
 fn broken_in_suites_by_removal(
     alloc: Global,
     suites: &mut PoolSuites,
@@ -140,7 +140,7 @@ fn broken_in_suites_by_removal(
     suites.first_lost(alloc, &change)
 }
 
-/// What the move of a group breaks, judged anew over the rows.
+/// What the move of a group breaks, judged from scratch over the rows.
 fn broken_by_move_of_held(
     alloc: Global,
     rows: &LiveRows,
@@ -157,8 +157,8 @@ fn broken_by_move_of_held(
     broken_by_move_anew(alloc, archs, unstable, group, &list)
 }
 
-/// What the move of a group would break: told by the suites where there are any, and else judged anew. Beside it stands
-/// the change that was tried, if one was. Near the guessed place a source is looked for first.
+/// What the move of a group would break, judged by the suites if there are any, else from scratch; and
+/// the tried change, if one was tried. A source is first looked for near the guessed place.
 pub fn broken_by_move(
     alloc: Global,
     rows: &mut LiveRows,
@@ -182,9 +182,8 @@ pub fn broken_by_move(
     Ok((offender, None))
 }
 
-/// A clause of a row that would come by the move of a group, which no row on its architecture meets that stands or would
-/// come. The suites can't tell where they leave out the rows of one of its sources. Near the guessed place a source is
-/// looked for first.
+/// A clause of a row coming with the group that no present or coming row on its architecture meets. The suites find
+/// none if they don't include the rows of one of its sources. A source is first looked for near the guessed place.
 fn lack_told<'r>(
     alloc: Global,
     suites: &'r PoolSuites,
@@ -203,9 +202,8 @@ fn lack_told<'r>(
     }
 }
 
-/// A clause of a row that would come by the move of a group, which no row on its architecture meets that stands or would
-/// come: then the move is refused. It is looked for where there are suites. Near the guessed place a source is looked for
-/// first.
+/// A clause of a row coming with the group that no present or coming row on its architecture meets: then the move is
+/// refused. Only suites are searched for it. A source is first looked for near the guessed place.
 pub fn lack_by_move<'r>(
     alloc: Global,
     rows: &'r LiveRows,
@@ -223,7 +221,7 @@ pub fn lack_by_move<'r>(
     Ok(None)
 }
 
-/// The rows at the places came in: who was refused for want of one of them is to be tried again.
+/// The rows at the places came in: candidates refused because one of them was missing are to be tried again.
 fn wake_among(pool: &Pool, coming: &[usize], refusals: &mut Refusals)
     requires { All (λ k. k < length pool.now) coming.now }
     ensures { AreWoken (rows_at pool.now coming.now) refusals.old refusals.new }
@@ -233,8 +231,8 @@ fn wake_among(pool: &Pool, coming: &[usize], refusals: &mut Refusals)
     }
 }
 
-/// A group is about to move by the change: who was refused for want of one of the rows that come is to be tried again.
-/// That is everyone where no change was tried.
+/// A group is about to move by the change: candidates refused because one of the coming rows was missing are to be
+/// tried again. Without a tried change these are all candidates.
 pub fn wake_by_change(rows: &LiveRows, change: &Option<Change>, refusals: &mut Refusals)
     requires { IfSome change.now (IsWithinRows rows.now) }
     ensures { (archs : List Word) (sources : List AnUpload) (unstable : List ARow) (group : List Word) → AreLive rows.now archs unstable
@@ -248,7 +246,7 @@ pub fn wake_by_change(rows: &LiveRows, change: &Option<Change>, refusals: &mut R
     refusals.forget();
 }
 
-/// What the removal of a source would break: told by the suites where there are any, and else judged anew.
+/// What the removal of a source would break, judged by the suites if there are any, else from scratch.
 pub fn broken_by_removal(
     alloc: Global,
     rows: &mut LiveRows,

@@ -1,4 +1,4 @@
-//! Groups that easy hints ask for.
+//! Groups asked by easy hints.
 
 ghost use Rattle.std.specs.Prelude.{◌≡◌, true, false, length, ◌∷◌, [], ◌++◌, ◌&&◌, not, IfOk, OnOk, option_copied, map, filter, find};
 ghost use Rattle.std.specs.List.Sorted.{IsSearchInRange};
@@ -42,7 +42,7 @@ fn allows(excuse: &Excuse, name: &str, version: &Version) -> bool
         && is_same_version(&excuse.unstable, version)
 }
 
-/// Where the excuses have the name, if they are in order.
+/// The place of the name among the excuses, if they are in order.
 fn place_of_name(excuses: &[Excuse], name: &str) -> Result<usize, usize>
     ensures { IsSearchInRange result (length excuses.now) }
 {
@@ -53,7 +53,7 @@ fn place_of_name(excuses: &[Excuse], name: &str) -> Result<usize, usize>
     )
 }
 
-/// The excuse of the name, sought by halves, makes its source a candidate at the version.
+/// The excuse of the name, found by binary search, makes its source a candidate at the version.
 fn is_found(excuses: &[Excuse], name: &str, version: &Version) -> bool
     ensures { result ≡ true → rules.is_candidate excuses.now name.now version.now ≡ true }
 {
@@ -75,8 +75,7 @@ fn is_among(excuses: &[Excuse], name: &str, version: &Version) -> bool
     false
 }
 
-/// The source is a candidate at the version. Only where a search by halves doesn't find that, all excuses are looked
-/// at.
+/// The source is a candidate at the version. All excuses are read only if a binary search doesn't find this.
 pub fn is_candidate(excuses: &[Excuse], name: &str, version: &Version) -> bool
     ensures { result ≡ rules.is_candidate excuses.now name.now version.now }
 {
@@ -100,7 +99,7 @@ pub fn is_in_testing(testing: &LiveTesting, name: &str, version: &Version) -> bo
     is_version(testing.version_of(name), version)
 }
 
-/// The items that testing doesn't have yet.
+/// The items that aren't in testing yet.
 fn items_left<'a>(
     alloc: Global,
     testing: &LiveTesting,
@@ -117,7 +116,7 @@ fn items_left<'a>(
     Ok(left)
 }
 
-/// The first item that is no candidate.
+/// The first item that isn't a candidate.
 fn first_other<'a>(excuses: &[Excuse], items: &[&'a HintItem]) -> Option<&'a HintItem>
     ensures { option_copied result ≡ find (λ j. not (rules.is_candidate excuses.now j.name j.version)) (items_of items.now) }
 {
@@ -175,7 +174,7 @@ fn moved_items(
 }
 
 impl<'u, 'a> Turns<'u, 'a> {
-    /// A group moves as one, where nothing breaks.
+    /// Moves a group as one, if nothing breaks.
     fn move_as_one(&mut self, alloc: Global, hint: u32, group: &[Text]) -> Result<(), NoMemory>
         ensures { OnOk result (self.new ≡ go_on self.old (λ b. rules.move_as_one b.archs b.sources b.rows hint group.now)) }
     {
@@ -191,7 +190,7 @@ impl<'u, 'a> Turns<'u, 'a> {
         }
     }
 
-    /// A group moves, where its items are candidates.
+    /// Moves a group if its items are candidates.
     fn move_items(
         &mut self,
         alloc: Global,
@@ -217,7 +216,7 @@ impl<'u, 'a> Turns<'u, 'a> {
         self.move_as_one(alloc, hint, &group)
     }
 
-    /// The group that a hint asks for, if it is one of those.
+    /// Moves the group of a hint, if it asks for one.
     fn move_easy(
         &mut self,
         alloc: Global,
@@ -239,7 +238,7 @@ impl<'u, 'a> Turns<'u, 'a> {
         }
     }
 
-    /// The groups that the hints in force ask for.
+    /// Moves the groups asked by the hints in force.
     pub fn groups(
         &mut self,
         alloc: Global,

@@ -1,4 +1,4 @@
-//! Which moves a run decides, each against testing as it then is.
+//! The moves decided by a run, each against testing at its turn.
 #![tactic(auto)]
 
 mod beside;

@@ -25,9 +25,9 @@ use testing_rules_live::{LiveRows, LiveSources};
 use testing_rules_model::{Offender, UploadIn};
 use testing_rules_suites::{CarriedSuites, Testing};
 
-/// Testing while a run changes it, beside what the run goes by: the architectures and unstable. The sources stand by
-/// name. A change is first judged, and testing stays; then it is made. The suites judge it by what it touches; there are
-/// none after a move of a source whose rows they leave out, and where memory ran out while a change was made.
+/// Testing while a run changes it, with the run's input: the architectures and unstable. The sources are ordered by
+/// name. A change is first judged, without changing testing, and then made. The suites judge it by what it touches.
+/// There are none after a move of a source whose rows they don't include, and after memory ran out within a change.
 #[derive(Drop)]
 pub struct LiveTesting<'u, 'a> {
     archs: &'u Archs,
@@ -35,7 +35,7 @@ pub struct LiveTesting<'u, 'a> {
     sources: LiveSources<'u, 'a>,
     rows: LiveRows,
 
-    /// Where the source that was tried last stands among unstable's. Most sources are tried in the order of their names.
+    /// The place among unstable's of the source tried last. Most sources are tried in the order of their names.
     near: usize,
 }
 
@@ -56,7 +56,7 @@ impl<'u, 'a> Model for LiveTesting<'u, 'a> {
 }
 
 impl<'u, 'a> LiveTesting<'u, 'a> {
-    /// Testing as it is before the run, the sources that may move, and the suites that are kept of testing's rows.
+    /// Testing before the run, with the sources that may move and the suites kept of testing's rows.
     pub fn new(
         alloc: Global,
         archs: &'u Archs,
@@ -91,7 +91,7 @@ impl<'u, 'a> LiveTesting<'u, 'a> {
         self.sources.version_of(name)
     }
 
-    /// The source's version in testing, and where the source next to it by name may stand. The guessed place is tried
+    /// The source's version in testing, and the place to try for the next source by name. The guessed place is tried
     /// first.
     pub fn version_near(&self, name: &str, guess: usize) -> (Option<&Version>, usize)
         ensures { option_copied result.0 ≡ excuses.testing_version self.now.suite name.now }
@@ -107,7 +107,7 @@ impl<'u, 'a> LiveTesting<'u, 'a> {
         self.unstable.sources
     }
 
-    /// The source that is tried next is looked for near this place of unstable's first. No answer rests on it.
+    /// The next source to try is first looked for near this place of unstable's. No result depends on it.
     pub fn look_near(&mut self, place: usize)
         ensures { self.new ≡ self.old }
     {
@@ -136,8 +136,8 @@ impl<'u, 'a> LiveTesting<'u, 'a> {
         Ok(offender)
     }
 
-    /// A clause for which the move of a group is refused: a row that would come has it, and no row on its architecture
-    /// meets it that stands or would come. Where there is none, the move may be refused nevertheless.
+    /// A clause for which the move of a group is refused: a coming row has it, and no present or coming row on its
+    /// architecture meets it. Without one, the move may still be refused.
     pub fn lack_by_move(&self, alloc: Global, group: &[Text]) -> Result<Option<&Clause>, NoMemory>
         ensures lacks { IfOk result (λ found. IfSome found (λ clause. IsLacking group.now self.now clause.now)) }
         ensures refused { IfOk result (λ found. IfSome found (λ clause. is_none (broken_by_move group.now self.now) ≡ false)) }
@@ -145,17 +145,18 @@ impl<'u, 'a> LiveTesting<'u, 'a> {
         breaking::lack_by_move(alloc, &self.rows, self.unstable, self.near, group)
     }
 
-    /// Of so many candidates none was refused so far.
+    /// None of this many candidates was refused so far.
     pub fn no_refusals(&self, alloc: Global, count: usize) -> Result<Refusals, NoMemory>
         ensures { IfOk result (λ refusals. (excuses : List AnExcuse) → AreRefused self.now excuses refusals) }
     {
-        // That the rows are in order is known of what is read of `self`.
+        // Reading `self` shows that the rows are in order.
         let _rows = &self.rows;
         no_refusals(alloc, count)
     }
 
-    /// Moves a group, unless that breaks something: then testing stays, and the offender is told. Who was refused for
-    /// want of one of its rows is to be tried again once it has moved. The change that is tried is the one that is made.
+    /// Moves a group, unless that breaks something: then testing is unchanged, and the offender is returned. After the
+    /// move, candidates refused because one of its rows was missing are to be tried again. The tried change is the one
+    /// made.
     pub fn move_unless_broken(
         &mut self,
         alloc: Global,
@@ -211,7 +212,7 @@ impl<'u, 'a> LiveTesting<'u, 'a> {
         Ok(())
     }
 
-    /// Testing as the run leaves it.
+    /// Testing after the run.
     pub fn into_testing(self, alloc: Global) -> Result<Testing, NoMemory>
         ensures { IfOk result (λ testing. testing ≡ self.entry.suite) }
     {

@@ -1,4 +1,4 @@
-//! A run's moves: removals, groups, single moves, and the candidates that wait.
+//! A run's moves: removals, groups, single moves, and the waiting candidates.
 
 ghost use Rattle.std.specs.Prelude.{◌≡◌, IfOk, OnErr, OnOk};
 ghost use Rattle.testing_rules_model.specs.Covered.{Covered};
@@ -22,7 +22,7 @@ use testing_rules_items::Archs;
 use testing_rules_model::{Decision, Excuse, Excuses, HintIn, LentRow, UnhintIn, Update};
 use testing_rules_suites::{CarriedSuites, Testing};
 
-/// The turns of a run, each kind behind the one before.
+/// The turns of a run, one kind after the other.
 fn take_turns(
     alloc: Global,
     turns: &mut Turns<'_, '_>,
@@ -40,7 +40,7 @@ fn take_turns(
     Ok(())
 }
 
-/// The decisions of a run over these rows of unstable, and the testing that they leave.
+/// The decisions of a run over these rows of unstable, and the resulting testing.
 fn turns_over<'a>(
     alloc: Global,
     archs: &Archs,
@@ -66,7 +66,7 @@ fn turns_over<'a>(
     Ok(parts)
 }
 
-/// The decisions of a run over unstable, and the testing that they leave.
+/// The decisions of a run over unstable, and the resulting testing.
 fn all_turns<'a>(
     alloc: Global,
     archs: &Archs,
@@ -82,9 +82,8 @@ fn all_turns<'a>(
     turns_over(alloc, archs, facts, &rows, excuses, testing, kept)
 }
 
-/// What a run decides by these excuses: removals, groups, single moves, and the candidates that
-/// wait. Testing is left as the decisions leave it, and as it was where memory ran out. Where every
-/// watched row is installable before, so it is after.
+/// The decisions of a run by these excuses: removals, groups, single moves, and the waiting candidates. Testing becomes
+/// their result, and is unchanged if memory ran out. If every watched row is installable before, it is so afterwards.
 pub fn migrate(
     alloc: Global,
     archs: &Archs,
@@ -94,7 +93,7 @@ pub fn migrate(
 ) -> Result<Update, NoMemory>
     ensures ok { IfOk result (λ u. (s : Covered) (date : Date) → StandsFor facts.now s testing.old
         → excuses.now ≡ excuses_of archs.now s testing.old date → IsUpdate archs.now s excuses.now testing.old u testing.new) }
-    // Whatever the facts stand for, the run goes by their lists.
+    // Whatever the facts stand for, the run uses their lists.
     ensures by_lists { IfOk result (λ u. record { decisions = u; suite = testing.new } ≡ update_by archs.now facts.now.sources (unstable_words.built_rows archs.now facts.now.rows) facts.now.hints facts.now.unhints excuses.now testing.old) }
     ensures watched { AllWatchedWork archs.now testing.old.rows → AllWatchedWork archs.now testing.new.rows }
     ensures err { OnErr result (testing.new ≡ testing.old) }

@@ -1,5 +1,5 @@
-//! Candidates that were refused for a clause that no row met. They aren't tried again before a row comes in that bears a
-//! name of the clause.
+//! Candidates refused for a clause that no row met. They aren't tried again until a row comes that bears a name in the
+//! clause.
 
 ghost use Rattle.std.specs.Prelude.{◌≡◌, true, false, [], OnOk, IfOk, replicate, slice_set};
 ghost use Rattle.testing_install.specs.Among.{with_all};
@@ -17,7 +17,7 @@ use testing_install::{NameIndex, note_clause};
 use testing_rules_facts::place_of_group;
 use testing_rules_model::{Excuse, UploadIn};
 
-/// A candidate with its number among those of a run. `near` is a guess where its source stands among unstable's.
+/// A candidate with its number among those of a run. `near` is a guess for its source's place among unstable's.
 #[derive(Clone, Copy)]
 pub struct Numbered<'a> {
     pub number: usize,
@@ -25,9 +25,9 @@ pub struct Numbered<'a> {
     pub near: usize,
 }
 
-/// Whether each candidate, by its number, was refused for a clause that no row has met since; and, at each name that such
-/// a clause has, the numbers of those that were. Whether one was since a row last came in is a hint: then the next
-/// candidate mostly lacks something too.
+/// Whether each candidate, by its number, was refused for a clause that no row has met since; and, at each name in such
+/// a clause, the numbers of these candidates. Whether one was refused since a row last came in is a hint: then the next
+/// candidate usually has an unmet clause too.
 #[derive(Drop)]
 pub struct Refusals {
     pub flags: Vec<bool>,
@@ -35,7 +35,7 @@ pub struct Refusals {
     pub expects_lack: bool,
 }
 
-/// The candidates with their numbers. They stand by name, as unstable's sources do.
+/// The candidates with their numbers, ordered by name like unstable's sources.
 pub fn with_numbers<'a>(
     alloc: Global,
     candidates: &[&'a Excuse],
@@ -58,7 +58,7 @@ pub fn with_numbers<'a>(
     Ok(circle)
 }
 
-/// Of so many candidates none was refused.
+/// None of this many candidates was refused.
 pub fn no_refusals(alloc: Global, count: usize) -> Result<Refusals, NoMemory>
     ensures { IfOk result (λ refusals. refusals.flags.items ≡ replicate count false) }
 {
@@ -70,7 +70,7 @@ pub fn no_refusals(alloc: Global, count: usize) -> Result<Refusals, NoMemory>
     })
 }
 
-/// Sets the flag at the place, where there is one.
+/// Sets the flag at the place, if there is one.
 fn set_flag(flags: &mut Vec<bool>, place: usize, flag: bool)
     ensures { flags.new.items ≡ slice_set flags.old.items place flag }
 {
@@ -95,7 +95,7 @@ fn wake_at(flags: &mut Vec<bool>, noted: &NameIndex, name: &str)
     clear_flags(flags, noted.places(name));
 }
 
-/// Clears the flags that are noted at a name which the package bears.
+/// Clears the flags noted at a name that the package bears.
 fn wake_by(flags: &mut Vec<bool>, noted: &NameIndex, binary: &Binary)
     ensures { flags.new.items ≡ woken_by noted.now binary.now flags.old.items }
 {
@@ -106,7 +106,7 @@ fn wake_by(flags: &mut Vec<bool>, noted: &NameIndex, binary: &Binary)
 }
 
 impl Refusals {
-    /// The candidate was refused, and needn't be tried.
+    /// The candidate was refused and needs no trial.
     pub fn has(&self, number: usize) -> bool
         ensures { result ≡ marked self.now.flags.items number }
     {
@@ -130,8 +130,7 @@ impl Refusals {
         Ok(())
     }
 
-    /// A row of the package came in: the candidates are to be tried again that were refused for a clause with a name which
-    /// it bears.
+    /// A row of the package came in: the candidates refused for a clause with one of its names are to be tried again.
     pub fn wake(&mut self, binary: &Binary)
         ensures flags { self.new.flags.items ≡ woken_by self.old.noted binary.now self.old.flags.items }
         ensures noted { self.new.noted ≡ self.old.noted }
@@ -141,7 +140,7 @@ impl Refusals {
         self.expects_lack = false;
     }
 
-    /// All candidates are to be tried again, and none is remembered any more.
+    /// All candidates are to be tried again, and none is remembered.
     pub fn forget(&mut self)
         ensures flags { self.new.flags.items ≡ [] }
         ensures noted { self.new.noted ≡ self.old.noted }

@@ -1,4 +1,4 @@
-//! Single moves: candidates that move alone, one after the other, and those that wait.
+//! Single moves: candidates that move alone, one after another, and those that wait.
 
 ghost use Rattle.std.specs.Prelude.{◌≡◌, ◌++◌, ◌+◌, ◌<◌, ◌∷◌, [], List, IfOk, OnOk, true, false, take, drop};
 ghost use Rattle.std.specs.VecDeque.{deque_len};
@@ -19,8 +19,8 @@ use std::collections::VecDeque;
 use std::slice;
 use testing_rules_model::{Decision, Excuse, Offender};
 
-/// Whether the excuse makes its source a candidate, which hasn't moved, and where the source next to it by name may stand
-/// in testing. The guessed place is tried first.
+/// Whether the excuse's source is a candidate that hasn't moved, and the place in testing to try for the next source by
+/// name. The guessed place is tried first.
 fn is_remaining(testing: &LiveTesting, excuse: &Excuse, guess: usize) -> (bool, usize)
     ensures { result.0 ≡ rules.is_remaining testing.now.suite excuse.now }
 {
@@ -51,8 +51,8 @@ fn remaining<'a>(
     Ok(candidates)
 }
 
-/// The candidate at a place leaves the circle, and the next one is looked for behind it. It takes time by the place
-/// alone.
+/// Removes the candidate at a place from the circle, and continues with the next one after it. The time depends only on
+/// the place.
 fn go_on_behind(circle: &mut VecDeque<Numbered>, place: usize)
     requires { place < deque_len circle.old }
     ensures fewer { deque_len circle.new + 1 ≡ deque_len circle.old }
@@ -85,8 +85,8 @@ fn waiting(alloc: Global, excuse: &Excuse, offender: Offender) -> Result<Decisio
 }
 
 impl<'u, 'a> Turns<'u, 'a> {
-    /// Moves the candidate, where that breaks nothing, and says whether it moved. Then who was refused for want of one
-    /// of its rows is to be tried again.
+    /// Moves the candidate if that breaks nothing, and says whether it moved. Then candidates refused because one of
+    /// its rows was missing are to be tried again.
     fn move_alone(
         &mut self,
         alloc: Global,
@@ -109,8 +109,8 @@ impl<'u, 'a> Turns<'u, 'a> {
         Ok(true)
     }
 
-    /// Whether the rows of a candidate are found to lack something: then it may not move. That is remembered, so it is
-    /// passed over until a row has come in that may meet what they lack.
+    /// Whether the rows of a candidate have an unmet clause: then it may not move. That is remembered, so the candidate
+    /// is skipped until a row has come that may meet the clause.
     fn remember_lack(
         &self,
         alloc: Global,
@@ -131,8 +131,8 @@ impl<'u, 'a> Turns<'u, 'a> {
         }
     }
 
-    /// Tries the candidate, and says whether it moved. What its rows lack is looked up once it is refused, so one that
-    /// moves costs no look-up.
+    /// Tries the candidate, and says whether it moved. Its unmet clause is looked up only after a refusal, so that one
+    /// that moves costs no look-up.
     fn try_first(
         &mut self,
         alloc: Global,
@@ -149,8 +149,8 @@ impl<'u, 'a> Turns<'u, 'a> {
         Ok(false)
     }
 
-    /// Looks up what the rows of the candidate lack, tries it where they are found to lack nothing, and says whether
-    /// it moved. So one that still lacks something costs no trial.
+    /// Looks up an unmet clause of the candidate's rows, tries it if none is found, and says whether it moved. So one
+    /// that still has an unmet clause costs no trial.
     fn look_first(
         &mut self,
         alloc: Global,
@@ -166,8 +166,8 @@ impl<'u, 'a> Turns<'u, 'a> {
         self.move_alone(alloc, candidate.excuse, refusals)
     }
 
-    /// Tries the candidate, unless it is known to be refused, and says whether it moved. Behind one that lacks something
-    /// what it lacks is looked up first, and behind one that moved it is tried first.
+    /// Tries the candidate, unless it is known to be refused, and says whether it moved. After one with an unmet clause
+    /// the clause is looked up first; after one that moved, the candidate is tried first.
     fn try_alone(
         &mut self,
         alloc: Global,
@@ -227,7 +227,7 @@ impl<'u, 'a> Turns<'u, 'a> {
         self.move_all(alloc, &candidates)
     }
 
-    /// A candidate waits, where its move would break something.
+    /// A candidate waits if its move would break something.
     fn wait(&mut self, alloc: Global, excuse: &Excuse) -> Result<(), NoMemory>
         ensures { OnOk result (self.new ≡ go_on self.old (λ b. rules.wait b.archs b.sources b.rows excuse.now)) }
     {
@@ -238,7 +238,7 @@ impl<'u, 'a> Turns<'u, 'a> {
         }
     }
 
-    /// The candidates that remain wait.
+    /// The remaining candidates wait.
     pub fn waits(&mut self, alloc: Global, excuses: &[Excuse]) -> Result<(), NoMemory>
         ensures { OnOk result (self.new ≡ go_on self.old (λ b. rules.wait_all b.archs b.sources b.rows excuses.now)) }
     {

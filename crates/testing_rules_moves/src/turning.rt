@@ -1,4 +1,4 @@
-//! Testing at the turn of a hint, beside any run.
+//! Testing at the turn of a hint, outside of any run.
 
 ghost use Rattle.std.specs.Prelude.{◌≡◌, IfOk, OnOk, map};
 ghost use Rattle.testing_rules_model.specs.InOrder.{AreByKey};
@@ -32,7 +32,7 @@ fn hints_before(alloc: Global, hints: &[HintIn], number: u32) -> Result<Vec<Hint
     Ok(earlier)
 }
 
-/// The turns of the removals that hints ask for, and then of the groups that some ask for.
+/// The turns of the removals asked by hints, and then of the groups asked by some.
 fn take_groups(
     alloc: Global,
     turns: &mut Turns<'_, '_>,
@@ -49,7 +49,7 @@ fn take_groups(
     Ok(())
 }
 
-/// Testing behind all removals of the hints in force, and then the groups of these hints, where unstable has these rows.
+/// Testing after all removals of the hints in force, and then the groups of these hints, with these rows of unstable.
 fn groups_over<'a>(
     alloc: Global,
     archs: &Archs,
@@ -76,8 +76,8 @@ fn groups_over<'a>(
     Ok(parts.1)
 }
 
-/// Testing as it is behind all removals and all groups of the hints in force, before any source moves alone, by the facts
-/// and the excuses of a run. The one error is want of memory.
+/// Testing after all removals and all groups of the hints in force, before any source moves alone, by the facts and the
+/// excuses of a run. The only error is running out of memory.
 pub fn hinted(
     alloc: Global,
     archs: &Archs,
@@ -91,8 +91,8 @@ pub fn hinted(
     groups_over(alloc, archs, facts, &rows, excuses, facts.hints(), testing)
 }
 
-/// Testing as it is at the turn of the group of the hint with the number: behind all removals, and the groups of the hints
-/// in force with smaller numbers, by the facts and the excuses of a run. The one error is want of memory.
+/// Testing at the turn of the group of the hint with the number: after all removals, and the groups of the hints in
+/// force with smaller numbers, by the facts and the excuses of a run. The only error is running out of memory.
 pub fn at_group(
     alloc: Global,
     archs: &Archs,
@@ -108,7 +108,7 @@ pub fn at_group(
     groups_over(alloc, archs, facts, &rows, excuses, &earlier, testing)
 }
 
-/// The turns of the removals that hints ask for, and then of some items of a hint.
+/// The turns of the removals asked by hints, and then of some items of a hint.
 fn take_removals(
     alloc: Global,
     turns: &mut Turns<'_, '_>,
@@ -125,7 +125,7 @@ fn take_removals(
     Ok(())
 }
 
-/// Testing behind the removals of these hints, and then of these items.
+/// Testing after the removals of these hints, and then of these items.
 fn removals_over<'a>(
     alloc: Global,
     archs: &Archs,
@@ -150,8 +150,8 @@ fn removals_over<'a>(
     Ok(parts.1)
 }
 
-/// Testing as it is at the turn of a removal of the hint with the number: behind the removals of the hints in force with
-/// smaller numbers, and of the items before it in its own hint, by the facts of a run. The one error is want of memory.
+/// Testing at the turn of a removal of the hint with the number: after the removals of the hints in force with smaller
+/// numbers, and the earlier items of its own hint, by the facts of a run. The only error is running out of memory.
 pub fn at_removal(
     alloc: Global,
     archs: &Archs,

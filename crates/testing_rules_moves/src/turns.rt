@@ -1,4 +1,4 @@
-//! Decisions at their turns, each against testing as it then is.
+//! Decisions at their turns, each against testing at that turn.
 
 ghost use Rattle.std.specs.Prelude.{◌≡◌, [], OnOk, IfOk, map, filter};
 ghost use Rattle.std.specs.List.{flat_map};
@@ -18,7 +18,7 @@ use testing_rules_items::{Hint, HintItem};
 use testing_rules_model::{Decision, HintIn};
 use testing_rules_suites::Testing;
 
-/// The decisions so far, and the testing that they leave. A move within that testing adds none by itself.
+/// The decisions so far, and the resulting testing. A move within that testing adds no decision on its own.
 #[derive(Drop)]
 pub struct Turns<'u, 'a> {
     decisions: Vec<Decision>,
@@ -47,7 +47,7 @@ impl<'u, 'a> Turns<'u, 'a> {
         }
     }
 
-    /// The decisions, and the testing that they leave.
+    /// The decisions, and the resulting testing.
     pub fn into_parts(self, alloc: Global) -> Result<(Vec<Decision>, Testing), NoMemory>
         ensures decisions { IfOk result (λ o. o.0.items ≡ self.entry.outcome.decisions) }
         ensures testing { IfOk result (λ o. o.1 ≡ self.entry.outcome.suite) }
@@ -55,21 +55,21 @@ impl<'u, 'a> Turns<'u, 'a> {
         Ok((self.decisions, self.testing.into_testing(alloc)?))
     }
 
-    /// Makes room for so many decisions more.
+    /// Makes room for this many more decisions.
     pub fn reserve(&mut self, decisions: usize) -> Result<(), NoMemory>
         ensures { self.new ≡ self.old }
     {
         Ok(self.decisions.reserve(decisions)?)
     }
 
-    /// One decision more. Testing stays as it is.
+    /// Adds one decision. Testing is unchanged.
     pub fn add_decision(&mut self, decision: Decision) -> Result<(), NoMemory>
         ensures { OnOk result (self.new ≡ go_on self.old (λ _. decide decision)) }
     {
         Ok(self.decisions.push(decision)?)
     }
 
-    /// One decision by which a source leaves.
+    /// Adds the decision that removes a source.
     fn accept_removal(
         &mut self,
         alloc: Global,
@@ -83,7 +83,7 @@ impl<'u, 'a> Turns<'u, 'a> {
         Ok(())
     }
 
-    /// A version of a source leaves, where nothing breaks.
+    /// Removes a version of a source, if nothing breaks.
     fn remove_version(
         &mut self,
         alloc: Global,
@@ -112,7 +112,7 @@ impl<'u, 'a> Turns<'u, 'a> {
         }
     }
 
-    /// A removal, where testing has the source at its version.
+    /// A removal, if testing has the source at its version.
     fn remove_item(&mut self, alloc: Global, hint: u32, item: &HintItem) -> Result<(), NoMemory>
         ensures { OnOk result (self.new ≡ go_on self.old (λ b. rules.remove_item b.archs (hint, item.now))) }
     {
@@ -138,7 +138,7 @@ impl<'u, 'a> Turns<'u, 'a> {
         Ok(())
     }
 
-    /// The removals that a hint asks for, if it is one of those.
+    /// The removals asked by a hint, if it asks for any.
     fn remove_hint(&mut self, alloc: Global, hint: &HintIn) -> Result<(), NoMemory>
         ensures { OnOk result (self.new ≡ go_on self.old (λ b. in_turn (rules.remove_item b.archs) (rules.removals_of hint.now))) }
     {
@@ -152,7 +152,7 @@ impl<'u, 'a> Turns<'u, 'a> {
         }
     }
 
-    /// The removals that the hints in force ask for.
+    /// The removals asked by the hints in force.
     pub fn removals(
         &mut self,
         alloc: Global,

@@ -7,6 +7,6 @@ use Rattle.testing_rules_model.specs.declared.suite.RowIn.{RowIn}
 use Rattle.testing_rules_model.specs.Suite.{Suite}
 use Rattle.testing_rules_refusals.specs.ToldChange.{IsToldMove}
 
--- this text tells why the source of the excuse can't move alone, where unstable has these sources and rows
+-- this text says why the source of the excuse can't move alone, with these unstable sources and rows
 abbrev pub IsToldAlone : List Text → List UploadIn → List RowIn → List Excuse → Suite → Excuse → Text → Type 0
 IsToldAlone archs sources unstable excuses t e text = IsToldMove archs sources unstable excuses t (e.source ∷ []) text

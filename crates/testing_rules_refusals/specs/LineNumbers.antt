@@ -9,7 +9,7 @@ use Rattle.testing_rules_items.specs.Words.{Text}
 use Rattle.testing_rules_model.specs.declared.suite.RowIn.{RowIn}
 use Rattle.testing_rules_refusals.specs.Needs.{RowNeed, need_at}
 
--- the numbers at each name are numbers of lines, and each line whose row bears the name is among them
+-- the numbers at each name are numbers of lines, among them every line whose row bears the name
 pub record IsLineIndex (rows : List RowIn) (steps : List Step) (noted : PlacesByName) : Type 0 where
   pub within : (name : Text) → All (λ k. k < length steps + 1) (places_at noted name)
   pub complete : (name : Text) (k : ℕ) (n : RowNeed) → 0 < k → k < length steps + 1 → need_at rows steps k ≡ Some n → bears n.row.binary name ≡ true

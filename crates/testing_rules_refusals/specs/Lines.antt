@@ -1,4 +1,4 @@
--- The lines of what shows that a row isn't installable. Their form is decided by this office.
+-- The lines that show why a row isn't installable. This office decides their form.
 use Rattle.std.specs.Prelude.{ℕ, Bool, if◌then◌else◌, List, [], ◌∷◌, ◌++◌, codes, decimal, drop, length, take}
 use Rattle.std.specs.List.{flat_map}
 use Rattle.std.specs.Option.{option_map_or}
@@ -23,34 +23,34 @@ sign Above = codes ">>"
 abbrev pub relation_text : Relation → Text
 relation_text r = codes " (" ++ sign r.op ++ 32 ∷ r.version ++ codes ")"
 
--- a package, and its relation if one is stated (Debian Policy 7.1)
+-- a package, and its relation if there is one (Debian Policy 7.1)
 abbrev pub alternative_text : Alternative → Text
 alternative_text a = a.name ++ option_map_or relation_text a.relation []
 
--- an alternative behind another
+-- an alternative after another
 abbrev pub other_text : Alternative → Text
 other_text a = codes " | " ++ alternative_text a
 
--- alternatives, with a bar between each two (Debian Policy 7.1)
+-- alternatives, separated by bars (Debian Policy 7.1)
 abbrev pub clause_text : Clause → Text
 clause_text [] = []
 clause_text (a ∷ others) = alternative_text a ++ flat_map other_text others
 
--- a number behind another
+-- a number after another
 abbrev pub more_text : ℕ → Text
 more_text n = codes " and " ++ decimal n
 
--- numbers one behind the other, or that there is none
+-- numbers one after another, or a word if there are none
 abbrev pub joined_text : List ℕ → Text
 joined_text [] = codes "nothing"
 joined_text (n ∷ ns) = decimal n ++ flat_map more_text ns
 
--- how many numbers aren't told, if there are any (this office decides it)
+-- how many numbers are left out, if any (this office decides it)
 abbrev pub untold_text : List ℕ → Text
 untold_text [] = []
 untold_text (n ∷ ns) = codes " and " ++ decimal (length (n ∷ ns)) ++ codes " more"
 
--- the numbers of lines, or that there is none: the first twelve are told, and how many more there are (this office decides it)
+-- the numbers of lines, or a word if there are none: the first twelve, and how many more exist (this office decides it)
 abbrev pub numbers_text : List ℕ → Text
 numbers_text numbers = joined_text (take 12 numbers) ++ untold_text (drop 12 numbers)
 
@@ -62,7 +62,7 @@ package_text r = r.binary.name ++ 32 ∷ r.binary.version ++ codes " of " ++ r.b
 abbrev pub place_text : Bool → Text
 place_text comes = if comes then codes " comes in, needs " else codes " in testing, needs "
 
--- the line with the number, of a row that comes in or not, whose clause the rows of the lines with the other numbers meet
+-- the line with this number: a row, coming or not, and its clause, with the numbers of the lines whose rows meet it
 abbrev pub need_line : Bool → ℕ → RowNeed → List ℕ → Text
 need_line comes number n numbers =
     decimal number ++ 32 ∷ package_text n.row ++ place_text comes ++ clause_text n.clause ++ codes ": " ++ numbers_text numbers ++ 10 ∷ []

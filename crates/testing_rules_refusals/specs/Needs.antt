@@ -1,4 +1,5 @@
--- What is read of a list that shows why a row isn't installable: its lines, and who meets a clause (Debian Policy 7.1, 7.2 and 7.5).
+-- The content of a list that shows why a row isn't installable: its lines, and who meets a clause (Debian Policy 7.1,
+-- 7.2 and 7.5).
 use Rattle.std.specs.Prelude.{ℕ, ◌-◌, Bool, true, false, List, map, filter, length, Option, None, option_map}
 use Rattle.std.specs.List.{slice_get, range_with_len}
 use Rattle.std.specs.Option.{option_map_or}
@@ -14,7 +15,7 @@ use Rattle.testing_install_why.specs.declared.Step.{Step}
 abbrev pub packages : List RowIn → List Binary
 packages rows = map (λ r. r.binary) rows
 
--- each of the rows is there
+-- each of the rows is present
 abbrev pub all_there : ℕ → Bool
 all_there place = true
 
@@ -23,15 +24,15 @@ pub record RowNeed : Type 0 where
   pub row : RowIn
   pub clause : Clause
 
--- as the code has them
+-- in the code's type
 abbrev pub need_of : Need → RowNeed
 need_of n = record { row = row_of n.row; clause = n.clause.now }
 
--- the step with the number, counted from the last one, which has the number 1 (this office decides it: what is asked for stands first)
+-- the step with the number, counted from the last one as 1 (this office decides it: the row in question comes first)
 abbrev pub step_at : List Step → ℕ → Option Step
 step_at steps number = slice_get steps (length steps - number)
 
--- the row with its clause of the number
+-- the row with its clause of this number
 abbrev pub need_in : ℕ → RowIn → Option RowNeed
 need_in need r = option_map (λ c. record { row = r; clause = c }) (slice_get r.binary.clauses need)
 
@@ -51,6 +52,6 @@ is_bearer rows steps clause number = option_map_or (λ n. meets n.row.binary cla
 abbrev pub bearers : List RowIn → List Step → Clause → List ℕ
 bearers rows steps clause = filter (is_bearer rows steps clause) (range_with_len 1 (length steps))
 
--- those of the rows that meet the clause
+-- the given rows that meet the clause
 abbrev pub meeting : Clause → List RowIn → List RowIn
 meeting clause rows = filter (λ r. meets r.binary clause) rows

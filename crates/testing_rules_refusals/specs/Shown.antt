@@ -1,5 +1,5 @@
 -- Steps: no contract of a call that users make rests on this file.
--- What shows that the row of an offender isn't installable, where it is the only one of its name on its architecture.
+-- The proof that an offender's row isn't installable, if no other row on its architecture has its name.
 use Rattle.std.specs.Prelude.{◌≡◌, ℕ, ◌<◌, List, length, Some}
 use Rattle.std.specs.List.{slice_get}
 use Rattle.testing_rules_items.specs.Words.{Text}
@@ -16,17 +16,16 @@ pub record IsOf (rows : List RowIn) (name : Text) (place : ℕ) : Type 0 where
   pub stands : slice_get rows place ≡ Some row
   pub named : row.binary.name ≡ name
 
--- of the first n rows none has the name but at this place
+-- among the first n rows only the one at this place has the name
 pub record AreOnlyAt (rows : List RowIn) (name : Text) (only n : ℕ) : Type 0 where
   pub each : (k : ℕ) (row : RowIn) → k < n → slice_get rows k ≡ Some row → row.binary.name ≡ name → k ≡ only
 
--- the row at the place has the name, and no other one has it
+-- only the row at the place has the name
 pub record IsOnlyOf (rows : List RowIn) (name : Text) (place : ℕ) : Type 0 where
   pub is : IsOf rows name place
   pub only : AreOnlyAt rows name place (length rows)
 
--- the steps are of this offender, whose row is the only one of its name among the rows on its architecture, and they show that it isn't
--- installable
+-- the steps are about this offender, the only row with its name on its architecture, and show that it isn't installable
 pub record IsShownOf (new : List RowIn) (offender o : Offender) (rows : List RowIn) (steps : List Step) : Type 0 where
   pub place : ℕ
   pub same : o ≡ offender

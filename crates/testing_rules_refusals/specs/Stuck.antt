@@ -1,5 +1,5 @@
--- What no group frees: blocks of lines, each of which shows that a source can't move, in whatever group, while those of the blocks behind it
--- don't (Debian Developer's Reference 5.13.2 and 5.13.2.3; that it is told so is decided by this office).
+-- What no group frees: blocks of lines. Each shows that its source can't move in any group while those of the later
+-- blocks don't (Debian Developer's Reference 5.13.2 and 5.13.2.3; this office decides to report it).
 use Rattle.std.specs.Prelude.{◌≡◌, ℕ, ◌<◌, ◌⊎◌, ⊤, Bool, true, false, ◌&&◌, not, List, [], ◌∷◌, ◌++◌, codes, map, filter, length, Some, Contains}
 use Rattle.std.specs.List.{slice_get, list_any}
 use Rattle.std.specs.Option.{option_map_or}
@@ -23,11 +23,11 @@ use Rattle.testing_rules_refusals.specs.Told.{lines_of}
 use Rattle.testing_install_why.specs.Certificate.{IsShownBy}
 use Rattle.testing_install_why.specs.declared.Step.{Step}
 
--- the excuse makes its source a candidate, which hasn't moved and isn't one of the dead
+-- the excuse's source is a candidate that hasn't moved and isn't dead
 abbrev pub is_living : Suite → List Text → Excuse → Bool
 is_living t dead e = is_remaining t e && not (list_any (bytes_eq e.source) dead)
 
--- the candidates that haven't moved, but for the dead
+-- the candidates that haven't moved, except the dead ones
 abbrev pub living : List Excuse → Suite → List Text → List Text
 living excuses t dead = map (λ e. e.source) (filter (is_living t dead) excuses)
 
@@ -35,25 +35,26 @@ living excuses t dead = map (λ e. e.source) (filter (is_living t dead) excuses)
 abbrev pub coming_rows : List UploadIn → List RowIn → List Text → List RowIn
 coming_rows sources unstable group = filter (comes_with sources group) unstable
 
--- the rows that may stand once the source has moved, whichever of the living have
+-- the rows that may be present once the source has moved, whichever of the living move
 abbrev pub may_stand : List UploadIn → List RowIn → List Text → Text → Suite → List RowIn
 may_stand sources unstable live name t = filter (λ r. not (bytes_eq r.binary.source name)) t.rows ++ coming_rows sources unstable live
 
--- testing's row stays whichever of the living move: it was installable, none of them is its source, and none brings a row of its key
+-- testing's row stays whichever of the living move: it was installable, none of them is its source, and none has a row
+-- with its key
 pub record Stays (sources : List UploadIn) (unstable : List RowIn) (live : List Text) (t : Suite) (arch : ℕ) (r : RowIn) : Type 0 where
   pub there : Contains t.rows r
   pub worked : was_installable (judged_on arch t.rows) r ≡ true
   pub own : is_row_of live r ≡ false
   pub key : list_any (is_same_key r) (coming_rows sources unstable live) ≡ false
 
--- a source, the row that its move would break, and the steps that show it
+-- a source, the row that its move would break, and the steps that prove it
 pub record Block : Type 0 where
   pub name : Text
   pub offender : Offender
   pub steps : List Step
 
--- The source of the block can't move while none of the dead does: it is a candidate, the offender's row is watched, it comes with the source
--- or stays, and the steps show that it isn't installable among the rows that may stand.
+-- The source of the block can't move while none of the dead does: it is a candidate, the offender's row is watched and
+-- comes with it or stays, and the steps show that it isn't installable among the rows that may be present.
 pub record IsStuckBy (archs : List Text) (sources : List UploadIn) (unstable : List RowIn) (excuses : List Excuse) (t : Suite) (dead : List Text) (b : Block) : Type 0 where
   pub lives : list_any (bytes_eq b.name) (living excuses t dead) ≡ true
   pub listed : b.offender.arch < length archs
@@ -69,7 +70,7 @@ pub record IsStuckBy (archs : List Text) (sources : List UploadIn) (unstable : L
 abbrev pub names_of : List Block → List Text
 names_of stuck = map (λ b. b.name) stuck
 
--- each block holds while none of the sources of those behind it moves
+-- each block is true while none of the later blocks' sources moves
 abbrev pub AreStuck : List Text → List UploadIn → List RowIn → List Excuse → Suite → List Block → Type 0
 AreStuck archs sources unstable excuses t [] = ⊤
 AreStuck archs sources unstable excuses t (b ∷ behind) = IsStuckBy archs sources unstable excuses t (names_of behind) b × AreStuck archs sources unstable excuses t behind
@@ -79,7 +80,8 @@ abbrev pub stuck_line : List Text → List Excuse → Block → Text
 stuck_line archs excuses b =
     codes "stuck " ++ b.name ++ 32 ∷ option_map_or (λ e. e.unstable) (excuse_of excuses b.name) (codes "-") ++ offender_text archs b.offender ++ 10 ∷ []
 
--- the lines of a block, where these are dead: its rows are those that may stand, beside testing's and unstable's
+-- the lines of a block while these are dead: its rows are those that may be present, compared with testing's and
+-- unstable's
 abbrev pub block_text : List Text → List UploadIn → List RowIn → List Excuse → Suite → List Text → Block → Text
 block_text archs sources unstable excuses t dead b =
     let live = living excuses t dead in
@@ -94,7 +96,7 @@ stuck_text archs sources unstable excuses t [] = []
 stuck_text archs sources unstable excuses t (b ∷ behind) =
     block_text archs sources unstable excuses t (names_of behind) b ++ stuck_text archs sources unstable excuses t behind
 
--- this text shows that no group frees the source: it is that of blocks, the first of which is the source's
+-- this text shows that no group frees the source: its blocks begin with the source's
 pub record IsStuckText (archs : List Text) (sources : List UploadIn) (unstable : List RowIn) (excuses : List Excuse) (t : Suite) (source text : Text) : Type 0 where
   pub own : Block
   pub behind : List Block
@@ -102,7 +104,7 @@ pub record IsStuckText (archs : List Text) (sources : List UploadIn) (unstable :
   pub are : AreStuck archs sources unstable excuses t (own ∷ behind)
   pub told : text ≡ stuck_text archs sources unstable excuses t (own ∷ behind)
 
--- whatever `easy` hints have their turn, and whatever moves alone behind them: the source of each block stays at its version
+-- the source of each block stays at its version, whatever `easy` hints come, and whatever moves alone after them
 abbrev pub NoGroupFrees : Type 0
 NoGroupFrees =
     (archs : List Text) (sources : List UploadIn) (unstable : List RowIn) (excuses : List Excuse) (t : Suite) (stuck : List Block)

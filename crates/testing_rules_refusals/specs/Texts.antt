@@ -1,4 +1,4 @@
--- The text of what shows that a row isn't installable, where sources would move or one would be removed. Its form is decided by this office.
+-- The text of a proof that a row isn't installable if sources moved or one was removed. This office decides its form.
 -- Reasons have the words of the report on excuses.
 use Rattle.std.specs.Prelude.{Bool, ◌&&◌, if◌then◌else◌, List, [], ◌∷◌, ◌++◌, codes}
 use Rattle.std.specs.List.{flat_map}
@@ -17,7 +17,8 @@ use Rattle.testing_rules_refusals.specs.Lines.{package_text, need_line, leaves_l
 use Rattle.testing_rules_refusals.specs.Told.{ToldLine}
 use Rattle.testing_rules_reports.specs.Reports.{words, reason_words}
 
--- what is known where lines are told: unstable's sources, the excuses of the run, the sources that come in, and those that no group frees
+-- what the lines need to know: unstable's sources, the excuses of the run, the sources that come, and those that no
+-- group frees
 pub record Known : Type 0 where
   pub archs : List Text
   pub sources : List UploadIn
@@ -25,20 +26,20 @@ pub record Known : Type 0 where
   pub coming : List Text
   pub stuck : List Text
 
--- as the code has it
+-- in the code's type
 abbrev pub known_of : Telling → Known
 known_of t = record { archs = t.archs.now; sources = unboxed t.unstable.sources.now; excuses = t.excuses.now; coming = t.coming.now; stuck = t.stuck.now }
 
--- a reason behind another
+-- a reason after another
 abbrev pub other_reason : List Text → Reason → Text
 other_reason archs r = codes ", " ++ words (reason_words archs r)
 
--- reasons, with a comma between each two
+-- reasons, separated by commas
 abbrev pub reasons_text : List Text → List Reason → Text
 reasons_text archs [] = []
 reasons_text archs (r ∷ others) = words (reason_words archs r) ++ flat_map (other_reason archs) others
 
--- how it stands with a row of unstable
+-- the state of a row of unstable
 abbrev pub state_text : List Text → State → Text
 state_text archs Waits = codes "waits"
 state_text archs (NotCandidate reasons) = codes "isn't a candidate: " ++ reasons_text archs reasons
@@ -46,32 +47,32 @@ state_text archs NotCurrent = codes "isn't current"
 state_text archs ComesToo = codes "comes too"
 state_text archs InTesting = codes "is in testing"
 
--- the row is a current one of one of the sources (Debian Developer's Reference 5.13.2.1)
+-- the row is current and belongs to one of the sources (Debian Developer's Reference 5.13.2.1)
 abbrev pub comes_with : List UploadIn → List Text → RowIn → Bool
 comes_with sources group r = is_row_of group r && is_current_in sources r
 
--- the row's source, if it is one of the group, and else no name
+-- the row's source if it is in the group, else no name
 abbrev pub moving_with : List Text → RowIn → Text
 moving_with group r = if is_row_of group r then r.binary.source else []
 
--- how it stands with a row of unstable, in words: a current row of a source that no group frees is stuck
+-- the state of a row of unstable, in words: a current row of a source that no group frees is stuck
 abbrev pub offer_words : Known → RowIn → Text
 offer_words k r = if comes_with k.sources k.stuck r then codes "is stuck" else state_text k.archs (state_of k.sources k.excuses (moving_with k.coming r) r)
 
--- the line of a row of unstable that would meet a clause, and how it stands with it
+-- the line of a row of unstable that would meet a clause, with its state
 abbrev pub offer_line : Known → RowIn → Text
 offer_line k r = codes "unstable " ++ package_text r ++ 32 ∷ offer_words k r ++ 10 ∷ []
 
--- the lines of the rows of unstable that would meet a clause, or that there is none
+-- the lines of the rows of unstable that would meet a clause, or that there are none
 abbrev pub offers_text : Known → List RowIn → Text
 offers_text k [] = codes "unstable nothing" ++ 10 ∷ []
 offers_text k (r ∷ rows) = flat_map (offer_line k) (r ∷ rows)
 
--- what stands behind a line whose clause nothing meets: the rows of testing that met it before, and those of unstable that would
+-- the lines after one with an unmet clause: the rows of testing that met it before, and those of unstable that would
 abbrev pub help_text : Known → ToldLine → Text
 help_text k l = flat_map leaves_line l.leaving ++ offers_text k l.offers
 
--- a line, and what stands behind it
+-- a line and the lines that belong to it
 abbrev pub told_text : Known → ToldLine → Text
 told_text k l = need_line (comes_with k.sources k.coming l.need.row) l.number l.need l.met_by ++ (if is_empty l.met_by then help_text k l else [])
 

@@ -1,5 +1,5 @@
--- Why a change of testing is refused, in lines: a group that moves as one (Debian Developer's Reference 5.13.2.3), or a removal (britney2's
--- `remove`).
+-- Why a change of testing is refused, in lines: the move of a group as one (Debian Developer's Reference 5.13.2.3), or
+-- a removal (britney2's `remove`).
 use Rattle.std.specs.Prelude.{◌≡◌, List, []}
 use Rattle.testing_rules_items.specs.Words.{Text}
 use Rattle.testing_rules_model.specs.declared.excuse.Excuse.{Excuse}
@@ -13,9 +13,9 @@ use Rattle.testing_rules_refusals.specs.Texts.{Known, refusal_text}
 use Rattle.testing_rules_refusals.specs.Told.{lines_of}
 use Rattle.testing_install_why.specs.declared.Step.{Step}
 
--- This text tells why a change is refused that takes testing's rows from the old ones to the new ones, where it is known which sources come in.
--- The lines are those of what shows that the offender's row isn't installable: over the rows on its architecture after the change, beside
--- testing's rows there before it, and unstable's.
+-- This text says why a change from the old rows of testing to the new ones is refused, given which sources come. Its
+-- lines prove that the offender's row isn't installable among the rows on its architecture after the change, compared
+-- with testing's rows there before it and with unstable's.
 pub record IsToldChange (known : Known) (unstable : List RowIn) (old new : List RowIn) (text : Text) : Type 0 where
   pub offender : Offender
   pub rows : List RowIn
@@ -23,12 +23,12 @@ pub record IsToldChange (known : Known) (unstable : List RowIn) (old new : List 
   pub refusal : IsRefusal known.archs old new known.coming offender rows steps
   pub told : text ≡ refusal_text known (lines_of rows steps (rows_on offender.arch old) (rows_on offender.arch unstable))
 
--- this text tells why the group can't move as one
+-- this text says why the group can't move as one
 abbrev pub IsToldMove : List Text → List UploadIn → List RowIn → List Excuse → Suite → List Text → Text → Type 0
 IsToldMove archs sources unstable excuses t group text =
     IsToldChange (record { archs = archs; sources = sources; excuses = excuses; coming = group; stuck = [] }) unstable t.rows (move_group sources unstable group t).rows text
 
--- this text tells why the source can't be removed
+-- this text says why the source can't be removed
 abbrev pub IsToldRemoval : List Text → List UploadIn → List RowIn → List Excuse → Suite → Text → Text → Type 0
 IsToldRemoval archs sources unstable excuses t name text =
     IsToldChange (record { archs = archs; sources = sources; excuses = excuses; coming = []; stuck = [] }) unstable t.rows (remove_source name t).rows text

@@ -1,5 +1,5 @@
-//! Which lines' rows meet a clause. The numbers of the lines are noted by the names that their rows bear, so that only
-//! those at the names of a clause's alternatives are looked at.
+//! The lines whose rows meet a clause. The numbers of the lines are noted by the names that their rows bear, so that
+//! only those at the names of a clause's alternatives are checked.
 
 ghost use Rattle.std.specs.Prelude.{◌≡◌, filter, IfOk};
 ghost use Rattle.std.specs.List.Sorted.{IsStrictlyIncreasing};
@@ -65,7 +65,7 @@ fn is_bearer(rows: &[LentRow], steps: &[Step], clause: &Clause, number: usize) -
     }
 }
 
-/// Those of the numbers whose lines' rows meet the clause.
+/// Of these numbers, those of lines whose rows meet the clause.
 fn bearers_among(
     alloc: Global,
     rows: &[LentRow],

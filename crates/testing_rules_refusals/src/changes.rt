@@ -1,4 +1,4 @@
-//! Why a change of testing is refused: a group that would move as one, of which a source alone is one, or a removal.
+//! Why a change of testing is refused: the move of a group as one (a source alone is a group), or a removal.
 
 ghost use Rattle.std.specs.Prelude.{◌≡◌, [], Some, None, IfOk, IfSome, IfNone};
 ghost use Rattle.testing_rules_model.specs.Boxed.{unboxed};
@@ -31,7 +31,7 @@ use testing_rules_model::{Excuse, LentRow, Offender};
 use testing_rules_moves::{broken_by_group, broken_by_removal};
 use testing_rules_suites::{Testing, lend_rows};
 
-/// The text of a refusal, where these were testing's rows before the change.
+/// The text of a refusal, given testing's rows before the change.
 pub(crate) fn text_of<'a>(
     alloc: Global,
     telling: &Telling<'_, 'a>,
@@ -47,8 +47,8 @@ pub(crate) fn text_of<'a>(
     refusal_text(alloc, telling, &told)
 }
 
-/// Why a change is refused by which sources come in, and which takes testing's rows from the old ones to the new ones. If
-/// it is known what that breaks, the rows are judged only where no steps are found without that.
+/// Why a change from the old rows of testing to the new ones is refused, given which sources come. If the broken row is
+/// known, the rows are judged only if no steps are found without that.
 fn refusal_of<'a>(
     alloc: Global,
     telling: &Telling<'_, 'a>,
@@ -68,8 +68,8 @@ fn refusal_of<'a>(
     refused(alloc, telling.archs, old, new, telling.coming)
 }
 
-/// Why a change is refused by which sources come in, in lines, where it takes testing's rows from the old ones to the new
-/// ones, and it may be known what that breaks.
+/// Why a change from the old rows of testing to the new ones is refused, in lines, given which sources come. The broken
+/// row may be known.
 fn refusal_of_change<'a>(
     alloc: Global,
     telling: &Telling<'_, 'a>,
@@ -89,7 +89,7 @@ fn refusal_of_change<'a>(
     Ok(Some(text))
 }
 
-/// Why the sources that come in can't move as one, where testing has these rows, and it may be known what that breaks.
+/// Why the sources can't move as one, given testing's rows. The broken row may be known.
 fn refusal_of_move<'a>(
     alloc: Global,
     telling: &Telling<'_, 'a>,
@@ -109,7 +109,7 @@ fn refusal_of_move<'a>(
     refusal_of_change(alloc, telling, old, &new, known)
 }
 
-/// Why the source can't be removed, where testing has these rows, and that breaks the offender's row.
+/// Why the source can't be removed, given testing's rows and the offender whose row that breaks.
 fn refusal_without<'a>(
     alloc: Global,
     telling: &Telling<'_, 'a>,
@@ -126,7 +126,7 @@ fn refusal_without<'a>(
     refusal_of_change(alloc, telling, old, &new, known)
 }
 
-/// Why the sources that come in can't move as one over testing, where it may be known what that breaks.
+/// Why the sources can't move as one over testing. The broken row may be known.
 fn move_if_known<'a>(
     alloc: Global,
     telling: &Telling<'_, 'a>,
@@ -145,7 +145,7 @@ fn move_if_known<'a>(
     refusal_of_move(alloc, telling, &old, known)
 }
 
-/// Why the source can't be removed from testing, where it may be known what that breaks.
+/// Why the source can't be removed from testing. The broken row may be known.
 fn removal_if_known<'a>(
     alloc: Global,
     telling: &Telling<'_, 'a>,
@@ -163,7 +163,7 @@ fn removal_if_known<'a>(
     refusal_without(alloc, telling, &old, name, known)
 }
 
-/// Why the group can't move as one over testing, where that breaks the offender's row.
+/// Why the group can't move as one over testing, given the offender whose row that breaks.
 fn group_over_rows(
     alloc: Global,
     basis: &Basis<'_, '_>,
@@ -189,7 +189,7 @@ fn group_over_rows(
     move_if_known(alloc, &telling, testing, Some(offender))
 }
 
-/// Why the source can't be removed from testing, where that breaks the offender's row.
+/// Why the source can't be removed from testing, given the offender whose row that breaks.
 fn removal_over_rows(
     alloc: Global,
     basis: &Basis<'_, '_>,
@@ -287,12 +287,12 @@ fn removal_by_suites(
     removal_over_rows(alloc, basis, name, testing, offender)
 }
 
-/// Why the group can't move as one over testing, in lines, by the facts and the excuses of a run. There is nothing exactly
-/// where that breaks nothing. Over the testing at the turn of the group's hint, the offender is that of the run's line on
-/// the hint. Testing stays as it is, and keeps the suites for the next call or run. Where it has them, it costs a few looks
-/// at each row of testing and of unstable, and what the move and the offender's clauses touch; else one judgement of all
-/// rows more. Where two rows of the offender's name stand on its architecture, that and each one before it are judged anew.
-/// The one error is want of memory.
+/// Why the group can't move as one over testing, in lines, by the facts and the excuses of a run. There is no answer
+/// exactly if that breaks nothing. Over the testing at the turn of the group's hint, the offender is that of the run's
+/// line on the hint. Testing is unchanged, and keeps the suites for the next call or run. If it has them, the cost is a
+/// few looks at each row of testing and of unstable, and what the move and the offender's clauses touch; else also one
+/// judgement of all rows. If two rows with the offender's name are on its architecture, that architecture and each one
+/// before it are judged from scratch. The only error is running out of memory.
 pub fn group_refusal(
     alloc: Global,
     archs: &Archs,
@@ -316,9 +316,9 @@ pub fn group_refusal(
     group_by_suites(alloc, &basis, group, testing)
 }
 
-/// Why the source can't be removed from testing, in lines, by the facts and the excuses of a run. There is nothing exactly
-/// where that breaks nothing. Over the testing at the removal's turn, the offender is that of the run's line on it. Testing
-/// stays as it is, and it costs what `group_refusal` does. The one error is want of memory.
+/// Why the source can't be removed from testing, in lines, by the facts and the excuses of a run. There is no answer
+/// exactly if that breaks nothing. Over the testing at the removal's turn, the offender is that of the run's line on
+/// it. Testing is unchanged, and the cost is that of `group_refusal`. The only error is running out of memory.
 pub fn removal_refusal(
     alloc: Global,
     archs: &Archs,
@@ -341,9 +341,10 @@ pub fn removal_refusal(
     removal_by_suites(alloc, &basis, name, testing)
 }
 
-/// Why the source of an excuse waits, in lines: what moving it alone over testing would break, by the facts and the excuses
-/// of a run. There is nothing exactly where that breaks nothing. Over the testing that the run left, the offender is that
-/// of the run's line on a source that waits. It is `group_refusal` of that source alone, and costs the same.
+/// Why the source of an excuse waits, in lines: what moving it alone over testing would break, by the facts and the
+/// excuses of a run. There is no answer exactly if that breaks nothing. Over the testing that the run left, the
+/// offender is that of the run's line on a waiting source. It is `group_refusal` of that source alone, and costs the
+/// same.
 pub fn why_waits(
     alloc: Global,
     archs: &Archs,

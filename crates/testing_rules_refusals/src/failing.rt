@@ -1,4 +1,4 @@
-//! Where the first row stands that fails on an architecture.
+//! The place of the first row that fails on an architecture.
 
 ghost use Rattle.std.specs.Prelude.{◌≡◌, IfSome, IfNone, None};
 ghost use Rattle.testing_rules_model.specs.Moves as moves;
@@ -10,7 +10,7 @@ use deb_control::Text;
 use testing_rules_live::{fails_on, first_failing};
 use testing_rules_suites::RowAnswer;
 
-/// The row has the name, and fails.
+/// The row has the name and fails.
 fn is_failing(
     arch: u32,
     group: &[Text],
@@ -23,7 +23,7 @@ fn is_failing(
     judged.row.binary.name.as_str() == name && fails_on(arch, group, before, judged)
 }
 
-/// The first place of a row of the name that fails.
+/// The first place of a failing row with the name.
 fn place_of(
     arch: u32,
     group: &[Text],
@@ -42,7 +42,7 @@ fn place_of(
     None
 }
 
-/// The place of the first row that fails, by its name.
+/// The place of the failing row with the first name.
 pub fn place_of_first(
     arch: u32,
     group: &[Text],

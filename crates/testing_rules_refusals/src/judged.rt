@@ -1,4 +1,4 @@
-//! Rows of one architecture, all of which are there, as a suite judges them.
+//! Rows of one architecture, all present, judged by a suite.
 
 ghost use Rattle.std.specs.Prelude.{◌≡◌, ℕ, ◌<◌, true, length, IfOk};
 ghost use Rattle.std.specs.List.{range_with_len};
@@ -31,7 +31,7 @@ fn packages(alloc: Global, rows: &[LentRow]) -> Result<Vec<Rc<Binary>>, NoMemory
     Ok(shares)
 }
 
-/// The places of so many rows.
+/// The places of this many rows.
 fn first_places(alloc: Global, count: usize) -> Result<Vec<usize>, AllocError>
     ensures { IfOk result (λ places. places.items ≡ range_with_len 0 count) }
 {
@@ -42,7 +42,7 @@ fn first_places(alloc: Global, count: usize) -> Result<Vec<usize>, AllocError>
     Ok(places)
 }
 
-/// A suite of the rows, all of which are there.
+/// A suite of the rows, all present.
 pub fn suite_of(alloc: Global, rows: &[LentRow]) -> Result<Suite, NoMemory>
     ensures { IfOk result (λ suite. AreAllThere (packages (lent rows.now)) suite) }
 {
@@ -53,7 +53,7 @@ pub fn suite_of(alloc: Global, rows: &[LentRow]) -> Result<Suite, NoMemory>
     Ok(suite)
 }
 
-/// For each row of a suite, all of whose rows are there, whether it is installable.
+/// Whether each row of a suite is installable, with all rows present.
 fn marks_of(alloc: Global, suite: &Suite) -> Result<Vec<bool>, AllocError>
     requires { (k : ℕ) → k < length suite.now.rows → marked suite.now.there k ≡ true }
     ensures { IfOk result (λ marks. marks.items ≡ are_installable suite.now.rows) }
@@ -78,7 +78,7 @@ pub fn judged_by<'a>(
     with_answers(alloc, rows, &marks)
 }
 
-/// Each of the rows with its answer, where all are there.
+/// Each of the rows with its answer, with all present.
 pub fn judged<'a>(alloc: Global, rows: &[LentRow<'a>]) -> Result<Vec<RowAnswer<'a>>, NoMemory>
     ensures { IfOk result (λ judged. answers judged.items ≡ moves.with_answers (lent rows.now) (are_installable (packages (lent rows.now)))) }
 {

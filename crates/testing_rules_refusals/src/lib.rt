@@ -1,4 +1,4 @@
-//! Why a change of testing is refused: the first row that it would break, and line by line what shows that this row isn't
+//! Why a change of testing is refused: the first row that it would break, with a line by line proof that this row isn't
 //! installable after it. And why no group at all frees a source, in blocks of such lines.
 #![tactic(auto)]
 

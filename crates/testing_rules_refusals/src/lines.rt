@@ -1,4 +1,4 @@
-//! The lines of what shows that a row isn't installable.
+//! The lines that show why a row isn't installable.
 
 ghost use Rattle.std.specs.Prelude.{◌≡◌, ◌++◌, ◌∷◌, OnOk, codes, decimal, string_bytes};
 ghost use Rattle.std.specs.List.{flat_map};
@@ -45,7 +45,7 @@ fn push_others(text: &mut String, alternatives: &[Alternative]) -> Result<(), Al
     Ok(())
 }
 
-/// A clause as it is written in control data.
+/// Adds a clause in the form of control data.
 pub fn push_clause(text: &mut String, clause: &Clause) -> Result<(), AllocError>
     ensures { OnOk result (string_bytes text.new ≡ string_bytes text.old ++ lines.clause_text clause.now) }
 {
@@ -67,7 +67,7 @@ fn push_more_numbers(text: &mut String, numbers: &[usize]) -> Result<(), AllocEr
     Ok(())
 }
 
-/// Numbers one behind the other, or that there is none.
+/// Adds numbers one after another, or a word if there are none.
 fn push_joined(text: &mut String, numbers: &[usize]) -> Result<(), AllocError>
     ensures { OnOk result (string_bytes text.new ≡ string_bytes text.old ++ lines.joined_text numbers.now) }
 {
@@ -80,7 +80,7 @@ fn push_joined(text: &mut String, numbers: &[usize]) -> Result<(), AllocError>
     }
 }
 
-/// The first twelve numbers, and how many more there are.
+/// Adds the first twelve numbers, and how many more exist.
 fn push_numbers(text: &mut String, numbers: &[usize]) -> Result<(), AllocError>
     ensures { OnOk result (string_bytes text.new ≡ string_bytes text.old ++ lines.numbers_text numbers.now) }
 {
@@ -126,8 +126,8 @@ fn push_met(text: &mut String, clause: &Clause, numbers: &[usize]) -> Result<(),
     push_numbers(text, numbers)
 }
 
-/// The line with the number, of a row that comes in or not, whose clause the rows of the lines with the other numbers
-/// meet.
+/// Adds the line with this number: a row, coming or not, and its clause, with the numbers of the lines whose rows meet
+/// it.
 pub fn push_need(
     text: &mut String,
     comes: bool,

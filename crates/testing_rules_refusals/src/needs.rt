@@ -1,4 +1,4 @@
-//! The lines of what is shown, each a row and one of its clauses, and the rows that meet a clause.
+//! The lines of a proof, each a row and one of its clauses, and the rows that meet a clause.
 
 ghost use Rattle.std.specs.Prelude.{◌≡◌, IfOk, option_map};
 ghost use Rattle.testing_rules_model.specs.JudgedRows.{lent, row_of};
@@ -19,14 +19,14 @@ pub struct Need<'a> {
     pub clause: &'a Clause,
 }
 
-/// The step with the number, counted from the last one, which has the number 1.
+/// The step with the number, counted from the last one as 1.
 fn step_at(steps: &[Step], number: usize) -> Option<Step>
     ensures { result ≡ rules.step_at steps.now number }
 {
     steps.get(steps.len().saturating_sub(number)).copied()
 }
 
-/// The clause of a row with the number.
+/// The clause of a row with this number.
 fn need_of<'a>(row: LentRow<'a>, need: usize) -> Option<Need<'a>>
     ensures { option_map need_of result ≡ rules.need_in need (row_of row.entry) }
 {
@@ -46,7 +46,7 @@ fn need_by<'a>(rows: &[LentRow<'a>], step: Step) -> Option<Need<'a>>
     }
 }
 
-/// The row and the clause of the line with the number. The last step is the first line, and has the number 1.
+/// The row and the clause of the line with the number. The last step is line 1.
 pub fn need_at<'a>(rows: &[LentRow<'a>], steps: &[Step], number: usize) -> Option<Need<'a>>
     ensures { option_map need_of result ≡ rules.need_at (lent rows.now) steps.now number }
 {
@@ -56,7 +56,7 @@ pub fn need_at<'a>(rows: &[LentRow<'a>], steps: &[Step], number: usize) -> Optio
     }
 }
 
-/// Those of the rows that meet the clause.
+/// The given rows that meet the clause.
 pub fn meeting<'a>(
     alloc: Global,
     rows: &[LentRow<'a>],

@@ -1,5 +1,5 @@
-//! Rows that clauses reach from one of them, and steps by their places among all rows. What is found here promises nothing:
-//! it is checked where it is used.
+//! Rows that clauses reach from one of them, and steps by their places among all rows. Nothing here has a contract:
+//! results are checked where they are used.
 
 use deb_control::{Binary, Clause};
 use deb_version::NoMemory;
@@ -32,7 +32,7 @@ fn bearers_of(alloc: Global, rows: &[Row<'_>]) -> Result<NameIndex, NoMemory> {
     Ok(bearers)
 }
 
-/// Adds those of the places that weren't seen before and whose rows meet the clause.
+/// Adds the places that weren't seen before and whose rows meet the clause.
 fn reach_among(
     rows: &[Row<'_>],
     clause: &Clause,
@@ -79,7 +79,7 @@ fn reach_from(
     Ok(())
 }
 
-/// The row of a turn: the one at the place that was reached at it.
+/// The row of a turn: the one at the place reached then.
 fn row_at<'a>(rows: &[Row<'a>], reached: &[usize], turn: usize) -> Option<Row<'a>> {
     match reached.get(turn) {
         Some(place) => rows.get(*place).copied(),
@@ -87,7 +87,7 @@ fn row_at<'a>(rows: &[Row<'a>], reached: &[usize], turn: usize) -> Option<Row<'a
     }
 }
 
-/// The place, and behind it those of all rows that clauses reach from its row.
+/// The place, followed by those of all rows that clauses reach from its row.
 pub fn reached_from(alloc: Global, rows: &[Row<'_>], place: usize) -> Result<Vec<usize>, NoMemory> {
     let bearers = bearers_of(alloc, rows)?;
     let mut seen = HashSet::new(alloc);

@@ -21,8 +21,8 @@ use testing_rules_live::rows_on;
 use testing_rules_model::{LentRow, Offender};
 use testing_rules_suites::RowAnswer;
 
-/// The first row that a change breaks, the rows on its architecture after the change, and the steps that show that it
-/// isn't installable among these. The step of the offender is the last one.
+/// The first row that a change breaks, the rows on its architecture after the change, and the steps that prove that it
+/// isn't installable among these. The last step is the offender's.
 #[derive(Drop)]
 pub struct Refusal<'a> {
     pub offender: Offender,
@@ -89,10 +89,10 @@ fn refusal_on<'a>(
     }))
 }
 
-/// The first row that a change from the old rows to the new ones breaks, for a group that came in, and what shows that it
-/// isn't installable then. There is none exactly where the change breaks nothing. It costs two judgements of the
-/// offender's architecture and of each one before it, and what clauses reach from the offender. The one error is want of
-/// memory.
+/// The first row that a change from the old rows to the new ones breaks, for a moving group, with the proof that it
+/// isn't installable then. There is none exactly if the change breaks nothing. It costs two judgements of the
+/// offender's architecture and of each one before it, and what clauses reach from the offender. The only error is
+/// running out of memory.
 pub fn refused<'a>(
     alloc: Global,
     archs: &Archs,

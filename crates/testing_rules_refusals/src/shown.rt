@@ -1,4 +1,4 @@
-//! What shows that the row of an offender isn't installable, found without a judgement of the other rows.
+//! The proof that an offender's row isn't installable, found without judging the other rows.
 
 ghost use Rattle.std.specs.Prelude.{◌≡◌, true, false, length, IfOk, IfSome};
 ghost use Rattle.std.specs.Str.{bytes_eq};
@@ -25,7 +25,7 @@ fn is_of_name(row: &LentRow, name: &str) -> bool
     row.binary.name.as_str() == name
 }
 
-/// The first place of a row of the name.
+/// The first place of a row with the name.
 fn place_of(rows: &[LentRow], name: &str) -> Option<usize>
     ensures { IfSome result (λ place. IsOf (lent rows.now) name.now place) }
 {
@@ -37,7 +37,7 @@ fn place_of(rows: &[LentRow], name: &str) -> Option<usize>
     None
 }
 
-/// The row stands at another place than this one, and has the name.
+/// The row is at another place than this one, and has the name.
 fn is_another(row: &LentRow, name: &str, place: usize, only: usize) -> bool
     ensures { result ≡ false → (row_of row.now).binary.name ≡ name.now → place ≡ only }
 {
@@ -59,7 +59,7 @@ fn is_only(rows: &[LentRow], name: &str, only: usize) -> bool
     true
 }
 
-/// The place of the only row of the name. There is none where no row has it, or several have.
+/// The place of the only row with the name. There is none if no row or several rows have it.
 fn only_place(rows: &[LentRow], name: &str) -> Option<usize>
     ensures { IfSome result (λ place. IsOnlyOf (lent rows.now) name.now place) }
 {
@@ -83,8 +83,8 @@ fn packages_of<'a>(alloc: Global, rows: &[LentRow<'a>]) -> Result<Vec<Row<'a>>, 
     Ok(list)
 }
 
-/// Steps that may show that the row at the place isn't installable: over the rows that clauses reach from it, all of which
-/// are there. The rows keep their order, so the steps are those that a suite of all rows would give.
+/// Steps that may show that the row at the place isn't installable, over the rows that clauses reach from it, with all
+/// of these present. The rows keep their order, so the steps are those that a suite of all rows would give.
 fn steps_to(
     alloc: Global,
     rows: &[LentRow],
@@ -104,8 +104,7 @@ fn steps_to(
     }
 }
 
-/// The steps that show that the row at the place isn't installable among these, all of which are there, where they are
-/// found.
+/// The steps that show that the row at the place isn't installable among these present rows, if they are found.
 pub(crate) fn steps_for(
     alloc: Global,
     rows: &[LentRow],
@@ -121,9 +120,9 @@ pub(crate) fn steps_for(
     Ok(Some(steps))
 }
 
-/// What shows that an offender's row isn't installable after a change, where it is the only one of its name on its
-/// architecture, and where steps are found. It costs a few passes over the rows there and the steps, a look at each step
-/// that has a name which a row bears, and what the rows cost that clauses reach from it. The one error is want of memory.
+/// The proof that an offender's row isn't installable after a change, if no other row on its architecture has its name
+/// and if steps are found. It costs a few passes over the rows there and the steps, a look at each step that has a name
+/// of a row, and the cost of the rows that clauses reach from it. The only error is running out of memory.
 pub fn shown_of<'a>(
     alloc: Global,
     new: &[LentRow<'a>],

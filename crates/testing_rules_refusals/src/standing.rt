@@ -1,4 +1,4 @@
-//! Which candidates live, and which rows may stand, whichever of them have moved.
+//! Which candidates live, and which rows may be present, whichever of them have moved.
 
 ghost use Rattle.std.specs.Prelude.{◌≡◌, ◌++◌, ℕ, List, IfOk, filter, map, option_copied};
 ghost use Rattle.std.specs.List.{list_any};
@@ -26,10 +26,10 @@ use testing_rules_live::{rows_on, rows_without};
 use testing_rules_model::{Excuse, LentRow};
 use testing_rules_suites::{Testing, place_of_name};
 
-/// Names that are looked up by their hash.
+/// Names looked up by their hash.
 type NameSet<'a> = HashSet<&'a str>;
 
-/// The names, lent.
+/// The names, borrowed.
 fn lent_names<'a>(alloc: Global, names: &'a [Text]) -> Result<Vec<&'a str>, AllocError>
     ensures { IfOk result (λ found. lent_lines found.items ≡ names.now) }
 {
@@ -74,7 +74,7 @@ fn version_in<'a>(testing: &'a Testing, name: &str) -> Option<&'a Version>
     }
 }
 
-/// Whether testing has the source at this version. One look-up among testing's sources.
+/// Whether testing has the source at this version. It costs one look-up among testing's sources.
 pub fn is_in_testing(testing: &Testing, name: &str, version: &Version) -> bool
     ensures { result ≡ updates.is_in_testing testing.now name.now version.now }
 {
@@ -91,21 +91,21 @@ fn has_no_reason(excuse: &Excuse) -> bool
     excuse.reasons.as_slice().is_empty()
 }
 
-/// The excuse makes its source a candidate, which hasn't moved.
+/// The excuse's source is a candidate that hasn't moved.
 fn is_remaining(testing: &Testing, excuse: &Excuse) -> bool
     ensures { result ≡ updates.is_remaining testing.now excuse.now }
 {
     has_no_reason(excuse) && !is_in_testing(testing, excuse.source.as_str(), &excuse.unstable)
 }
 
-/// The excuse makes its source a candidate that hasn't moved, and the set doesn't have its name.
+/// The excuse's source is a candidate that hasn't moved, and its name isn't in the set.
 fn lives_beside(testing: &Testing, dead: &NameSet, excuse: &Excuse) -> bool
     ensures { result ≡ lives_beside testing.now dead.now.keys excuse.now }
 {
     is_remaining(testing, excuse) && !is_in_set(dead, excuse.source.as_str())
 }
 
-/// The candidates that haven't moved, but for those of the set.
+/// The candidates that haven't moved, except those in the set.
 fn living_beside(
     alloc: Global,
     excuses: &[Excuse],
@@ -123,7 +123,7 @@ fn living_beside(
     Ok(names)
 }
 
-/// The candidates that haven't moved, but for the dead.
+/// The candidates that haven't moved, except the dead ones.
 pub(crate) fn living(
     alloc: Global,
     excuses: &[Excuse],
@@ -136,7 +136,7 @@ pub(crate) fn living(
     living_beside(alloc, excuses, testing, &dead)
 }
 
-/// The current rows of unstable of the sources that the set has.
+/// The current rows of unstable whose source is in the set.
 fn coming_by<'a>(
     alloc: Global,
     unstable: Unstable<'_, 'a>,
@@ -167,8 +167,8 @@ pub(crate) fn coming_rows<'a>(
     coming_by(alloc, unstable, &live)
 }
 
-/// The rows on the architecture that may stand once the source has moved: those of testing that aren't its, and these that
-/// may come.
+/// The rows on the architecture that may be present once the source has moved: those of testing that aren't its own,
+/// and the rows that may come.
 pub(crate) fn rows_that_may_stand<'a>(
     alloc: Global,
     arch: u32,

@@ -1,5 +1,4 @@
-//! What no group frees: blocks of lines, each of which shows that a source can't move while those of the blocks behind it
-//! don't.
+//! What no group frees: blocks of lines. Each shows that its source can't move while those of the later blocks don't.
 
 ghost use Rattle.std.specs.Prelude.{◌≡◌, ◌<◌, ◌++◌, ◌∷◌, [], true, false, length, IfOk, IfSome, OnOk, codes, string_bytes};
 ghost use Rattle.std.specs.List.{list_any};
@@ -35,8 +34,8 @@ use testing_rules_live::{fails_on, is_of, is_row_of, is_same_key};
 use testing_rules_model::{Excuse, LentRow, Offender};
 use testing_rules_suites::{RowAnswer, Testing, is_watched_on, lend_rows};
 
-/// A candidate that a search holds for dead: the package of which its move would break a row on an architecture, and the
-/// round of the search in which it was found so. What is dead by its round rests on those of smaller rounds alone.
+/// A candidate that a search considers dead: the package whose row its move would break on an architecture, and the
+/// round of the search that found it. Its death depends only on candidates of earlier rounds.
 #[derive(Drop)]
 pub struct Suspect {
     pub name: Text,
@@ -45,7 +44,7 @@ pub struct Suspect {
     pub round: u32,
 }
 
-/// What blocks go by: the architectures, unstable, the excuses of the run, and a testing with its rows.
+/// The input of blocks: the architectures, unstable, the excuses of the run, and a testing with its rows.
 #[derive(Clone, Copy)]
 struct Ground<'g, 'a> {
     archs: &'g Archs,
@@ -63,7 +62,7 @@ fn is_watched_of(row: &LentRow, arch: u32, package_name: &str) -> bool
     row.binary.name.as_str() == package_name && is_watched_on(arch, row)
 }
 
-/// The row is watched on the architecture, has the package's name, and is the source's.
+/// The row is watched on the architecture, has the package's name, and belongs to the source.
 fn is_own(row: &LentRow, arch: u32, package_name: &str, name: &str) -> bool
     ensures name { result ≡ true → (row_of row.now).binary.name ≡ package_name.now }
     ensures watched { result ≡ true → moves.is_watched_on arch (row_of row.now) ≡ true }
@@ -72,7 +71,7 @@ fn is_own(row: &LentRow, arch: u32, package_name: &str, name: &str) -> bool
     is_watched_of(row, arch, package_name) && is_of(row, name)
 }
 
-/// The first place of a watched row of the package that is the source's.
+/// The first place of a watched row of the package that belongs to the source.
 fn own_place(rows: &[LentRow], arch: u32, package_name: &str, name: &str) -> Option<usize>
     ensures { IfSome result (λ place. standing.IsOwnAt arch package_name.now (lent rows.now) name.now place) }
 {
@@ -107,7 +106,7 @@ fn worked(before: &[RowAnswer], arch: u32, row: &LentRow) -> bool
     fails_on(arch, &[], before, lost)
 }
 
-/// None of these sources is the row's own, and none of these rows has its key.
+/// None of these sources owns the row, and none of these rows has its key.
 fn is_left(row: &LentRow, live: &[Text], coming: &[LentRow]) -> bool
     ensures own { result ≡ true → moves.is_row_of live.now (row_of row.now) ≡ false }
     ensures key { result ≡ true → list_any (moves.is_same_key (row_of row.now)) (lent coming.now) ≡ false }
@@ -115,7 +114,7 @@ fn is_left(row: &LentRow, live: &[Text], coming: &[LentRow]) -> bool
     !is_row_of(live, row) && !has_key_of(coming, row)
 }
 
-/// The row is watched on the architecture, has the package's name, was installable, and is left by these sources.
+/// The row is watched on the architecture, has the package's name, was installable, and stays with these sources.
 fn is_staying(
     row: &LentRow,
     arch: u32,
@@ -154,7 +153,7 @@ fn staying_place(
     None
 }
 
-/// The first place of a row of the suspect's package that is due: it is the suspect's own, or else it stays.
+/// The first place of a row of the suspect's package that is due: its own, or else one that stays.
 fn due_place(
     alloc: Global,
     ground: &Ground<'_, '_>,
@@ -189,7 +188,8 @@ fn is_among(names: &[Text], name: &str) -> bool
     false
 }
 
-/// The suspect's row and the steps that show that it isn't installable among the rows that may stand, where these live.
+/// The suspect's row and the steps that prove that it isn't installable among the rows that may be present while these
+/// live.
 fn shown_among<'a>(
     alloc: Global,
     ground: &Ground<'_, 'a>,
@@ -220,7 +220,7 @@ fn shown_among<'a>(
     }))
 }
 
-/// The same, if the suspect is one of those that live, and its architecture is listed.
+/// The same, if the suspect is living, and its architecture is listed.
 fn block_of<'a>(
     alloc: Global,
     ground: &Ground<'_, 'a>,
@@ -263,7 +263,7 @@ fn version_of<'a>(excuses: &'a [Excuse], name: &str) -> &'a str
     }
 }
 
-/// The lines of a block behind its first one.
+/// The lines of a block after its first one.
 fn lines_of<'a>(
     alloc: Global,
     ground: &Ground<'_, 'a>,
@@ -309,7 +309,7 @@ fn block_text<'a>(
     Ok(Text::from_string(text))
 }
 
-/// The block of the suspect, where these are dead. There is none where the search was wrong of it.
+/// The block of the suspect while these are dead. There is none if the search was wrong about it.
 fn told_block(
     alloc: Global,
     ground: &Ground<'_, '_>,
@@ -330,7 +330,7 @@ fn told_block(
     Ok(Some(text))
 }
 
-/// Blocks that are told: their sources, and their text.
+/// Blocks so far: their sources, and their text.
 #[derive(Drop)]
 struct ToldBlocks {
     names: Vec<Text>,
@@ -348,7 +348,7 @@ fn no_blocks(alloc: Global) -> ToldBlocks
     }
 }
 
-/// A block in front of those that are told.
+/// Adds a block before the blocks so far.
 fn with_block(
     alloc: Global,
     told: ToldBlocks,
@@ -367,7 +367,7 @@ fn with_block(
     })
 }
 
-/// The block of the suspect in front of those that are told, whose sources are dead for it.
+/// Adds the suspect's block before the blocks so far, whose sources count as dead for it.
 fn with_block_of(
     alloc: Global,
     ground: &Ground<'_, '_>,
@@ -388,8 +388,8 @@ fn with_block_of(
     Ok(Some(more))
 }
 
-/// The blocks of the suspects, the first one last, where those behind a block are dead. There are none where the search
-/// was wrong of one of them.
+/// The blocks of the suspects, the first one last; for each, the later ones are dead. There are none if the search was
+/// wrong about one of them.
 fn told_blocks(
     alloc: Global,
     ground: &Ground<'_, '_>,
@@ -410,7 +410,7 @@ fn told_blocks(
     Ok(Some(told))
 }
 
-/// The names of the suspects that were found in rounds before this one.
+/// The names of the suspects found in rounds before this one.
 fn names_before(alloc: Global, suspects: &[Suspect], round: u32) -> Result<Vec<Text>, NoMemory> {
     let mut names = Vec::new(alloc);
     for suspect in suspects {
@@ -421,7 +421,7 @@ fn names_before(alloc: Global, suspects: &[Suspect], round: u32) -> Result<Vec<T
     Ok(names)
 }
 
-/// Wants the suspect of the name, if it was found in a round before this one.
+/// Marks the suspect with the name as wanted, if it was found in a round before this one.
 fn want(suspects: &[Suspect], round: u32, name: &str, wanted: &mut Vec<bool>) {
     for place in 0..suspects.len() {
         let suspect = &suspects[place];
@@ -433,7 +433,7 @@ fn want(suspects: &[Suspect], round: u32, name: &str, wanted: &mut Vec<bool>) {
     }
 }
 
-/// Wants the suspects of rounds before this one that would bring a row that meets the clause.
+/// Marks the suspects of earlier rounds as wanted that would bring a row meeting the clause.
 fn want_bearers(
     ground: &Ground<'_, '_>,
     suspects: &[Suspect],
@@ -450,7 +450,8 @@ fn want_bearers(
     }
 }
 
-/// Wants the suspects on which the block of this one rests: those of rounds before it whose rows its steps would need.
+/// Marks the suspects as wanted on which this one's block rests: those of earlier rounds whose rows its steps would
+/// need.
 fn want_for(
     alloc: Global,
     ground: &Ground<'_, '_>,
@@ -474,7 +475,7 @@ fn want_for(
     Ok(())
 }
 
-/// No suspect is wanted but that of the name.
+/// Marks only the suspect with the name as wanted.
 fn want_first(alloc: Global, suspects: &[Suspect], name: &str) -> Result<Vec<bool>, NoMemory> {
     let mut wanted = Vec::with_capacity(alloc, suspects.len())?;
     for suspect in suspects {
@@ -483,7 +484,7 @@ fn want_first(alloc: Global, suspects: &[Suspect], name: &str) -> Result<Vec<boo
     Ok(wanted)
 }
 
-/// The wanted ones of the suspects.
+/// The wanted suspects.
 fn those_wanted<'s>(
     alloc: Global,
     suspects: &'s [Suspect],
@@ -498,7 +499,7 @@ fn those_wanted<'s>(
     Ok(chosen)
 }
 
-/// The suspects on whose blocks that of the source rests, itself the last one, if the suspects stand by their rounds.
+/// The suspects whose blocks the source's block rests on, itself last, if the suspects are ordered by round.
 fn resting<'s>(
     alloc: Global,
     ground: &Ground<'_, '_>,
@@ -574,11 +575,11 @@ fn text_over_rows(
     text_over(alloc, &ground, suspects, source)
 }
 
-/// What shows that no group frees the source, in blocks of lines, by the facts and the excuses of a run, over a testing
-/// behind its removals and its groups. The suspects are what a search holds for dead, by their rounds. Their blocks are
-/// tested, so nothing rests on the search: there is no text where it was wrong, or where the source is none of them. A
-/// block costs a few looks at each row of testing and of unstable and at each excuse, and what its clauses touch; where the
-/// offender's row is one of testing that stays, one judgement of its architecture more. The one error is want of memory.
+/// A proof that no group frees the source, in blocks of lines, by the facts and the excuses of a run, over a testing
+/// after its removals and its groups. The suspects are what a search considers dead, by round. Their blocks are tested,
+/// so nothing depends on the search: there is no text if it was wrong, or if the source isn't a suspect. A block costs
+/// a few looks at each row of testing and of unstable and at each excuse, and what its clauses touch; if the offender's
+/// row is one of testing that stays, also one judgement of its architecture. The only error is running out of memory.
 pub fn stuck_text(
     alloc: Global,
     archs: &Archs,

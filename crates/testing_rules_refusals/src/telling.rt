@@ -1,4 +1,4 @@
-//! The text of what shows that a row isn't installable, where sources would move or one would be removed.
+//! The text of a proof that a row isn't installable if sources moved or one was removed.
 
 ghost use Rattle.std.specs.Prelude.{◌≡◌, ◌++◌, ◌∷◌, [], IfOk, OnOk, codes, map, string_bytes};
 ghost use Rattle.std.specs.List.{flat_map};
@@ -23,8 +23,8 @@ use testing_rules_live::is_row_of;
 use testing_rules_model::{Excuse, LentRow, Reason, UploadIn};
 use testing_rules_reports::push_reason_words;
 
-/// What is known where lines are told: the architectures, unstable, the excuses of the run, the sources that come in, and
-/// those that no group frees.
+/// What the lines need to know: the architectures, unstable, the excuses of the run, the sources that come, and those
+/// that no group frees.
 #[derive(Clone, Copy)]
 pub struct Telling<'g, 'a> {
     pub archs: &'g Archs,
@@ -34,8 +34,8 @@ pub struct Telling<'g, 'a> {
     pub stuck: &'g [Text],
 }
 
-/// What a text is told from: the architectures, the facts and the excuses of a run, and the rows that were built of the
-/// facts. Unstable has the facts' sources and these rows.
+/// The input of a text: the architectures, the facts and the excuses of a run, and the rows built from the facts.
+/// Unstable has the facts' sources and these rows.
 #[derive(Clone, Copy)]
 pub(crate) struct Basis<'g, 'a> {
     pub archs: &'g Archs,
@@ -104,7 +104,7 @@ pub(crate) fn is_current_in(sources: &[Box<UploadIn>], row: &LentRow) -> bool
     }
 }
 
-/// The row is a current one of one of the sources.
+/// The row is current and belongs to one of the sources.
 pub(crate) fn comes_with(sources: &[Box<UploadIn>], group: &[Text], row: &LentRow) -> bool
     requires { AreBySource (unboxed sources.now) }
     ensures { result ≡ texts.comes_with (unboxed sources.now) group.now (row_of row.now) }
@@ -112,7 +112,7 @@ pub(crate) fn comes_with(sources: &[Box<UploadIn>], group: &[Text], row: &LentRo
     is_row_of(group, row) && is_current_in(sources, row)
 }
 
-/// The row's source, if it is one of the group, and else no name.
+/// The row's source if it is in the group, else no name.
 fn moving_with<'a>(group: &[Text], row: &LentRow<'a>) -> &'a str
     ensures { result.now ≡ texts.moving_with group.now (row_of row.now) }
 {
@@ -144,7 +144,7 @@ fn push_offer_state(
     Ok(push_state(text, telling.archs, &state)?)
 }
 
-/// How it stands with a row of unstable.
+/// Adds the state of a row of unstable.
 fn push_offer_words(
     alloc: Global,
     text: &mut String,
@@ -190,7 +190,7 @@ fn push_each_offer(
     Ok(())
 }
 
-/// The lines of the rows of unstable that would meet a clause, or that there is none.
+/// Adds the lines of the rows of unstable that would meet a clause, or that there are none.
 #[tactic(auto, using(crate::proofs::Helping::none_offered, crate::proofs::Helping::some_offered))]
 fn push_offers(
     alloc: Global,
@@ -209,7 +209,7 @@ fn push_offers(
     push_each_offer(alloc, text, telling, rows)
 }
 
-/// What stands behind a line whose clause nothing meets.
+/// Adds the lines after one with an unmet clause.
 fn push_help(
     alloc: Global,
     text: &mut String,
@@ -224,7 +224,7 @@ fn push_help(
     push_offers(alloc, text, telling, &line.offers)
 }
 
-/// A line, and what stands behind it.
+/// Adds a line and its help.
 #[tactic(auto, using(crate::proofs::Helping::helped, crate::proofs::Helping::unhelped))]
 fn push_told(
     alloc: Global,
@@ -260,9 +260,9 @@ fn push_each_told(
     Ok(())
 }
 
-/// The text of what shows that a row isn't installable: its lines, as they stand. Behind a line whose clause nothing meets
-/// are the rows of testing that met it before, which leave, and how it stands with each row of unstable that would meet
-/// it. The one error is want of memory.
+/// The text of a proof that a row isn't installable: its lines, in order. After a line with an unmet clause it has the
+/// leaving rows of testing that met the clause before, and the state of each row of unstable that would meet it. The
+/// only error is running out of memory.
 pub fn refusal_text(alloc: Global, telling: &Telling, told: &[Told]) -> Result<Text, NoMemory>
     requires { AreBySource (unboxed telling.now.unstable.sources.now) }
     ensures { IfOk result (λ text. text ≡ texts.refusal_text (known_of telling.now) (map told_of told.now)) }

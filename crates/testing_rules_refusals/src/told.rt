@@ -1,4 +1,4 @@
-//! What shows that a row isn't installable, line by line, and who could meet a clause that nothing meets.
+//! The proof that a row isn't installable, line by line, and who could meet an unmet clause.
 
 ghost use Rattle.std.specs.Prelude.{◌≡◌, IfOk, map};
 ghost use Rattle.testing_rules_model.specs.JudgedRows.{lent};
@@ -19,8 +19,8 @@ use testing_install_why::Step;
 use testing_rules_live::rows_on;
 use testing_rules_model::LentRow;
 
-/// A line: its number, a row and a clause of it, and the numbers of the lines whose rows meet the clause. Where there are
-/// none, the rows of testing that met it before, all of which leave, and the rows of unstable that would meet it.
+/// A line: its number, a row and a clause of it, and the numbers of the lines whose rows meet the clause. If there are
+/// none, also the leaving rows of testing that met it before, and the rows of unstable that would meet it.
 #[derive(Drop)]
 pub struct Told<'a> {
     pub number: usize,
@@ -30,7 +30,7 @@ pub struct Told<'a> {
     pub offers: Vec<LentRow<'a>>,
 }
 
-/// Those of the rows that meet the clause, where nothing does.
+/// The rows that meet the clause, if nothing else does.
 fn met_where<'a>(
     alloc: Global,
     is_unmet: bool,
@@ -94,8 +94,8 @@ fn lines_of<'a>(alloc: Global, shown: &Shown<'_, 'a>) -> Result<Vec<Told<'a>>, A
     Ok(lines)
 }
 
-/// What shows why a change is refused, line by line, the offender first, where these were testing's rows before the change
-/// and these are unstable's. The one error is want of memory.
+/// The proof of a refusal, line by line, with the offender first, given testing's rows before the change and
+/// unstable's. The only error is running out of memory.
 pub fn refusal_lines<'a>(
     alloc: Global,
     refusal: &Refusal<'a>,

@@ -1,11 +1,11 @@
 -- Steps: no contract of a call that users make rests on this file.
--- Lines that are lent, in a list and in a set.
+-- Borrowed lines, in a list and in a set.
 use Rattle.std.specs.Prelude.{ℕ, Bool, List, map}
 use Rattle.std.specs.Borrow.{Bor}
 use Rattle.std.specs.List.{list_any}
 use Rattle.std.specs.Str.{bytes_eq}
 
--- the lines that are lent
+-- the borrowed lines
 abbrev pub lent_lines : List (Bor (List ℕ)) → List (List ℕ)
 lent_lines found = map (λ t. t.now) found
 

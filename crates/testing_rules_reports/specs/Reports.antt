@@ -1,5 +1,5 @@
--- The texts of the reports, as lines that each end with a line feed. Their form is decided by this office; they tell what Debian's
--- excuses and the output of a run tell (Debian Developer's Reference 5.13.2).
+-- The texts of the reports, as lines that each end with a line feed. This office decides their form; their content is
+-- that of Debian's excuses and the output of a run (Debian Developer's Reference 5.13.2).
 use Rattle.std.specs.Prelude.{ℕ, if◌then◌else◌, List, [], ◌∷◌, ◌++◌, codes, decimal}
 use Rattle.std.specs.List.{flat_map}
 use Rattle.jiff_core.specs.declared.civil.date.Date.{Date}
@@ -17,7 +17,7 @@ use Rattle.testing_rules_model.specs.declared.suite.RowIn.{RowIn}
 use Rattle.testing_rules_model.specs.Suite.{Suite}
 use Rattle.testing_rules_items.specs.Words.{Text, arch_name, is_empty}
 
--- words with a space between each two
+-- words separated by one space
 abbrev pub words : List Text → Text
 words [] = []
 words (w ∷ []) = w
@@ -67,7 +67,7 @@ heading name run date = line (name ∷ decimal run ∷ date_text date ∷ [])
 abbrev pub excuses_text : List Text → ℕ → Date → List Excuse → Text
 excuses_text archs run date es = heading (codes "excuses") run date ++ flat_map (excuse_text archs) es
 
--- the end of a line on a change that isn't allowed: what it would break
+-- the end of a line on a refused change: what it would break
 abbrev pub offender_text : List Text → Offender → Text
 offender_text archs o = 32 ∷ words (codes "uninstallable" ∷ arch_name archs o.arch ∷ o.«package» ∷ [])
 

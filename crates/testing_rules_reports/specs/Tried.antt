@@ -1,4 +1,4 @@
--- The text that tells what hints would change.
+-- The text that says what hints would change.
 use Rattle.std.specs.Prelude.{ℕ, ◌+◌, Bool, not, List, [], ◌∷◌, ◌++◌, codes, decimal, length, ◌==◌}
 use Rattle.std.specs.Str.Lines.{lines}
 use Rattle.jiff_core.specs.declared.civil.date.Date.{Date}
@@ -7,25 +7,25 @@ use Rattle.testing_rules_reports.specs.Changes.{changes, excuse_lines}
 use Rattle.testing_rules_reports.specs.declared.telling.Decided.{Decided}
 use Rattle.testing_rules_reports.specs.declared.telling.TrialReport.{TrialReport}
 
--- the line on a hint of a sender, under its number, that is tried for a run of a date
+-- the line on a sender's hint with this number, tried for a run of a date
 abbrev pub try_line : ℕ → Date → List ℕ → ℕ → List ℕ → List ℕ
 try_line run date sender number hint =
     codes "try " ++ decimal run ++ 32 ∷ date_text date ++ 32 ∷ sender ++ 32 ∷ decimal number ++ 32 ∷ hint ++ 10 ∷ []
 
--- a line for each hint, whose numbers go on from this one
+-- a line for each hint, numbered from here on
 abbrev pub try_lines : ℕ → Date → List ℕ → ℕ → List (List ℕ) → List ℕ
 try_lines run date sender number [] = []
 try_lines run date sender number (hint ∷ rest) = try_line run date sender number hint ++ try_lines run date sender (number + 1) rest
 
--- how what one run decides differs from what another does: of each report the lines that only the first has, and then those that only
--- the second has
+-- how the decisions of one run differ from another's: for each report the lines only in the first, then those only in
+-- the second
 abbrev pub changes_text : Decided → Decided → List ℕ
 changes_text first second =
     changes (codes "-excuse ") (codes "+excuse ") (excuse_lines first.excuses) (excuse_lines second.excuses)
     ++ changes (codes "-update ") (codes "+update ") (lines first.updates) (lines second.updates)
     ++ changes (codes "-testing ") (codes "+testing ") (lines first.testing) (lines second.testing)
 
--- what hints of a sender would change
+-- what a sender's hints would change
 abbrev pub tried_text : List ℕ → List (List ℕ) → TrialReport → List ℕ
 tried_text sender hints tried = try_lines tried.run tried.date sender tried.first hints ++ changes_text tried.without tried.with
 

@@ -11,7 +11,7 @@ use deb_control::Text;
 use std::alloc::{AllocError, Global};
 use std::collections::HashSet;
 
-/// Lines that are looked up by their hash.
+/// Lines looked up by their hash.
 pub(crate) type LineSet<'a> = HashSet<&'a str>;
 
 /// The lines of a text.
@@ -29,7 +29,7 @@ pub(crate) fn is_inner(line: &str) -> bool
     line.starts_with(" ")
 }
 
-/// Lines of excuses, each of which stands alone: an inner one has the first line of its excuse in front.
+/// Lines of excuses, each readable alone: an inner one is preceded by the first line of its excuse.
 fn fronted(alloc: Global, found: &[&str]) -> Result<Vec<Text>, AllocError>
     ensures { IfOk result (λ all. all.items ≡ fronted [] (lent_lines found.now)) }
 {
@@ -46,14 +46,14 @@ fn fronted(alloc: Global, found: &[&str]) -> Result<Vec<Text>, AllocError>
     Ok(all)
 }
 
-/// A line behind a front.
+/// A line after a front.
 fn joined(alloc: Global, front: &str, line: &str) -> Result<Text, AllocError>
     ensures { IfOk result (λ text. text ≡ front.now ++ line.now) }
 {
     Ok(Text::from_string(format!(in alloc; "{front}{line}")?))
 }
 
-/// The lines of a text of excuses, each of which stands alone.
+/// The lines of a text of excuses, each readable alone.
 fn excuse_lines(alloc: Global, text: &str) -> Result<Vec<Text>, AllocError>
     ensures { IfOk result (λ all. all.items ≡ excuse_lines text.now) }
 {
@@ -61,7 +61,7 @@ fn excuse_lines(alloc: Global, text: &str) -> Result<Vec<Text>, AllocError>
     fronted(alloc, &found)
 }
 
-/// A list of texts, lent.
+/// A list of texts, borrowed.
 fn lent_from<'a>(alloc: Global, all: &'a [Text]) -> Result<Vec<&'a str>, AllocError>
     ensures { IfOk result (λ found. lent_lines found.items ≡ all.now) }
 {
@@ -87,14 +87,14 @@ fn has_line(set: &LineSet, line: &str) -> bool
     set.contains(line)
 }
 
-/// A line behind a word, in the text.
+/// Adds a line after a word to the text.
 pub(crate) fn push_behind(text: &mut String, word: &str, line: &str) -> Result<(), AllocError>
     ensures { OnOk result (string_bytes text.new ≡ string_bytes text.old ++ behind word.now line.now) }
 {
     writeln!(text, "{word}{line}")
 }
 
-/// The lines that the set doesn't have, each behind a word, in order.
+/// Adds the lines that the set doesn't have, each after a word, in order.
 fn push_without(
     text: &mut String,
     word: &str,
@@ -111,7 +111,7 @@ fn push_without(
     Ok(())
 }
 
-/// The lines that others lack, each behind a word, in order.
+/// Adds the lines missing from others, each after a word, in order.
 fn push_lacked(
     alloc: Global,
     text: &mut String,
@@ -125,7 +125,7 @@ fn push_lacked(
     push_without(text, word, found, &set)
 }
 
-/// The lines that only the first report has, and those that only the second one has, each behind a word.
+/// Adds the lines only in the first report, and those only in the second, each after a word.
 fn push_both(
     alloc: Global,
     text: &mut String,

@@ -102,7 +102,7 @@ fn push_decisions(
     Ok(())
 }
 
-/// A word comes behind a text, and a space behind it.
+/// Adds a word and a space after it.
 fn push_word(text: &mut String, word: &str) -> Result<(), AllocError>
     ensures { OnOk result (string_bytes text.new ≡ string_bytes text.old ++ word.now ++ 32 ∷ []) }
 {
@@ -169,7 +169,7 @@ fn push_reason(text: &mut String, archs: &Archs, reason: Reason) -> Result<(), A
     text.push_str("\n")
 }
 
-/// A reason in the words of the report on excuses.
+/// Adds a reason in the words of the report on excuses.
 pub fn push_reason_words(text: &mut String, archs: &Archs, reason: Reason) -> Result<(), AllocError>
     ensures { OnOk result (string_bytes text.new ≡ string_bytes text.old ++ words (reason_words archs.now reason)) }
 {

@@ -1,4 +1,4 @@
-//! What the reports of a run say of one source.
+//! What the reports of a run say about one source.
 
 ghost use Rattle.std.specs.Prelude.{◌≡◌, ◌++◌, [], false, IfOk, OnOk, drop, filter, nat_eq, string_bytes};
 ghost use Rattle.std.specs.List.{position};
@@ -12,7 +12,7 @@ use crate::lines::{is_inner, lines_of, push_behind};
 use deb_control::{NoMemory, Text};
 use std::alloc::{AllocError, Global};
 
-/// Where the first space of a line stands.
+/// The place of the first space of a line.
 fn space_at(line: &str) -> Option<usize>
     ensures { result ≡ position is_space line.now }
 {
@@ -29,14 +29,14 @@ fn first_word(line: &str) -> &str
     }
 }
 
-/// Whether a name stands among the words of a line behind its first one.
+/// Whether a name is among the words of a line after its first one.
 fn names(line: &str, name: &str) -> bool
     ensures { result ≡ names name.now line.now }
 {
     line.split(' ').skip(1).any(|word| name == word)
 }
 
-/// Whether a line of excuses is of a source, where the line before it is or isn't.
+/// Whether a line of excuses is about a source, given whether the line before it is.
 fn is_own(name: &str, before: bool, line: &str) -> bool
     ensures { result ≡ is_own name.now before line.now }
 {
@@ -47,7 +47,7 @@ fn is_own(name: &str, before: bool, line: &str) -> bool
     }
 }
 
-/// The lines of excuses that are of a source.
+/// Adds the lines of excuses about a source.
 fn push_own(text: &mut String, name: &str, found: &[&str]) -> Result<(), AllocError>
     ensures { OnOk result (string_bytes text.new ≡ string_bytes text.old ++ flat_map (behind []) (own_lines name.now false (lent_lines found.now))) }
 {
@@ -73,7 +73,7 @@ fn push_named(text: &mut String, name: &str, found: &[&str]) -> Result<(), Alloc
     Ok(())
 }
 
-/// The lines behind the first one.
+/// The lines after the first one.
 fn behind_heading<'a, 'b>(found: &'b [&'a str]) -> &'b [&'a str]
     ensures { result.now ≡ drop 1 found.now }
 {
@@ -104,8 +104,8 @@ fn push_update(alloc: Global, text: &mut String, name: &str, update: &str) -> Re
     push_named(text, name, behind_heading(&update))
 }
 
-/// What the reports of a run say of a source: a line on the run and the source, then the source's excuse, a text behind
-/// that, and each line of the update that names it.
+/// What the reports of a run say about a source: a line on the run and the source, the source's excuse, then a text,
+/// then each line of the update that names it.
 pub fn source_text(
     alloc: Global,
     run: u32,
@@ -142,7 +142,7 @@ fn one_begins(found: &[&str], front: &str) -> bool
     false
 }
 
-/// Whether a source waits by an update: whether a line of that begins with `wait`, a space, the source's name and a space.
+/// Whether a source waits in an update: some line begins with `wait`, a space, the source's name and a space.
 pub fn waits_in(alloc: Global, name: &str, update: &str) -> Result<bool, NoMemory>
     ensures { IfOk result (λ waits. waits ≡ waits_in name.now update.now) }
 {

@@ -1,4 +1,4 @@
-//! The text that tells what hints would change.
+//! The text that says what hints would change.
 
 ghost use Rattle.std.specs.Prelude.{◌≡◌, ◌++◌, IfOk, OnOk, string_bytes};
 ghost use Rattle.testing_rules_reports.specs.Tried.{changes_text, has_changes, try_line, try_lines, tried_text};
@@ -9,7 +9,7 @@ use jiff::civil;
 use jiff_core::civil::Date;
 use std::alloc::{AllocError, Global};
 
-/// What a run decides, in texts: the two reports, and testing as it leaves it.
+/// The decisions of a run, in texts: the two reports, and testing after it.
 #[derive(Drop)]
 pub struct Decided {
     pub excuses: Text,
@@ -17,7 +17,7 @@ pub struct Decided {
     pub testing: Text,
 }
 
-/// What the next run would decide without some hints, and with them. They have a number each, from `first` on.
+/// What the next run would decide without some hints, and with them. The hints are numbered from `first` on.
 #[derive(Drop)]
 pub struct TrialReport {
     pub run: u32,
@@ -27,8 +27,8 @@ pub struct TrialReport {
     pub with: Decided,
 }
 
-/// The text that tells what the hints of a sender would change: a line for each hint, and then the lines of each report
-/// that only the run without them has, and those that only the run with them has.
+/// The text that says what a sender's hints would change: a line for each hint, then for each report the lines only in
+/// the run without the hints, and those only in the run with them.
 pub fn tried_text(
     alloc: Global,
     sender: &str,
@@ -43,7 +43,7 @@ pub fn tried_text(
     Ok(Text::from_string(text))
 }
 
-/// Whether the hints change anything: whether one of the two runs has a line that the other one hasn't.
+/// Whether the hints change anything: whether one of the two runs has a line that the other hasn't.
 pub fn has_changes(alloc: Global, tried: &TrialReport) -> Result<bool, NoMemory>
     ensures { IfOk result (λ has. has ≡ has_changes tried.now) }
 {

@@ -10,7 +10,7 @@ use Rattle.testing_rules_model.specs.Moves.{is_row_of, put_row, put_source, as_s
 use Rattle.testing_rules_model.specs.Unstable.{is_current}
 use Rattle.testing_rules_items.specs.Words.{Text}
 
--- rows with others put in, each under its key
+-- rows with others put in, each at its key
 abbrev pub with_rows : List RowIn → List RowIn → List RowIn
 with_rows others rows = fold (λ xs r. put_row r xs) rows others
 
@@ -18,7 +18,7 @@ with_rows others rows = fold (λ xs r. put_row r xs) rows others
 abbrev pub rows_at : List RowIn → List ℕ → List RowIn
 rows_at pool places = filter_map (slice_get pool) places
 
--- testing's rows after the move of a group: those of its sources leave, and their current ones of unstable come in
+-- testing's rows after the move of a group: all rows of its sources leave, and their current rows in unstable come
 abbrev pub moved_rows : List UploadIn → List RowIn → List Text → List RowIn → List RowIn
 moved_rows sources unstable group rows = with_rows (flat_map (λ u. filter (is_current u) unstable) (group_sources sources group)) (filter (λ r. not (is_row_of group r)) rows)
 
@@ -26,6 +26,6 @@ moved_rows sources unstable group rows = with_rows (flat_map (λ u. filter (is_c
 abbrev pub rows_without : Text → List RowIn → List RowIn
 rows_without name rows = filter (λ r. not (bytes_eq r.binary.source name)) rows
 
--- testing's sources after the move of a group: its sources have their unstable versions
+-- testing's sources after the move of a group, whose sources get their unstable versions
 abbrev pub sources_after : List UploadIn → List Text → List SourceIn → List SourceIn
 sources_after sources group old = fold (λ xs u. put_source (as_source u) xs) old (group_sources sources group)

@@ -18,17 +18,17 @@ pub record ArchRows : Type 0 where
 abbrev pub AreAscending : List ℕ → Type 0
 AreAscending places = AllPairs (λ j k. j < k) places
 
--- the places ascend, and there is a row, and a mark, for each
+-- the places ascend, with a row and a mark for each
 pub record IsArchRows (places : List ℕ) (suite : SuiteState) : Type 0 where
   pub ascending : AreAscending places
   pub count : length suite.rows ≡ length places
   pub long : length suite.there ≡ length places
 
--- the number of the place among some, where it is one of them
+-- the number of the place among these, if it is one of them
 abbrev pub IsNumberOf : List ℕ → ℕ → Option ℕ → Type 0
 IsNumberOf places place number = MatchOption number ((i : ℕ) → slice_get places i ≡ Some place → ⊥) (λ i. slice_get places i ≡ Some place)
 
--- the numbers, among the places of a part, of those of the places that are among them
+-- the numbers, among the places of a part, of the places that it has
 pub record AreNumbers (own places numbers : List ℕ) : Type 0 where
   pub sound : (i : ℕ) → Contains numbers i → (k : ℕ) × (slice_get own i ≡ Some k) × Contains places k
   pub complete : (i k : ℕ) → slice_get own i ≡ Some k → Contains places k → Contains numbers i
@@ -37,7 +37,7 @@ pub record AreNumbers (own places numbers : List ℕ) : Type 0 where
 abbrev pub package_at : List RowIn → ℕ → Option Binary
 package_at pool k = option_map (λ r. r.binary) (slice_get pool k)
 
--- which rows of the part are there after those at some places of the pool have left, and then those at others have come
+-- which rows of the part are present after the rows at some places of the pool have left and then others have come
 pub record IsAfter (part : ArchRows) (leaving coming : List ℕ) (there : List Bool) : Type 0 where
   pub left : List ℕ
   pub came : List ℕ

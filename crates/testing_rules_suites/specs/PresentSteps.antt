@@ -12,22 +12,22 @@ use Rattle.testing_rules_model.specs.SourceFilter.{passing_rows}
 use Rattle.testing_rules_items.specs.Words.{Text}
 use Rattle.testing_rules_suites.specs.Present.{IsShown}
 
--- the places of the rows that stand and are on the architecture
+-- the places of the present rows on the architecture
 pub record IsOn (arch : ℕ) (pool : List RowIn) (stands there : ℕ → Bool) : Type 0 where
   pub on : (k : ℕ) (r : RowIn) → slice_get pool k ≡ Some r → there k ≡ (stands k && is_row_on arch r)
 
--- the suite has the pool's rows that are on the architecture, and no others
+-- the suite has exactly the pool's rows on the architecture
 pub record IsOver (arch : ℕ) (pool : List RowIn) (suite : ArchRows) : Type 0 where
   pub places : suite.places ≡ filter (is_place_on arch pool) (range_with_len 0 (length pool))
   pub rows : map (λ b. Some b) suite.suite.rows ≡ map (package_at pool) suite.places
   pub long : length suite.suite.there ≡ length suite.places
 
--- the suite is that of the architecture: of its rows those are there that stand
+-- the suite is the architecture's: its present rows are the pool's
 pub record IsSuiteOn (arch : ℕ) (pool : List RowIn) (stands : List Bool) (suite : ArchRows) : Type 0 where
   pub over : IsOver arch pool suite
   pub stand : (i k : ℕ) → slice_get suite.places i ≡ Some k → marked suite.suite.there i ≡ marked stands k
 
--- each suite has the pool's rows that are on its architecture
+-- each suite has the pool's rows on its architecture
 pub record AreOver (pool : List RowIn) (suites : List ArchRows) : Type 0 where
   pub each : (arch : ℕ) (suite : ArchRows) → slice_get suites arch ≡ Some suite → IsOver arch pool suite
 
@@ -39,8 +39,8 @@ pub record AreSuites (pool : List RowIn) (stands : List Bool) (suites : List Arc
 abbrev pub set_places : List Bool → List ℕ
 set_places flags = filter (marked flags) (range_with_len 0 (length flags))
 
--- a pool's rows, the hashes of the names of the sources whose unstable rows it has, the place at which unstable's rows begin,
--- which rows stand, and the number of the architectures
+-- a pool's rows, the hashes of the names of the sources with unstable rows in it, the place of the first of unstable's
+-- rows, which rows are present, and the number of architectures
 pub record PoolState : Type 0 where
   pub rows : List RowIn
   pub candidates : List ℕ
@@ -48,17 +48,17 @@ pub record PoolState : Type 0 where
   pub stands : List Bool
   pub archs : ℕ
 
--- the rows of a pool that stand, each put under its key
+-- the present rows of a pool, each put at its key
 unfoldable pub present_rows : PoolState → List RowIn
 present_rows s = with_rows (rows_at s.rows (set_places s.stands)) []
 
--- there is a flag for each row, and for each architecture its suite
+-- there is a flag for each row, and a suite for each architecture
 pub record IsCarriedState (pool : List RowIn) (stands : List Bool) (archs : ℕ) (suites : List ArchRows) : Type 0 where
   pub long : length stands ≡ length pool
   pub count : archs ≡ length suites
   pub each : AreSuites pool stands suites
 
--- testing's rows are those that stand of a pool of rows before the run, with unstable's behind them that may come
+-- testing's rows are the present ones of a pool: its rows before the run, then unstable's rows that may come
 pub record IsLive (s : PoolState) (archs : List Text) (unstable rows : List RowIn) : Type 0 where
   pub count : s.archs ≡ length archs
   pub before : List RowIn

@@ -17,7 +17,7 @@ is_place_on arch pool k = option_map_or (is_row_on arch) (slice_get pool k) fals
 abbrev pub names_at : ℕ → List RowIn → List ℕ → List Text
 names_at arch pool places = map (λ r. r.binary.name) (filter (is_watched_on arch) (filter_map (slice_get pool) places))
 
--- the name is that of the first watched row, in byte order, that the architecture loses where some rows leave and then some come
+-- the first name in byte order of a watched row that the architecture loses if some rows leave and then some come
 pub record IsFirstLost (arch : ℕ) (pool : List RowIn) (there : List Bool) (leaving coming : List ℕ) (name : Option Text) : Type 0 where
   pub places : List ℕ
   pub exact : (k : ℕ) → Contains places k

@@ -12,7 +12,7 @@ use Rattle.testing_rules_suites.specs.PresentSteps.{IsOn}
 use Rattle.testing_rules_suites.specs.Trials.{IsFirstLost}
 use Rattle.testing_rules_items.specs.Words.{Text}
 
--- the row that an architecture would lose, where it would lose one
+-- the row that an architecture would lose, if it would lose one
 abbrev pub told_on : (ℕ → Option Text) → ℕ → Option Offender
 told_on tells arch = option_map (λ n. record { arch = arch; «package» = n }) (tells arch)
 
@@ -25,12 +25,12 @@ pub record Tells (pool : List RowIn) (stands : List Bool) (leaving coming : List
   pub each : (arch : ℕ) (there : List Bool) → length there ≡ length pool → IsOn arch pool (marked stands) (marked there)
       → (name : Option Text) → IsFirstLost arch pool there leaving coming name → name ≡ tells arch
 
--- a change's places are places of the pool's rows
+-- the places of a change are places of the pool's rows
 pub record IsWithin (pool : List RowIn) (leaving coming : List ℕ) : Type 0 where
   pub leaving_within : All (λ k. k < length pool) leaving
   pub coming_within : All (λ k. k < length pool) coming
 
--- of the rows that stand those leave that name the source
+-- the present rows of the source leave
 pub record IsRemovalOf (pool : List RowIn) (stands : List Bool) (name : Text) (leaving : List ℕ) : Type 0 where
   pub exact : (k : ℕ) (r : RowIn) → slice_get pool k ≡ Some r → marked stands k ≡ true → has leaving k ≡ bytes_eq r.binary.source name
   pub stood : (k : ℕ) → has leaving k ≡ true → marked stands k ≡ true

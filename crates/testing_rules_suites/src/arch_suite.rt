@@ -1,4 +1,4 @@
-//! The suite of one architecture, over the pool's rows that are on it.
+//! The suite of one architecture, over the pool's rows on it.
 
 ghost use Rattle.std.specs.Prelude.{◌≡◌, ◌<◌, ◌≤◌, ◌-◌, ◌++◌, [], Bool, List, true, false, length, take, map, filter, replicate, slice_index, Some, IfOk, OnOk, OnErr};
 ghost use Rattle.std.specs.List.{All, range_with_len};
@@ -29,7 +29,7 @@ fn is_place_on(arch: u32, pool: &Pool, place: usize) -> bool
     is_row_on(arch, &pool.row(place))
 }
 
-/// The places, from one on, of the pool's rows that are on the architecture.
+/// The places, from one on, of the pool's rows on the architecture.
 fn places_on(
     alloc: Global,
     arch: u32,
@@ -60,8 +60,8 @@ fn packages_at(alloc: Global, pool: &Pool, places: &[usize]) -> Result<Vec<Rc<Bi
     Ok(packages)
 }
 
-/// The number of the place among those that ascend, or else the number that it would have. The guessed number is tried
-/// first, and then the next one.
+/// The number of the place among the ascending ones, or the number that it would have. The guessed number is tried
+/// first, then the next one.
 fn number_near(places: &[usize], place: usize, guess: usize) -> Result<usize, usize>
     requires { AreAscending places.now }
     ensures { IsNumberOf places.now place (result_ok result) }
@@ -75,8 +75,8 @@ fn number_near(places: &[usize], place: usize, guess: usize) -> Result<usize, us
     )
 }
 
-/// The numbers of the places among those that ascend. What isn't one of them is left out. Rows that come or leave at once
-/// stand side by side, on each architecture, so the number behind the last one is a good guess.
+/// The numbers of the places among the ascending ones; others are left out. Rows that come or leave together are
+/// adjacent on each architecture, so the number after the last one is a good guess.
 fn numbers_of(
     alloc: Global,
     own: &[usize],
@@ -113,8 +113,8 @@ fn places_of(
     Ok(places)
 }
 
-/// A suite of the pool's rows that are on one architecture, and their places in the pool, by which it is asked. So it
-/// costs what these rows cost, and not what the pool costs.
+/// A suite of the pool's rows on one architecture, with their places in the pool as its interface. Its cost depends on
+/// these rows, not on the pool.
 pub struct ArchSuite {
     places: Vec<usize>,
     suite: Suite,
@@ -140,7 +140,7 @@ impl Model for ArchSuite {
 }
 
 impl ArchSuite {
-    /// The suite of no row.
+    /// The suite without rows.
     pub fn new(alloc: Global) -> ArchSuite
         ensures { result ≡ record { places = []; suite = record { rows = []; there = [] } } }
     {
@@ -150,7 +150,7 @@ impl ArchSuite {
         }
     }
 
-    /// The suite with those of the pool's rows from a place on that are on the architecture, of which none is there yet.
+    /// Adds the pool's rows from a place on that are on the architecture; they are absent at first.
     pub fn with_rows(
         self,
         alloc: Global,
@@ -172,8 +172,8 @@ impl ArchSuite {
         Ok(ArchSuite { places, suite })
     }
 
-    /// The places of the rows that would be lost if the rows at some places left and then those at others came. The
-    /// suite stays as it is.
+    /// The places of the rows that would be lost if the rows at some places left and then others came. The suite is
+    /// unchanged.
     pub fn trial(
         &mut self,
         alloc: Global,
@@ -189,7 +189,7 @@ impl ArchSuite {
         places_of(alloc, &self.places, &lost)
     }
 
-    /// The rows at some places leave, and then those at others come. On an error the suite stays as it is.
+    /// The rows at some places leave, and then others come. On an error the suite is unchanged.
     pub fn change(
         &mut self,
         alloc: Global,

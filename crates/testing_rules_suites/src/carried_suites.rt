@@ -1,5 +1,5 @@
-//! The rows of a pool, which of them stand in testing, and the suite of each architecture: what of a run's suites is of no
-//! one run.
+//! A pool's rows, which of them are present in testing, and each architecture's suite: all that isn't specific to one
+//! run.
 
 ghost use Rattle.std.specs.Prelude.{◌≡◌, ℕ, ◌++◌, ◌-◌, ◌^◌, ◌<◌, ◌≤◌, true, false, Bool, length, take, replicate, filter, [], IfOk, IfSome, List, Option};
 ghost use Rattle.std.specs.List.{All, range_with_len};
@@ -71,7 +71,7 @@ fn set_places(alloc: Global, flags: &[bool]) -> Result<Vec<usize>, NoMemory>
     Ok(places)
 }
 
-/// Those of the places whose flags are set.
+/// The places whose flags are set, among these.
 fn set_among(alloc: Global, flags: &[bool], places: &[usize]) -> Result<Vec<usize>, NoMemory>
     requires { All (λ k. k < length flags.now) places.now }
     ensures { IfOk result (λ up. up.items ≡ filter (marked flags.now) places.now) }
@@ -85,7 +85,7 @@ fn set_among(alloc: Global, flags: &[bool], places: &[usize]) -> Result<Vec<usiz
     Ok(up)
 }
 
-/// The suite of each architecture over no row.
+/// The suite of each architecture, without rows.
 fn empty_suites(alloc: Global, archs: u32) -> Result<Vec<ArchSuite>, NoMemory>
     ensures count { IfOk result (λ suites. length suites.items ≡ archs) }
     ensures each { IfOk result (λ suites. AreSuites [] [] suites.items) }
@@ -97,7 +97,7 @@ fn empty_suites(alloc: Global, archs: u32) -> Result<Vec<ArchSuite>, NoMemory>
     Ok(suites)
 }
 
-/// The suites with the pool's rows from a place on, each with those on its architecture, of which none is there yet.
+/// The suites with the pool's rows from a place on, each with those on its architecture, absent at first.
 fn extended(
     alloc: Global,
     suites: Vec<ArchSuite>,
@@ -120,7 +120,7 @@ fn extended(
     Ok(extended)
 }
 
-/// The suites once the change is made on each architecture.
+/// The suites after the change on each architecture.
 fn changed(
     alloc: Global,
     archs: u32,
@@ -140,8 +140,8 @@ fn changed(
     Ok(suites)
 }
 
-/// Rows that may stand in testing, which of them stand, and the suite of each architecture. A change is tried, and made,
-/// in time about what it touches.
+/// Rows that may be in testing, which of them are present, and the suite of each architecture. Trying and making a
+/// change takes about as long as what it touches.
 pub struct CarriedSuites {
     pool: Pool,
     archs: u32,
@@ -172,7 +172,7 @@ impl Model for CarriedSuites {
 }
 
 impl CarriedSuites {
-    /// The suites of no row.
+    /// The suites without rows.
     pub fn new(alloc: Global, archs: u32) -> Result<CarriedSuites, NoMemory>
         ensures { IfOk result (λ s. s ≡ record { rows = []; stands = []; archs = archs }) }
     {
@@ -185,7 +185,7 @@ impl CarriedSuites {
         })
     }
 
-    /// The suites with more rows behind their own, none of which stands yet. It takes the time that these rows need.
+    /// The suites with more rows after their own, all absent at first. The time depends only on the new rows.
     pub fn with_rows(self, alloc: Global, more: &[LentRow]) -> Result<CarriedSuites, NoMemory>
         ensures { IfOk result (λ s. s ≡ record {
           rows = self.rows ++ lent more.now;
@@ -211,7 +211,7 @@ impl CarriedSuites {
         })
     }
 
-    /// The suites of rows that all stand.
+    /// The suites of rows that are all present.
     pub fn of(alloc: Global, archs: u32, rows: &[RowIn]) -> Result<CarriedSuites, NoMemory>
         requires { AreByKey rows.now }
         ensures archs { IfOk result (λ s. s.archs ≡ archs) }
@@ -227,21 +227,21 @@ impl CarriedSuites {
         suites.after(alloc, &change)
     }
 
-    /// How many rows may stand.
+    /// The number of rows of the pool.
     pub fn len(&self) -> usize
         ensures { result ≡ length self.now.rows }
     {
         self.pool.len()
     }
 
-    /// The rows that may stand.
+    /// The rows that may be present.
     pub fn pool(&self) -> &Pool
         ensures { result.now ≡ self.now.rows }
     {
         &self.pool
     }
 
-    /// Which rows stand, one flag for each.
+    /// Which rows are present, one flag for each.
     pub fn stands(&self) -> &[bool]
         ensures flags { result.now ≡ self.now.stands }
         ensures long { length self.now.stands ≡ length self.now.rows }
@@ -256,7 +256,7 @@ impl CarriedSuites {
         self.archs
     }
 
-    /// The rows that stand, by architecture and name. They are sorted.
+    /// The present rows, sorted by architecture and name.
     pub fn rows(&self, alloc: Global) -> Result<Vec<LentRow<'_>>, NoMemory>
         ensures { IfOk result (λ rows. lent rows.items ≡ with_rows (rows_at self.now.rows (set_places self.now.stands)) []) }
     {
@@ -264,7 +264,7 @@ impl CarriedSuites {
         rows_in_order(alloc, &self.pool, &places)
     }
 
-    /// Copies of the rows that stand, in the pool's order, if that is the one of architecture and name.
+    /// Copies of the present rows in the pool's order, if that is the order of architecture and name.
     fn copies_in_pool_order(&self, alloc: Global) -> Result<Option<Vec<RowIn>>, NoMemory>
         ensures copies { IfOk result (λ found. IfSome found (λ copies. SameElements (rows_at self.now.rows (set_places self.now.stands)) copies.items)) }
         ensures ordered { IfOk result (λ found. IfSome found (λ copies. AreByKey copies.items)) }
@@ -273,7 +273,7 @@ impl CarriedSuites {
         copies_by_key(alloc, &self.pool, &places)
     }
 
-    /// Copies of the rows that stand, by architecture and name.
+    /// Copies of the present rows, by architecture and name.
     pub fn copies(&self, alloc: Global) -> Result<Vec<RowIn>, NoMemory>
         ensures { IfOk result (λ copies. copies.items ≡ with_rows (rows_at self.now.rows (set_places self.now.stands)) []) }
     {
@@ -286,7 +286,7 @@ impl CarriedSuites {
         }
     }
 
-    /// None of the rows that come stands already.
+    /// None of the coming rows is present already.
     pub fn is_fresh(&self, change: &Change) -> bool
         requires { IsWithin self.now.rows change.now.leaving.items change.now.coming.items }
         ensures { result ≡ true → (k : ℕ) → has change.now.coming.items k ≡ true → marked self.now.stands k ≡ false }
@@ -307,7 +307,7 @@ impl CarriedSuites {
         lost_anywhere(alloc, self.archs, &self.pool, &mut self.suites, change)
     }
 
-    /// The suites once the change is made.
+    /// The suites after the change.
     pub fn after(self, alloc: Global, change: &Change) -> Result<CarriedSuites, NoMemory>
         requires { IsWithin self.rows change.now.leaving.items change.now.coming.items }
         ensures state { IfOk result (λ s. s ≡ record {

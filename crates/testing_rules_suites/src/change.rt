@@ -1,10 +1,10 @@
-//! Which rows come by a move, and which leave.
+//! The rows that come and leave when a group moves.
 
 ghost use Rattle.std.specs.Prelude.{◌<◌};
 
 use smallvec::SmallVec;
 
-/// Places of rows that leave, and of rows that come then. Mostly they are few, and stand in the value itself.
+/// Places of rows that leave, and of rows that come then. They are usually few, and are kept in the value itself.
 #[derive(Drop)]
 pub struct Change {
     pub leaving: SmallVec<usize, 4>,

@@ -1,4 +1,4 @@
-//! Rows that are lent, in the order of testing: a change moves places and copies no row.
+//! Borrowed rows, in the order of testing: a change moves places and copies no row.
 
 ghost use Rattle.std.specs.Prelude.{◌≡◌, ◌<◌, true, length, [], Err, OnOk, OnErr, IfOk, IfSome};
 ghost use Rattle.std.specs.List.{All};
@@ -33,7 +33,8 @@ fn is_behind(rows: &[LentRow], row: &LentRow) -> bool
     }
 }
 
-/// Where the rows have the key of the row, or else where it belongs. A row that belongs behind them is not searched for.
+/// The place of the row's key among the rows, or where it belongs. A row that belongs after all of them needs no
+/// search.
 fn place_of_key(rows: &[LentRow], row: &LentRow) -> Result<usize, usize>
     ensures bound { IsSearchInRange result (length (lent rows.now)) }
     ensures found { IsBinarySearchResult (λ r. rules.row_cmp (rules.row_key r) (rules.row_key (row_of row.now))) (lent rows.now) result }
@@ -48,7 +49,7 @@ fn place_of_key(rows: &[LentRow], row: &LentRow) -> Result<usize, usize>
     )
 }
 
-/// Puts a row under its key.
+/// Puts a row at its key.
 pub fn put_row<'a>(rows: &mut Vec<LentRow<'a>>, row: &LentRow<'a>) -> Result<(), NoMemory>
     requires { AreByKey (lent rows.old.items) }
     ensures ok { OnOk result (lent rows.new.items ≡ rules.put_row (row_of row.now) (lent rows.old.items)) }
@@ -62,7 +63,7 @@ pub fn put_row<'a>(rows: &mut Vec<LentRow<'a>>, row: &LentRow<'a>) -> Result<(),
     Ok(())
 }
 
-/// Puts in the rows of a pool at some places, each under its key.
+/// Puts in the rows of a pool at some places, each at its key.
 fn put_rows<'a>(
     rows: &mut Vec<LentRow<'a>>,
     pool: &'a Pool,
@@ -80,7 +81,7 @@ fn put_rows<'a>(
     Ok(())
 }
 
-/// The rows of a pool at some places, as the places stand.
+/// The rows of a pool at some places, in the order of the places.
 fn rows_at<'a>(
     alloc: Global,
     pool: &'a Pool,
@@ -107,8 +108,7 @@ fn is_above_last(rows: &[RowIn], row: &LentRow) -> bool
     }
 }
 
-/// Copies of the rows of a pool at some places, as the places stand, if the key of each is above that of the one before
-/// it.
+/// Copies of the rows of a pool at some places, in the order of the places, if each key is above the one before it.
 pub fn copies_by_key(
     alloc: Global,
     pool: &Pool,
@@ -140,7 +140,7 @@ pub fn copy_lent(alloc: Global, rows: &[LentRow]) -> Result<Vec<RowIn>, NoMemory
     Ok(copies)
 }
 
-/// Brings rows into the order of their keys. Stretches that are in order already are kept as they are, and merged.
+/// Orders rows by key. Stretches that are already in order are kept and merged.
 fn sort_rows(rows: &mut Vec<LentRow>) -> Result<(), NoMemory>
     ensures { SameElements (lent rows.old.items) (lent rows.new.items) }
 {
@@ -165,8 +165,8 @@ fn are_by_key(rows: &[LentRow]) -> bool
     true
 }
 
-/// The rows of a pool at some places, each put under its key: of those with one key the last. Rows of different keys
-/// are sorted, and only where two have one key are they put in one after the other. The one error is want of memory.
+/// The rows of a pool at some places, each put at its key: of those with the same key the last. Rows with different
+/// keys are sorted; only if two have the same key are they put in one by one. The only error is running out of memory.
 pub fn rows_in_order<'a>(
     alloc: Global,
     pool: &'a Pool,
@@ -185,7 +185,7 @@ pub fn rows_in_order<'a>(
     Ok(rows)
 }
 
-/// The rows, lent.
+/// The rows, borrowed.
 pub fn lend_rows(alloc: Global, rows: &[RowIn]) -> Result<Vec<LentRow<'_>>, NoMemory>
     ensures { IfOk result (λ loans. lent loans.items ≡ rows.now) }
 {

@@ -1,5 +1,4 @@
-//! Testing, the pool of rows that may stand in it, and the suites of the architectures over that pool, on which changes
-//! are tried.
+//! Testing, the pool of rows that may be in it, and the suites of the architectures over that pool, which try changes.
 #![tactic(auto)]
 
 mod arch_suite;

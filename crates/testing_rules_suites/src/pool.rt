@@ -1,4 +1,4 @@
-//! Rows that may stand in testing, by place.
+//! Rows that may be in testing, by place.
 
 ghost use Rattle.std.specs.Prelude.{◌≡◌, ℕ, ◌∷◌, ◌++◌, [], ◌<◌, true, length, Some, Contains, OnOk, IfOk};
 ghost use Rattle.std.specs.List.{All, slice_get};
@@ -16,7 +16,7 @@ use std::rc::Rc;
 use testing_install::{NameIndex, note_row};
 use testing_rules_model::{LentRow, RowIn};
 
-/// The rows, and their places by the source that they name, by the names that the package bears, and in the order of
+/// The rows, with their places by the source that they name, by the names that the package bears, and in the order of
 /// their keys.
 pub struct Pool {
     rows: Vec<RowIn>,
@@ -48,7 +48,7 @@ impl Model for Pool {
     ghost invariant = { λ p. IsOrderedPool p.rows.items p.by_source p.by_name p.order.items };
 }
 
-/// A row comes behind the others, and its place into both indexes.
+/// Adds a row at the end, and its place to both indexes.
 fn add_row(
     alloc: Global,
     rows: &mut Vec<RowIn>,
@@ -68,7 +68,7 @@ fn add_row(
 }
 
 impl Pool {
-    /// No row yet.
+    /// No rows yet.
     pub fn new(alloc: Global) -> Pool
         ensures { result ≡ [] }
     {
@@ -80,7 +80,7 @@ impl Pool {
         }
     }
 
-    /// The pool with more rows behind its own.
+    /// The pool with more rows after its own.
     pub fn with_rows(self, alloc: Global, more: &[LentRow]) -> Result<Pool, NoMemory>
         ensures { IfOk result (λ pool. pool ≡ self ++ lent more.now) }
     {
@@ -104,14 +104,14 @@ impl Pool {
         })
     }
 
-    /// How many rows there are.
+    /// The number of rows.
     pub fn len(&self) -> usize
         ensures { result ≡ length self.now }
     {
         self.rows.len()
     }
 
-    /// The places, in the order of the keys of their rows, as far as that is known.
+    /// The places in the order of their rows' keys, as far as that is known.
     pub fn order(&self) -> &[usize]
         ensures { HasPlaces (length self.now) result.now }
     {
@@ -134,7 +134,7 @@ impl Pool {
         self.rows[place].binary.package()
     }
 
-    /// The places of the rows that name the source, and of some others it may be.
+    /// The places of the rows that name the source, perhaps with others.
     pub fn of_source(&self, name: &str) -> &[usize]
         ensures within { All (λ k. k < length self.now) result.now }
         ensures complete { (k : ℕ) (r : ARow) → slice_get self.now k ≡ Some r → r.binary.source ≡ name.now → Contains result.now k }
@@ -142,8 +142,7 @@ impl Pool {
         self.by_source.places(name)
     }
 
-    /// The places of the rows whose package bears the name: it is its own, or one that it provides. Places of some others
-    /// may be among them.
+    /// The places of the rows whose package bears the name, its own or a provided one. They may include other places.
     pub fn of_name(&self, name: &str) -> &[usize]
         ensures within { All (λ k. k < length self.now) result.now }
         ensures complete { (k : ℕ) (r : ARow) → slice_get self.now k ≡ Some r → bears r.binary name.now ≡ true → Contains result.now k }

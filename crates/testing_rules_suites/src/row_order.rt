@@ -1,5 +1,5 @@
-//! A pool's places in the order of the keys of their rows. That they are in order is a hint, which saves the sorting of
-//! testing's rows: it is promised that each place is there, and whoever lists rows tests their order.
+//! A pool's places in the order of their rows' keys. The order is only a hint that saves sorting testing's rows: every
+//! place is guaranteed to be included, and whoever lists rows tests their order.
 
 ghost use Rattle.std.specs.Prelude.{◌≡◌, ◌≤◌, length, IfOk};
 ghost use Rattle.testing_rules_suites.specs.Pools.{HasPlaces};
@@ -18,7 +18,7 @@ pub fn order_rows(row: &RowIn, other: &RowIn) -> Ordering
     row.arch.cmp(&other.arch).then(names)
 }
 
-/// How many of the places come before the row, where they are in order.
+/// How many of the places come before the row, if they are in order.
 fn places_before(rows: &[RowIn], places: &[usize], row: &RowIn) -> usize
     ensures { result ≤ length places.now }
 {
@@ -34,7 +34,7 @@ fn places_before(rows: &[RowIn], places: &[usize], row: &RowIn) -> usize
     }
 }
 
-/// The places with those of further rows, each put in where it belongs.
+/// The places with those of more rows, each put where it belongs.
 pub fn merged(
     alloc: Global,
     rows: &[RowIn],

@@ -1,4 +1,4 @@
-//! Suites of which other rows shall stand: those of a testing before a run that changed its suites.
+//! Suites that get other present rows: those of a testing before a run that changed its suites.
 
 ghost use Rattle.std.specs.Prelude.{◌≡◌, ℕ, ◌<◌, ◌≤◌, ◌-◌, ◌++◌, ◌∷◌, [], true, false, List, filter, length, replicate, Some, OnOk, IfOk, IfSome};
 ghost use Rattle.std.specs.List.{All, range_with_len, slice_get};
@@ -17,15 +17,15 @@ use smallvec::SmallVec;
 use std::alloc::Global;
 use testing_rules_model::{LentRow, RowIn, is_row};
 
-/// Where a row was found in a pool, if it was, and at which of the places the search for the next row begins.
+/// Where a row was found in a pool, if it was, and the place from which to search for the next row.
 #[derive(Clone, Copy)]
 struct PoolMatch {
     place: Option<usize>,
     next: usize,
 }
 
-/// Looks for a row at places of the pool, from one of them on. Where the places are in the order of the keys of their rows,
-/// and no row of a lower key is looked for after it, a row is found that is there.
+/// Searches for a row at places of the pool, from one of them on. If the places are in the order of their rows' keys,
+/// and later searches are for higher keys, every row of the pool is found.
 fn look_for(pool: &Pool, places: &[usize], from: usize, row: &RowIn) -> PoolMatch
     requires { All (λ k. k < length pool.now) places.now }
     ensures { IfSome result.place (λ k. slice_get pool.now k ≡ Some row.now) }
@@ -50,7 +50,7 @@ fn look_for(pool: &Pool, places: &[usize], from: usize, row: &RowIn) -> PoolMatc
     }
 }
 
-/// One row more shall stand: at the place where the pool has it, or else it is lacking there.
+/// One more wanted row: its flag is set at its place in the pool, or else it is noted as missing there.
 fn want<'a>(
     flags: &mut Vec<bool>,
     lacking: &mut Vec<LentRow<'a>>,
@@ -70,7 +70,7 @@ fn want<'a>(
     }
 }
 
-/// Sets the flags of a pool's rows that shall stand, and gives those that it doesn't have.
+/// Sets the flags of a pool's wanted rows, and returns those that the pool hasn't.
 fn wanted<'a>(
     alloc: Global,
     pool: &Pool,
@@ -91,7 +91,7 @@ fn wanted<'a>(
     Ok(lacking)
 }
 
-/// So many flags, of which none is set.
+/// This many flags, none set.
 fn no_flags(alloc: Global, count: usize) -> Result<Vec<bool>, NoMemory>
     ensures { IfOk result (λ flags. flags.items ≡ replicate count false) }
 {
@@ -100,7 +100,7 @@ fn no_flags(alloc: Global, count: usize) -> Result<Vec<bool>, NoMemory>
     Ok(flags)
 }
 
-/// Flags that are set come behind the others, up to so many.
+/// Adds set flags after the others, up to this many.
 fn raise_more(flags: &mut Vec<bool>, count: usize) -> Result<(), NoMemory>
     requires { length flags.old.items ≤ count }
     ensures { OnOk result (flags.new.items ≡ flags.old.items ++ replicate (count - length flags.old.items) true) }
@@ -118,7 +118,7 @@ fn is_alone(flags: &[bool], others: &[bool], place: usize) -> bool
     flags[place] && !others[place]
 }
 
-/// The places where a flag of the first ones is set, and that of the others isn't.
+/// The places whose flag is set in the first list, and not in the second.
 fn set_alone(alloc: Global, flags: &[bool], others: &[bool]) -> Result<SmallVec<usize, 4>, NoMemory>
     requires { length flags.now ≡ length others.now }
     ensures { IfOk result (λ places. places.items ≡ filter (is_alone flags.now others.now) (range_with_len 0 (length flags.now))) }
@@ -132,7 +132,7 @@ fn set_alone(alloc: Global, flags: &[bool], others: &[bool]) -> Result<SmallVec<
     Ok(places)
 }
 
-/// The suites once those rows stand whose flags are set, and no others.
+/// The suites after exactly the rows with their flags set are present.
 fn with_flags(
     alloc: Global,
     suites: CarriedSuites,
@@ -147,8 +147,8 @@ fn with_flags(
     suites.after(alloc, &change)
 }
 
-/// Suites of which these rows stand, and no others, made of such ones of which others may stand: in time about what differs,
-/// beside a look at each row. Their pool keeps its rows; those that it doesn't have come behind them.
+/// Suites with exactly these rows present, from suites with others: apart from a look at each row, the time depends on
+/// what differs. The pool keeps its rows; missing ones are added at the end.
 pub fn over_rows(
     alloc: Global,
     suites: CarriedSuites,

@@ -36,9 +36,9 @@ impl Model for SuiteEntries {
     ghost invariant = { λ a. IsInOrder a.sources.items a.rows.items };
 }
 
-/// The sources by name, and the rows by architecture and name. Copies share them; one that is changed while it shares
-/// them gets its own first. The empty suite holds none. Beside them stand the suites that a run left for the next one:
-/// they cost time and no word of a contract, copies don't have them, and a change of testing drops them.
+/// The sources by name, and the rows by architecture and name. Copies share them; if a changed one shares them, it
+/// first gets its own. The empty suite has none. Next to them are the suites that a run left for the next one: they
+/// save time but have no part in contracts, copies don't have them, and a change of testing drops them.
 pub struct Testing {
     alloc: Global,
     entries: Option<Rc<SuiteEntries>>,
@@ -66,7 +66,7 @@ impl Model for Testing {
     ghost invariant = { λ a. AreCarriedOver a.kept (suite_of a.entries).rows };
 }
 
-/// Where the sources have the name, or else where it belongs.
+/// The place of the name among the sources, or where it belongs.
 pub fn place_of_name(sources: &[SourceIn], name: &str) -> Result<usize, usize>
     ensures bound { IsSearchInRange result (length sources.now) }
     ensures found { IsBinarySearchResult (λ s. byte_cmp s.name name.now) sources.now result }
@@ -78,7 +78,7 @@ pub fn place_of_name(sources: &[SourceIn], name: &str) -> Result<usize, usize>
     )
 }
 
-/// Where a source belongs: at the entry of its name, or before the first one above it.
+/// Where a source belongs: at the entry with its name, or before the first one above it.
 fn place_of_source(sources: &[SourceIn], source: &SourceIn) -> Result<usize, usize>
     requires { AreByName sources.now }
     ensures { IsPlaceFor sources.now source.now (moves.put_source source.now sources.now) result }
@@ -86,7 +86,7 @@ fn place_of_source(sources: &[SourceIn], source: &SourceIn) -> Result<usize, usi
     place_of_name(sources, source.name.as_str())
 }
 
-/// Where the rows have the key of the row, or else where it belongs.
+/// The place of the row's key among the rows, or where it belongs.
 fn place_of_key(rows: &[RowIn], row: &RowIn) -> Result<usize, usize>
     ensures bound { IsSearchInRange result (length rows.now) }
     ensures found { IsBinarySearchResult (λ r. moves.row_cmp (moves.row_key r) (moves.row_key row.now)) rows.now result }
@@ -98,7 +98,7 @@ fn place_of_key(rows: &[RowIn], row: &RowIn) -> Result<usize, usize>
     )
 }
 
-/// Where a row belongs: at the entry of its key, or before the first one above it.
+/// Where a row belongs: at the entry with its key, or before the first one above it.
 fn place_of_row(rows: &[RowIn], row: &RowIn) -> Result<usize, usize>
     requires { AreByKey rows.now }
     ensures { IsPlaceFor rows.now row.now (moves.put_row row.now rows.now) result }
@@ -106,7 +106,7 @@ fn place_of_row(rows: &[RowIn], row: &RowIn) -> Result<usize, usize>
     place_of_key(rows, row)
 }
 
-/// Puts a source under its name.
+/// Puts a source at its name.
 fn put_source(sources: &mut Vec<SourceIn>, source: SourceIn) -> Result<(), AllocError>
     requires { AreByName sources.old.items }
     ensures ok { OnOk result (sources.new.items ≡ moves.put_source source sources.old.items) }
@@ -119,7 +119,7 @@ fn put_source(sources: &mut Vec<SourceIn>, source: SourceIn) -> Result<(), Alloc
     Ok(())
 }
 
-/// Puts a row under its key.
+/// Puts a row at its key.
 fn put_row(rows: &mut Vec<RowIn>, row: RowIn) -> Result<(), AllocError>
     requires { AreByKey rows.old.items }
     ensures ok { OnOk result (rows.new.items ≡ moves.put_row row rows.old.items) }
@@ -153,7 +153,7 @@ fn copy_rows(alloc: Global, rows: &[RowIn]) -> Result<Vec<RowIn>, NoMemory>
 }
 
 impl SuiteEntries {
-    /// No entry.
+    /// No entries.
     fn new(alloc: Global) -> SuiteEntries
         ensures { result ≡ record { sources = []; rows = [] } }
     {
@@ -177,7 +177,7 @@ impl SuiteEntries {
         self.rows.as_slice()
     }
 
-    /// Puts a source under its name, and the rest stays.
+    /// Puts a source at its name; the rest is unchanged.
     fn set_source(&mut self, source: SourceIn) -> Result<(), NoMemory>
         ensures ok { OnOk result (self.new ≡ record { sources = moves.put_source source self.old.sources; rows = self.old.rows }) }
         ensures err { OnErr result (self.new ≡ self.old) }
@@ -185,7 +185,7 @@ impl SuiteEntries {
         Ok(put_source(&mut self.sources, source)?)
     }
 
-    /// Puts a row under its architecture and name, and the rest stays.
+    /// Puts a row at its architecture and name; the rest is unchanged.
     fn set_row(&mut self, row: RowIn) -> Result<(), NoMemory>
         ensures ok { OnOk result (self.new ≡ record { sources = self.old.sources; rows = moves.put_row row self.old.rows }) }
         ensures err { OnErr result (self.new ≡ self.old) }
@@ -203,7 +203,7 @@ impl SuiteEntries {
     }
 }
 
-/// Entries with a source alone.
+/// Entries with one source.
 fn first_source(alloc: Global, source: SourceIn) -> Result<Rc<SuiteEntries>, NoMemory>
     ensures { IfOk result (λ entries. entries.value ≡ record { sources = moves.put_source source []; rows = [] }) }
 {
@@ -213,7 +213,7 @@ fn first_source(alloc: Global, source: SourceIn) -> Result<Rc<SuiteEntries>, NoM
     Ok(shared)
 }
 
-/// Entries with a row alone.
+/// Entries with one row.
 fn first_row(alloc: Global, row: RowIn) -> Result<Rc<SuiteEntries>, NoMemory>
     ensures { IfOk result (λ entries. entries.value ≡ record { sources = []; rows = moves.put_row row [] }) }
 {
@@ -223,7 +223,7 @@ fn first_row(alloc: Global, row: RowIn) -> Result<Rc<SuiteEntries>, NoMemory>
     Ok(shared)
 }
 
-/// Puts a source under its name, into a copy of the entries where others share them.
+/// Puts a source at its name, in a copy of the entries if others share them.
 fn put_shared_source(
     alloc: Global,
     entries: &mut Rc<SuiteEntries>,
@@ -243,7 +243,7 @@ fn put_shared_source(
     }
 }
 
-/// Puts a row under its architecture and name, into a copy of the entries where others share them.
+/// Puts a row at its architecture and name, in a copy of the entries if others share them.
 fn put_shared_row(alloc: Global, entries: &mut Rc<SuiteEntries>, row: RowIn) -> Result<(), NoMemory>
     ensures ok { OnOk result (entries.new.value ≡ record { sources = entries.old.value.sources; rows = moves.put_row row entries.old.value.rows }) }
     ensures err { OnErr result (entries.new.value ≡ entries.old.value) }
@@ -268,7 +268,7 @@ impl HasSources for Testing {
 }
 
 impl Testing {
-    /// The suite of these entries, which are in order, and the suites that are kept of its rows.
+    /// The suite of these entries, which are in order, and the kept suites of its rows.
     pub fn of(
         alloc: Global,
         sources: Vec<SourceIn>,
@@ -288,7 +288,7 @@ impl Testing {
         })
     }
 
-    /// The suites that are kept of its rows, which it gives up.
+    /// The kept suites of its rows, which it gives up.
     pub fn take_kept(&mut self) -> Option<CarriedSuites>
         ensures same { self.new ≡ self.old }
         ensures kept { AreCarriedOver result self.old.rows }
@@ -296,8 +296,8 @@ impl Testing {
         self.kept.take()
     }
 
-    /// Keeps suites of its rows, made of these, of which other rows may stand: those that it had before a run, of the ones
-    /// that the run left. NoMemory where memory runs out.
+    /// Keeps suites of its rows, made from suites with other rows present: from the ones that the run left, those
+    /// before it. NoMemory if memory runs out.
     pub fn keep_suites(&mut self, suites: CarriedSuites) -> Result<(), NoMemory>
         ensures { self.new ≡ self.old }
     {
@@ -328,8 +328,8 @@ impl Testing {
         }
     }
 
-    /// The rows by place of the architecture, with `all` last, and then in byte order of their
-    /// names, each pair once.
+    /// The rows by the place of the architecture, with `all` last, and then in byte order of their names, each pair
+    /// once.
     pub fn rows(&self) -> &[RowIn]
         ensures entries { result.now ≡ self.now.rows }
         ensures ordered { AreByKey result.now }
@@ -340,7 +340,7 @@ impl Testing {
         }
     }
 
-    /// Puts a source under its name, and the rest stays.
+    /// Puts a source at its name; the rest is unchanged.
     pub fn set_source(&mut self, source: SourceIn) -> Result<(), NoMemory>
         ensures ok { OnOk result (self.new ≡ record { sources = moves.put_source source self.old.sources; rows = self.old.rows }) }
         ensures err { OnErr result (self.new ≡ self.old) }
@@ -355,7 +355,7 @@ impl Testing {
         }
     }
 
-    /// Puts a row under its architecture and name, and the rest stays.
+    /// Puts a row at its architecture and name; the rest is unchanged.
     pub fn set_row(&mut self, row: RowIn) -> Result<(), NoMemory>
         ensures ok { OnOk result (self.new ≡ record { sources = self.old.sources; rows = moves.put_row row self.old.rows }) }
         ensures err { OnErr result (self.new ≡ self.old) }
@@ -370,7 +370,7 @@ impl Testing {
         }
     }
 
-    /// An equal suite, which shares the entries.
+    /// An equal suite that shares the entries.
     pub fn copy(&self) -> Result<Testing, NoMemory>
         ensures { IfOk result (λ t. t ≡ self.now) }
     {
@@ -385,7 +385,7 @@ impl Testing {
         })
     }
 
-    /// An equal suite for the next run, which shares the entries: the suites that the run before left go with it.
+    /// An equal suite for the next run that shares the entries, and takes the suites that the previous run left.
     pub fn share(&mut self) -> Result<Testing, NoMemory>
         ensures same { self.new ≡ self.old }
         ensures shared { IfOk result (λ t. t ≡ self.old) }

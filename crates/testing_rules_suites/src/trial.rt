@@ -1,4 +1,4 @@
-//! Changes that are tried: the first watched row that one would lose.
+//! Tried changes: the first watched row that a change would lose.
 
 ghost use Rattle.std.specs.Prelude.{◌≡◌, ◌<◌, ℕ, Bool, List, Option, Some, length, IfOk, option_copied};
 ghost use Rattle.std.specs.List.{All, slice_get};
@@ -31,8 +31,8 @@ fn first_watched<'a>(arch: u32, pool: &'a Pool, places: &[usize]) -> Option<&'a 
     first
 }
 
-/// The name of the first watched row, in byte order, that the architecture would lose by the change. The suite has the
-/// pool's rows that are on the architecture, and stays as it is.
+/// The first name in byte order of a watched row that the architecture would lose by the change. The suite has the
+/// pool's rows on the architecture, and is unchanged.
 fn first_lost<'a>(
     alloc: Global,
     arch: u32,
@@ -50,7 +50,7 @@ fn first_lost<'a>(
     Ok(first_watched(arch, pool, &lost))
 }
 
-/// The name of the first watched row, in byte order, that the architecture would lose by the change.
+/// The first name in byte order of a watched row that the architecture would lose by the change.
 fn lost_on<'a>(
     alloc: Global,
     arch: u32,

@@ -1,4 +1,4 @@
-//! Which rows are watched on an architecture, and which of two names comes first.
+//! Which rows an architecture watches, and which of two names comes first.
 
 ghost use Rattle.std.specs.Prelude.{◌≡◌, ◌==◌};
 ghost use Rattle.testing_rules_model.specs.Moves as moves;
@@ -16,7 +16,7 @@ pub fn is_watched_on(arch: u32, row: &LentRow) -> bool
     row.arch == arch || (row.arch == ALL && arch == 0)
 }
 
-/// The first of two names in byte order, the old one where they are equal.
+/// The first of two names in byte order, the old one if they are equal.
 pub fn first_of_two<'a>(first: Option<&'a str>, name: &'a str) -> &'a str
     ensures { result.now ≡ first_of_two byte_cmp (option_copied first.entry) name.now }
 {

@@ -13,8 +13,8 @@ use testing_rules::{
     update_text,
 };
 
-/// What the steps of a row go on from: the mail so far and its facts, testing, how many runs are finished, and what they
-/// said. The rows of the facts are kept where these are made anew behind each run.
+/// The state before a step: the mail so far and its facts, testing, how many runs are finished, and what they said. The
+/// rows of the facts are kept if these are rebuilt after each run.
 #[derive(Drop)]
 struct Desk {
     mail: Vec<Message>,
@@ -39,7 +39,7 @@ impl Desk {
     }
 }
 
-/// What the steps of a row say, over facts that go on or over facts that are made anew.
+/// What the steps of a row say, over facts that continue or over facts that are rebuilt.
 pub fn told(alloc: Global, setup: &Setup, row: &str, is_anew: bool) -> Result<String, Fault> {
     let mut desk = Desk::new(alloc, is_anew);
     take_steps(alloc, setup, &mut desk, row)?;
@@ -86,8 +86,8 @@ fn take_mail(alloc: Global, setup: &Setup, desk: &mut Desk, text: &str) -> Resul
     Ok(())
 }
 
-/// The facts take the mail from a place on. Facts that go on take it in order, and then all mail so far again, the last
-/// one first. Facts that are made anew take the new mail alone, the last one first.
+/// The facts take the mail from a place on. Facts that continue take it in order, and then all mail so far again, the
+/// last one first. Facts that are rebuilt take only the new mail, the last one first.
 fn take_news(desk: &mut Desk, known: usize) -> Result<(), NoMemory> {
     let news = desk.mail.get(known..).unwrap_or(&[]);
     if desk.rows.is_some() {
@@ -97,7 +97,7 @@ fn take_news(desk: &mut Desk, known: usize) -> Result<(), NoMemory> {
     take_back(&mut desk.facts, &desk.mail)
 }
 
-/// Testing is put together from rows. Facts that are made anew go on beside its copy.
+/// Builds testing from rows. Facts that are rebuilt continue over its copy.
 fn give(alloc: Global, setup: &Setup, desk: &mut Desk, text: &str) -> Result<(), Fault> {
     put_given(alloc, setup, &desk.mail, &mut desk.testing, text)?;
     if desk.rows.is_some() {
@@ -107,7 +107,7 @@ fn give(alloc: Global, setup: &Setup, desk: &mut Desk, text: &str) -> Result<(),
     Ok(())
 }
 
-/// A run. Where facts are kept as rows, they are made anew behind it.
+/// A run. If facts are kept as rows, they are rebuilt after it.
 fn run(alloc: Global, archs: &Archs, desk: &mut Desk, day: &str) -> Result<(), Fault> {
     let Ok(date) = day.parse::<Date>() else {
         return Err(Fault::Wrong("no such day"));
@@ -120,7 +120,7 @@ fn run(alloc: Global, archs: &Archs, desk: &mut Desk, day: &str) -> Result<(), F
     run_anew(alloc, archs, desk, date, &before)
 }
 
-/// A run, behind which the facts are kept beside its testing, and made anew from their rows.
+/// A run, after which the facts are kept with its testing, and rebuilt from their rows.
 fn run_anew(
     alloc: Global,
     archs: &Archs,
@@ -177,7 +177,7 @@ fn say_testing(alloc: Global, archs: &Archs, desk: &mut Desk) -> Result<(), NoMe
     )
 }
 
-/// A text comes behind what was said.
+/// Appends a text to what was said.
 fn say(said: &mut String, text: String) -> Result<(), NoMemory> {
     said.push_str(text.as_str())?;
     Ok(())

@@ -1,4 +1,4 @@
-//! A testing that is put together row by row.
+//! A testing built row by row.
 
 use crate::rules::fault::Fault;
 use crate::rules::mail::item_of;
@@ -55,7 +55,7 @@ fn place_of(setup: &Setup, name: &str) -> Option<u32> {
     None
 }
 
-/// The binaries of an item: none where it is no build.
+/// The binaries of an item: none if it is no build.
 fn binaries_in(item: &Item) -> &[Binary] {
     match item {
         Item::Build(binaries) => binaries.as_slice(),

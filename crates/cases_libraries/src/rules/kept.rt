@@ -1,4 +1,4 @@
-//! Facts that are kept from run to run as rows alone, each of which names the message that gives it.
+//! Facts that are kept from run to run only as rows, each naming the message that gives it.
 
 use crate::rules::fault::Fault;
 use crate::rules::mail::{item_of, take};
@@ -36,7 +36,7 @@ fn retake(facts: &mut Facts, mail: &[Message], names: &[Text]) -> Result<(), NoM
     Ok(())
 }
 
-/// The facts take all uploads of the sources again that testing lost, or holds in a lower version now.
+/// The facts take all uploads of the sources again that testing lost, or holds in a lower version then.
 fn retake_fallen(
     alloc: Global,
     mail: &[Message],
@@ -58,7 +58,7 @@ fn has_row(rows: &[FactRow], row: FactRow) -> bool {
     false
 }
 
-/// A row leaves, which has to be there.
+/// Removes a row, which must exist.
 fn take_out(rows: &mut Vec<FactRow>, row: FactRow) -> Result<(), Fault> {
     if !has_row(rows, row) {
         return Err(Fault::Wrong("a row of facts that left wasn't there"));
@@ -67,7 +67,7 @@ fn take_out(rows: &mut Vec<FactRow>, row: FactRow) -> Result<(), Fault> {
     Ok(())
 }
 
-/// A row comes, which mustn't be there.
+/// Adds a row, which mustn't exist.
 fn put_in(rows: &mut Vec<FactRow>, row: FactRow) -> Result<(), Fault> {
     if has_row(rows, row) {
         return Err(Fault::Wrong("a row of facts that came was there"));
@@ -76,7 +76,7 @@ fn put_in(rows: &mut Vec<FactRow>, row: FactRow) -> Result<(), Fault> {
     Ok(())
 }
 
-/// The rows that are gone leave, and those that are put come.
+/// Removes the rows that are gone, and adds those that are put.
 fn change(rows: &mut Vec<FactRow>, changes: &FactChanges) -> Result<(), Fault> {
     for row in changes.gone.as_slice() {
         take_out(rows, *row)?;
@@ -110,7 +110,7 @@ fn change_by(facts: &Facts, rows: &mut Vec<FactRow>) -> Result<(), Fault> {
     change(rows, &changes)
 }
 
-/// The rows change as the facts did beside a run's testing, and the facts are made anew from them.
+/// The rows change like the facts did with a run's testing, and the facts are rebuilt from them.
 pub fn keep(
     alloc: Global,
     mail: &[Message],

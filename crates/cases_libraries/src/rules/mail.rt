@@ -6,7 +6,7 @@ use office_mail::{Body, MailFault, Message, Setup, read_message};
 use std::alloc::Global;
 use testing_rules::{Facts, Item};
 
-/// The messages of these lines, which a line `--` parts, come behind those that are there.
+/// Appends the messages of these lines, which a line `--` separates.
 pub fn read_mail(
     alloc: Global,
     setup: &Setup,
@@ -28,7 +28,7 @@ fn message_of(alloc: Global, setup: &Setup, text: &str) -> Result<Message, Fault
     }
 }
 
-/// What a message says, where it is no order to run.
+/// What a message says, unless it is an order to run.
 fn item_in(message: &Message) -> Option<&Item> {
     match &message.body {
         Body::Item(item) => Some(item),
