@@ -1,4 +1,5 @@
--- Steps of the merge: where an item belongs in a list in order.
+-- Steps: no contract of a call that users make rests on this file.
+-- Where an item belongs in a list in order.
 use Rattle.std.specs.Prelude.{◌≡◌, ℕ, ◌≤◌, ◌<◌, List, length, slice_index_or}
 use Rattle.std.specs.declared.cmp.Ordering.TheVariants.{Less}
 use Rattle.archive_plan.specs.declared.items.Item.{Item}
