@@ -1,4 +1,3 @@
--- Steps: no contract of a call that users make rests on this file.
 -- What an office knows of the facts of its mail from one run to the next.
 use Rattle.std.specs.Prelude.{◌≡◌, ℕ, ◌<◌, ◌≤◌, [], length, slice_index, IsSome}
 use Rattle.std.specs.List.{filter_map}
