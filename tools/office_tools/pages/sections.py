@@ -5,24 +5,8 @@ from typing import Any, Iterator, Mapping, Sequence
 import jinja2
 
 from office_tools.pages.parts import parts_of, RowText
+from office_tools.pages.rows import Cell, Column, table_row
 from office_tools.pages.told import Line, Piece
-
-Cell = Sequence[Line]
-
-
-@dataclass(frozen=True)
-class Drawn(Piece):
-    """A piece with a small picture before it, as SVG."""
-
-    drawn: str = ""
-
-
-@dataclass(frozen=True)
-class Column:
-    """A column of a table: its title, and whether it has numbers."""
-
-    title: str
-    is_number: bool = False
 
 
 @dataclass(frozen=True)
@@ -72,10 +56,9 @@ def cell(*parts: object) -> Cell:
 def written(templates: jinja2.Environment, page: SectionPage) -> Iterator[tuple[str, bytes]]:
     """The files of a page. All rows but those of its last table are on its first one."""
     template = templates.get_template("sections.html")
-    row: Any = templates.get_template("tables.html").module
     tables = [table for section in page.sections for table in section.table]
     last = tables[-1] if tables else None
-    texts = [RowText("".join(piece.text for piece in cells[0][0].pieces), str(row.table_row(last.columns, cells)))
+    texts = [RowText("".join(piece.text for piece in cells[0][0].pieces), table_row(last.columns, cells))
              for cells in last.rows] if last else []
     folder, _, name = page.name.rpartition("/")
     for link, parts, shown in parts_of(name, texts):

@@ -14,8 +14,9 @@ from dataclasses import dataclass
 from typing import Any, Collection, Iterable, Iterator, Mapping, Optional, Sequence
 
 import jinja2
+from markupsafe import Markup
 
-from office_tools.pages import hints, mending, names, verdicts, views
+from office_tools.pages import hints, mending, names, rows, verdicts, views
 from office_tools.pages.excuses_json import excuses_json
 from office_tools.pages.fetching import Newest, read_run
 from office_tools.pages.change_pages import Feeds
@@ -23,7 +24,7 @@ from office_tools.pages.day_pages import glance
 from office_tools.pages.kept_mail import KeptMail
 from office_tools.pages.more_pages import Extras, More
 from office_tools.pages.outcomes import counted, reason_words
-from office_tools.pages.parts import parts_of, row_texts
+from office_tools.pages.parts import parts_of, RowText
 from office_tools.pages.patterns import Patterns
 from office_tools.pages.sections import SectionPage, written
 from office_tools.pages.sentences import LIST_TITLES, REASON_TITLES
@@ -54,26 +55,6 @@ class Hint:
     outcome: Line
 
 
-@dataclass(frozen=True)
-class InTesting:
-    """A source in testing: its version, and its packages."""
-
-    name: str
-    version: str
-    binaries: Sequence[str]
-
-
-@dataclass(frozen=True)
-class Moved:
-    """A source that moved or waits in a run: its version before and behind."""
-
-    name: str
-    before: str
-    version: str
-    word: str
-    told: str
-
-
 class Site:
     """The folder of the pages."""
 
@@ -82,7 +63,10 @@ class Site:
         self.templates = jinja2.Environment(
             loader=jinja2.FileSystemLoader(os.path.join(HERE, "templates")), autoescape=True, trim_blocks=True,
             lstrip_blocks=True, auto_reload=False, keep_trailing_newline=True, undefined=jinja2.StrictUndefined)
-        self.rows: Any = self.templates.get_template("rows.html").module
+        self.templates.globals |= {"link": rows.shown(rows.piece_text), "pieces": rows.shown(rows.line_text),
+                                   "verdict": rows.shown(rows.verdict), "table_row": rows.shown(rows.table_row)}
+        self.menus = {up: self.menu(up) for up in ("", "../")}
+        self.templates.globals["menus"] = self.menus
         self.look = digest_of([repr(self.patterns), self.extras.address, *map(repr, own_files())])
         self.facts: Optional[views.Facts] = None
         self.digests = state.digests()
@@ -176,6 +160,10 @@ class Site:
         """Moves a file that was written into its place."""
         os.replace(os.path.join(self.beside, path), os.path.join(self.folder, path))
 
+    def menu(self, up: str) -> Markup:
+        """The menu of a page, which is the same for all pages of a folder."""
+        return Markup(self.templates.get_template("menu.html").render(up=up))
+
     def page(self, template: str, values: Mapping[str, Any]) -> bytes:
         """The bytes of a page."""
         return self.templates.get_template(template).render(values).encode()
@@ -197,7 +185,7 @@ class Site:
             if not self.is_there(path, digest):
                 events = self.state.events(name)
                 history = views.history_of(facts, events)
-                self.put(path, self.page("source_more.html", {"source": source, "history": history, "up": "../"}))
+                self.put(path, self.page("source.html", {"source": source, "history": history, "up": "../"}))
                 if source.has_feed:
                     self.put(f"source/{name}.xml", feeds.of_source(name, events))
             self.digests_now[path] = digest
@@ -228,19 +216,19 @@ class Site:
         counts = counted(map(reason_words, read.excuses.excuses))
         values = {**values, "run": run, "hints": hints_of(facts, read), "up": "../",
                   "counts": [(word, REASON_TITLES[word], count) for word, count in counts.items()]}
-        rows = row_texts(moved_in(read), lambda row: row.name, self.rows.moved)
-        for link, parts, shown in parts_of(str(run.number), rows):
+        for link, parts, shown in parts_of(str(run.number), [
+                RowText(row.name, rows.moved_row(row)) for row in moved_in(read)]):
             self.put(f"run/{link}", self.page("run.html", {
                 **values, "rows": shown, "list": parts, "is_first": parts[0].is_here}))
 
     def write_testing(self, facts: views.Facts) -> None:
         """What is in testing."""
         sources = facts.testing.sources if facts.testing else {}
-        rows = row_texts([InTesting(name, version, facts.binaries.get(name, ())) for name, version in sources.items()],
-                         lambda row: row.name, self.rows.standing)
-        for link, parts, shown in parts_of("testing", rows):
+        for link, parts, shown in parts_of("testing", [
+                RowText(name, rows.testing_row(name, version, facts.binaries.get(name, ())))
+                for name, version in sources.items()]):
             self.put(link, self.page("testing.html", {
-                "run": facts.newest.kept.run, "rows": shown, "list": parts, "number": len(rows), "up": "",
+                "run": facts.newest.kept.run, "rows": shown, "list": parts, "number": len(sources), "up": "",
                 "is_known": facts.testing is not None}))
 
     def write_more(self, pages: Iterable[SectionPage], files: Iterable[tuple[str, bytes]]) -> None:
@@ -271,16 +259,16 @@ class Site:
         values = {"letters": letters.items(), "number": len(found), "up": ""}
         self.put("names.html", self.page("names.html", {**values, "here": "", "rows": (), "list": ()}))
         for letter, some in lists.items():
-            rows = row_texts(some, lambda row: row.name, self.rows.name)
-            for link, parts, shown in parts_of(f"names-{letter}", rows):
+            for link, parts, shown in parts_of(f"names-{letter}", [
+                    RowText(one.name, rows.name_item(one)) for one in some]):
                 self.put(link, self.page("names.html", {**values, "here": letter, "rows": shown, "list": parts}))
 
     def write_lists(self, facts: views.Facts) -> None:
         """The sources that don't move, all of them and by each reason, outcome and verdict, and last the first page."""
-        rows = views.rows_of(facts)
-        texts = {row.name: row for row in row_texts(rows, lambda row: row.name, self.rows.excuse)}
-        some = {word: [row for row in rows if word in row.words] for word in LIST_TITLES}
-        some[""] = [row for row in rows if verdicts.GONE not in row.words]
+        unmoved = views.rows_of(facts)
+        texts = {row.name: RowText(row.name, rows.excuse_row(row)) for row in unmoved}
+        some = {word: [row for row in unmoved if word in row.words] for word in LIST_TITLES}
+        some[""] = [row for row in unmoved if verdicts.GONE not in row.words]
         counts = {word: Count(list_link(word), LIST_TITLES.get(word, "all"), len(some[word]))
                   for word in ("", *LIST_TITLES)}
         for word, of_word in some.items():
@@ -297,7 +285,7 @@ class Site:
         links = facts.links("source/")
         run, found = facts.newest.kept.run, mending.mending_of(facts, links)
         is_asked = found.ranked or found.grouped
-        self.put("index.html", self.page("front_more.html", {
+        self.put("index.html", self.page("front.html", {
             "glance": glance(facts),
             "run": run, "counts": counts, "moved": run.excuses - counts[""].number - counts[verdicts.GONE].number,
             "fetched": facts.newest.kept.fetched, "refused": facts.refusals, "reasons": REASON_TITLES,
@@ -336,7 +324,7 @@ def hints_of(facts: views.Facts, read: Newest) -> Sequence[Hint]:
     return found
 
 
-def moved_in(read: Newest) -> Sequence[Moved]:
+def moved_in(read: Newest) -> Sequence[rows.Moved]:
     """The sources that moved in a run, by name, and behind them those that wait."""
     before = {excuse.source: excuse.testing or "" for excuse in read.excuses.excuses}
     found = []
@@ -344,7 +332,7 @@ def moved_in(read: Newest) -> Sequence[Moved]:
         if change.outcome in (Outcome.ACCEPTED, Outcome.WAITS) and change.word is not Word.REMOVE:
             word = "wait" if change.word is Word.WAIT else "accept"
             told = views.moved_sentence(change)
-            found += [Moved(item.source, before.get(item.source, ""), item.version, word, told)
+            found += [rows.Moved(item.source, before.get(item.source, ""), item.version, word, told)
                       for item in change.items]
     return sorted(found, key=lambda row: (row.word, row.name))
 

@@ -9,10 +9,11 @@ from office_tools.reports import Change
 
 @dataclass(frozen=True)
 class Piece:
-    """A part of a line: its text, and where it leads; empty where it leads nowhere."""
+    """A part of a line: its text, where it leads, if it does, and a small picture before it as SVG, if it has one."""
 
     text: str
     link: str = ""
+    drawn: str = ""
 
 
 @dataclass(frozen=True)

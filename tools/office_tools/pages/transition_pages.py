@@ -5,7 +5,7 @@ from typing import Iterator, Sequence
 from office_tools.pages import plots, views
 from office_tools.pages.kept_mail import KeptMail
 from office_tools.pages.outcomes import NOTHING, What
-from office_tools.pages.sections import Cell, cell, Column, Drawn, line, Section, SectionPage, Table
+from office_tools.pages.sections import Cell, cell, Column, line, Section, SectionPage, Table
 from office_tools.pages.state import State
 from office_tools.pages.told import Line, Links, Piece
 from office_tools.pages.transitions import (GONE, MISSING, NEITHER, NEW, OLD, Reader, suite_of_testing,
@@ -61,7 +61,7 @@ def progress(one: Transition) -> Piece:
     """A bar with its numbers."""
     number, done, moved = len(one.users), one.done, one.moved
     told = f"{done} of {number}"
-    return Drawn(told, "", plots.bar(f"{told} done, {moved} of them in testing", (
+    return Piece(told, "", plots.bar(f"{told} done, {moved} of them in testing", (
         ("bar-moved", moved), ("bar-done", done - moved), ("bar-left", number - done))))
 
 
