@@ -378,7 +378,7 @@ def read_unstable(text: str, name: str = "unstable") -> Unstable:
 
 def read_sources(lines: Lines) -> Mapping[str, str]:
     """The sources that come next, with their versions."""
-    return dict(lines.all_next("source ", SOURCE_FORM))
+    return {name: version for name, version in lines.all_next("source ", SOURCE_FORM)}
 
 
 def read_rows(lines: Lines) -> Sequence[Row]:

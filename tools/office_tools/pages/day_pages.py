@@ -5,7 +5,8 @@ from typing import Iterator, Mapping, Sequence
 
 from office_tools.pages import plots, views
 from office_tools.pages.outcomes import NOTHING, What
-from office_tools.pages.sections import cell, Column, line, Section, SectionPage, Table
+from office_tools.pages.rows import Column
+from office_tools.pages.sections import cell, line, Section, SectionPage, Table
 from office_tools.pages.sentences import old_enough
 from office_tools.pages.told import Line, Links, Piece
 from office_tools.reports import Excuse, ReasonKind

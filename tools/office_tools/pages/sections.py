@@ -1,6 +1,6 @@
 """Pages of sections: each has sentences, a picture or a table. One template prints all of them."""
 from dataclasses import dataclass, field, replace
-from typing import Any, Iterator, Mapping, Sequence
+from typing import Any, Callable, Iterable, Iterator, Mapping, Sequence
 
 import jinja2
 
@@ -41,6 +41,16 @@ class SectionPage:
     sections: Sequence[Section]
     feed: str = ""
     extra: Mapping[str, Any] = field(default_factory=dict)
+
+
+@dataclass(frozen=True)
+class Kept:
+    """Files that are made only if what they show changed: the path of the first one, texts by which that is known, and
+    what makes them."""
+
+    path: str
+    shown: Sequence[str]
+    made: Callable[[], Iterable[tuple[str, bytes]]]
 
 
 def line(*parts: object) -> Line:

@@ -6,6 +6,7 @@ new ones, and a call that is ended in the middle leaves whole ones.
 import contextlib
 import ctypes
 import dataclasses
+import functools
 import hashlib
 import os
 import re
@@ -26,14 +27,16 @@ from office_tools.pages.more_pages import Extras, More
 from office_tools.pages.outcomes import counted, reason_words
 from office_tools.pages.parts import parts_of, RowText
 from office_tools.pages.patterns import Patterns
-from office_tools.pages.sections import SectionPage, written
+from office_tools.pages.sections import Kept, SectionPage, written
 from office_tools.pages.sentences import LIST_TITLES, REASON_TITLES
 from office_tools.pages.state import State
 from office_tools.pages.told import Line, shortened
 from office_tools.reports import Outcome, Word
 
 NEWEST = 20  # runs on the first page
+IN_WAITS = "waits "  # before the digest of a page that says what waits for what
 OFFENDERS = 15  # what has to be mended on the first page
+MANY = ("source", "run", "people")  # the folders of pages that are many
 HERE = os.path.dirname(os.path.realpath(__file__))
 
 
@@ -60,21 +63,47 @@ class Site:
 
     def __init__(self, folder: str, state: State, patterns: Patterns, extras: Extras = Extras()) -> None:
         self.folder, self.state, self.patterns, self.extras = folder, state, patterns, extras
-        self.templates = jinja2.Environment(
-            loader=jinja2.FileSystemLoader(os.path.join(HERE, "templates")), autoescape=True, trim_blocks=True,
-            lstrip_blocks=True, auto_reload=False, keep_trailing_newline=True, undefined=jinja2.StrictUndefined)
-        self.templates.globals |= {"link": rows.shown(rows.piece_text), "pieces": rows.shown(rows.line_text),
-                                   "verdict": rows.shown(rows.verdict), "table_row": rows.shown(rows.table_row)}
-        self.menus = {up: self.menu(up) for up in ("", "../")}
-        self.templates.globals["menus"] = self.menus
         self.look = digest_of([repr(self.patterns), self.extras.address, *map(repr, own_files())])
         self.facts: Optional[views.Facts] = None
-        self.digests = state.digests()
         self.digests_now: dict[str, str] = {}
         self.beside = os.path.join(folder, ".new")
         shutil.rmtree(self.beside, ignore_errors=True)
         self.written: list[str] = []
         self.folders: set[str] = set()
+        self.more: Optional[More] = None
+
+    @functools.cached_property
+    def templates(self) -> jinja2.Environment:
+        """The templates, each compiled once."""
+        found = jinja2.Environment(
+            loader=jinja2.FileSystemLoader(os.path.join(HERE, "templates")), autoescape=True, trim_blocks=True,
+            lstrip_blocks=True, auto_reload=False, keep_trailing_newline=True, undefined=jinja2.StrictUndefined)
+        found.globals |= {"link": rows.shown(rows.piece_text), "pieces": rows.shown(rows.line_text),
+                          "verdict": rows.shown(rows.verdict), "table_row": rows.shown(rows.table_row)}
+        # The menu is the same for all pages of a folder.
+        menu = found.get_template("menu.html")
+        found.globals["menus"] = {up: Markup(menu.render(up=up)) for up in ("", "../")}
+        return found
+
+    @functools.cached_property
+    def digests(self) -> Mapping[str, str]:
+        """Of each page that was written a digest of what it was made of."""
+        return self.state.digests()
+
+    @functools.cached_property
+    def paths_by_digest(self) -> Mapping[str, Sequence[str]]:
+        """The pages of people that were written, by their digests."""
+        found: dict[str, list[str]] = {}
+        for path, digest in self.digests.items():
+            if digest and path.startswith("people/"):
+                found.setdefault(digest, []).append(path)
+        return found
+
+    @functools.cached_property
+    def there(self) -> frozenset[str]:
+        """The files that stand in the folders of pages that are many."""
+        return frozenset(f"{folder}/{name}" for folder in MANY if os.path.isdir(os.path.join(self.folder, folder))
+                         for name in os.listdir(os.path.join(self.folder, folder)))
 
     def build(self, newest: Newest) -> None:
         """Writes all pages that changed, and takes away those that there is no reason for any more."""
@@ -90,21 +119,38 @@ class Site:
         self.write_names(facts)
         self.write_hints(facts)
         self.put("excuses.json", excuses_json(newest.excuses, newest.update, newest.kept.fetched).encode())
-        more = More(facts, self.state, self.extras)
+        more = self.more_of(facts)
         self.write_more(more.pages(), more.files())
-        self.write_lists(facts)
+        self.write_kept(more.feeds_of_people())
+        self.write_answered(facts)
         self.move_all()
 
     def build_answers(self, newest: Newest, names: Collection[str]) -> None:
         """Writes the pages that answers about these sources change, behind `build`."""
-        facts = dataclasses.replace(self.facts_of(newest), whys=self.state.whys(), hints=self.state.hints(),
-                                    proposals=self.state.proposals())
+        facts = dataclasses.replace(self.facts_of(newest), standings={}, whys=self.state.whys(),
+                                    hints=self.state.hints(), proposals=self.state.proposals())
         self.digests_now = dict(self.digests)
-        self.write_sources(facts, facts.waits.touched.intersection(facts.names).union(names))
-        more = More(facts, self.state, self.extras)
-        self.write_more(more.answered_pages(), more.answered_files())
-        self.write_lists(facts)
+        # An answer also changes the pages of sources that one waits for by it, or waited for before.
+        before = {path[len("source/"):-len(".html")] for path, digest in self.digests.items()
+                  if digest.startswith(IN_WAITS)}
+        self.write_sources(facts, facts.waits.touched.union(before).intersection(facts.names).union(names))
+        self.write_answered(facts)
         self.move_all()
+
+    def write_answered(self, facts: views.Facts) -> None:
+        """Writes what answers about sources change, but for the sources' pages."""
+        more = self.more_of(facts)
+        self.write_more(more.answered_pages(facts), more.answered_files(facts))
+        people = more.people(facts)
+        self.write_more([people.all()], ())
+        self.write_kept(people.each(self.digests_now, functools.partial(written, self.templates)))
+        self.write_lists(facts)
+
+    def more_of(self, facts: views.Facts) -> More:
+        """What is made once of what is kept, and not changed by answers."""
+        if self.more is None:
+            self.more = More(facts, self.state, self.extras)
+        return self.more
 
     def facts_of(self, newest: Newest) -> views.Facts:
         """All that is kept, read once."""
@@ -131,8 +177,8 @@ class Site:
         self.written.append(path)
 
     def is_there(self, path: str, digest: str) -> bool:
-        """Whether a page is there that is made of what the digest says."""
-        return self.digests.get(path) == digest and os.path.exists(os.path.join(self.folder, path))
+        """Whether a page of a folder is there that is made of what the digest says."""
+        return self.digests.get(path) == digest and path in self.there
 
     def move_all(self) -> None:
         """Moves what was written into its place, one file after the other, the first page last, and removes the rest.
@@ -160,10 +206,6 @@ class Site:
         """Moves a file that was written into its place."""
         os.replace(os.path.join(self.beside, path), os.path.join(self.folder, path))
 
-    def menu(self, up: str) -> Markup:
-        """The menu of a page, which is the same for all pages of a folder."""
-        return Markup(self.templates.get_template("menu.html").render(up=up))
-
     def page(self, template: str, values: Mapping[str, Any]) -> bytes:
         """The bytes of a page."""
         return self.templates.get_template(template).render(values).encode()
@@ -175,14 +217,17 @@ class Site:
                 self.put(name, file.read())
 
     def write_sources(self, facts: views.Facts, names: Collection[str]) -> None:
-        """A page of each of these sources."""
+        """A page of each of these sources. One that stays as it is isn't made, but for what tells that it does."""
         links, feeds = facts.links(""), Feeds(facts, self.extras.address)
         for name in sorted(names):
-            source = views.source_of(facts, name, links)
-            path, digest = f"source/{name}.html", digest_of([self.look, repr(source)])
-            if source.has_feed:
+            source = None if facts.is_quiet(name) else views.source_of(facts, name, links)
+            mark = IN_WAITS if name in facts.waits.touched else ""
+            path, digest = f"source/{name}.html", mark + digest_of([
+                self.look, *(views.quiet_texts(facts, name) if source is None else ("", repr(source)))])
+            if source.has_feed if source else views.has_feed(facts, name):
                 self.digests_now.setdefault(f"source/{name}.xml", "")
             if not self.is_there(path, digest):
+                source = source or views.source_of(facts, name, links)
                 events = self.state.events(name)
                 history = views.history_of(facts, events)
                 self.put(path, self.page("source.html", {"source": source, "history": history, "up": "../"}))
@@ -238,6 +283,18 @@ class Site:
                 self.put(path, data)
         for path, data in files:
             self.put(path, data)
+
+    def write_kept(self, files: Iterable[Kept]) -> None:
+        """Files that are made only if what they show changed. All of one are kept under the same digest."""
+        for kept in files:
+            digest = digest_of([self.look, kept.path, *kept.shown])
+            before = self.paths_by_digest.get(digest, ())
+            if kept.path in before and self.there.issuperset(before):
+                self.digests_now.update(dict.fromkeys(before, digest))
+                continue
+            for path, data in kept.made():
+                self.put(path, data)
+                self.digests_now[path] = digest
 
     def write_hints(self, facts: views.Facts) -> None:
         """The hints in force, the proposed ones, and those that may be taken back."""

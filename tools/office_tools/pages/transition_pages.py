@@ -5,7 +5,8 @@ from typing import Iterator, Sequence
 from office_tools.pages import plots, views
 from office_tools.pages.kept_mail import KeptMail
 from office_tools.pages.outcomes import NOTHING, What
-from office_tools.pages.sections import Cell, cell, Column, line, Section, SectionPage, Table
+from office_tools.pages.rows import Cell, Column
+from office_tools.pages.sections import cell, line, Section, SectionPage, Table
 from office_tools.pages.state import State
 from office_tools.pages.told import Line, Links, Piece
 from office_tools.pages.transitions import (GONE, MISSING, NEITHER, NEW, OLD, Reader, suite_of_testing,

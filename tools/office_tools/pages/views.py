@@ -16,8 +16,8 @@ from office_tools.pages.people import page_of
 from office_tools.pages.sentences import breaks, old_enough, outcome_sentence, reason_sentence, refused_because
 from office_tools.pages.state import Event, Proposal, SentHint, State, Why
 from office_tools.pages.told import Line, linked, lines_of, Links, Piece, shortened
-from office_tools.pages.verdicts import word_of, words_of
-from office_tools.pages.waits import Wait, Waits, sources_of, waits_of
+from office_tools.pages.verdicts import OUTCOME_WORDS, word_of, words_of
+from office_tools.pages.waits import Wait, Waits, waits_of
 from office_tools.reports import Excuse, Reason, ReasonKind
 
 HINT_LINES: Mapping[ReasonKind, str] = {
@@ -50,12 +50,12 @@ class Standing:
 class Source:
     """What the page of a source shows.
 
-    `unstable` and `age` are empty where it has no excuse, or moved in the newest run, and `verdict` where no report of
-    the newest run names it. `told` is what keeps it out, and what the newest run did with it if that was no move.
-    `lines` are what the office answered about it, the same since run `since`. `ways` lead out of the pages. `last` is
-    its last event. `waits` are the sources that it waits for, and `waited` the first of the `waiting` ones that wait
-    for it. `people` are its maintainer and uploaders. It has a feed unless nothing happened to it since the first run.
-    What is told here stays the same from run to run as long as the source stands the same.
+    `unstable` and `age` are empty where it has no excuse, or moved in the newest run, and `verdict` where it has no
+    excuse and neither moved nor was removed. `told` is what keeps it out, and what the newest run did with it if that
+    was no move. `lines` are what the office answered about it, the same since run `since`. `ways` lead out of the
+    pages. `last` is its last event. `waits` are the sources that it waits for, and `waited` the first of the `waiting`
+    ones that wait for it. `people` are its maintainer and uploaders. It has a feed unless nothing happened to it since
+    the first run. What is told here stays the same from run to run as long as the source stands the same.
     """
 
     name: str
@@ -94,7 +94,7 @@ class Row:
 
 @dataclass(frozen=True)
 class Facts:
-    """All that is kept, read, and what is counted of it once.
+    """All that is kept, read, and what is counted of it once. `standings` are those of sources that were asked for.
 
     `standing` are the items of the hints in force, and `refusals` the hints that the newest run refused. `proposed` are
     the proposed hints by source, if the office was asked for them.
@@ -116,6 +116,7 @@ class Facts:
     binaries: Mapping[str, Sequence[str]]
     packages: Mapping[str, str]
     people: Mapping[str, Person] = field(default_factory=dict)
+    standings: dict[str, str] = field(default_factory=dict)
 
     @property
     def date(self) -> datetime.date:
@@ -154,6 +155,17 @@ class Facts:
                 why = why_of(self, self.excuses[name])
                 waiting[name] = (why.told if why else None, offender.package, self.packages.get(offender.package, ""))
         return waits_of(waiting)
+
+    @functools.cached_property
+    def told_of_now(self) -> frozenset[str]:
+        """The sources of which the newest run tells more than that they moved, or whose page names other sources."""
+        told = (name for name, outcomes in self.outcomes.items()
+                if len(outcomes) > 1 or outcomes[-1].what is not What.ACCEPT)
+        return self.unmoved.union(told, self.waits.touched)
+
+    def is_quiet(self, name: str) -> bool:
+        """Whether the page of a source shows only what it shows from run to run: where it is, and its past."""
+        return name not in self.told_of_now
 
     def links(self, folder: str) -> Links:
         """Where names lead. `folder` is the way to the folder of the sources' pages, with a slash at its end."""
@@ -319,14 +331,22 @@ def source_of(facts: Facts, name: str, links: Links) -> Source:
         facts.last.get(name),
         wait_lines(facts, facts.waits.by_source.get(name, ()), links, lambda wait: wait.other),
         wait_lines(facts, facts.waits.by_other.get(name, ()), links, lambda wait: wait.source)[:MOST_WAITING],
-        len(sources_of(facts.waits.by_other.get(name, ()))), people_of(facts, name), has_feed(facts, name))
+        len(facts.waits.waiting.get(name, ())), people_of(facts, name), has_feed(facts, name))
+
+
+def quiet_texts(facts: Facts, name: str) -> Sequence[str]:
+    """All that the page of a quiet source shows, by which it is known to be as it was."""
+    return (name, testing_version(facts, name), *facts.binaries.get(name, ()), repr(facts.last.get(name)),
+            repr(facts.people.get(name)))
 
 
 def verdict_of(facts: Facts, name: str) -> str:
-    """The word for how a source stands; empty where no report of the newest run names it."""
+    """The word for how a source stands. One that moved or was removed stands so until unstable has something newer."""
     excuse, what = facts.excuses.get(name), facts.outcomes.get(name, NOTHING)[-1].what
     if excuse is None and what is What.NONE:
-        return ""
+        last = facts.last.get(name)
+        before = outcome_in(last.outcome).what if last else What.NONE
+        return OUTCOME_WORDS[before] if before in (What.ACCEPT, What.REMOVED) else ""
     return word_of(reason_words(excuse) if excuse else (), what)
 
 
@@ -362,6 +382,13 @@ def wait_lines(facts: Facts, waits: Sequence[Wait], links: Links, named: Callabl
 
 def standing_of(facts: Facts, name: str) -> str:
     """How it stands with a source, in words that stay from run to run as long as that does."""
+    if name not in facts.standings:
+        facts.standings[name] = standing_now(facts, name)
+    return facts.standings[name]
+
+
+def standing_now(facts: Facts, name: str) -> str:
+    """The same, made."""
     excuse = facts.excuses.get(name)
     what = facts.outcomes.get(name, NOTHING)[-1].what
     if what is What.ACCEPT:
