@@ -6,7 +6,7 @@ import datetime
 import enum
 import re
 from dataclasses import dataclass
-from typing import Mapping, NamedTuple, Optional, Sequence
+from typing import Mapping, NamedTuple, Optional, Sequence, Union
 
 from office_tools.faults import Fault
 
@@ -222,6 +222,10 @@ RUN_FORM = (r"run (\d+) (\d{4}-\d{2}-\d{2}) excuses (\d+) candidates (\d+) accep
             r"wait (\d+)")
 
 
+EXCUSE_FORM = re.compile(rf"({NAME}) (\S+) (\S+)")
+AGE_FORM = re.compile(r" age (\d+) of (\d+)")
+END_FORM = re.compile(" (not a )?candidate")
+REASON_FORM = re.compile(r" (\S.*)")
 SOURCE_FORM = re.compile(rf"^source ({NAME}) (\S+)$", re.M)
 ROW_FORM = re.compile(r"^binary (\S+) (\S+) (\S+) (\S+)$", re.M)
 
@@ -239,9 +243,9 @@ class Lines:
         self.lines = text.split("\n")[:-1]
         self.place = 0
 
-    def next_is(self, form: str) -> Optional[re.Match[str]]:
+    def next_is(self, form: re.Pattern[str]) -> Optional[re.Match[str]]:
         """The match of the next line, which is then read, where it is of this form."""
-        found = re.fullmatch(form, self.lines[self.place]) if self.is_left() else None
+        found = form.fullmatch(self.lines[self.place]) if self.is_left() else None
         if found is not None:
             self.place += 1
         return found
@@ -260,9 +264,9 @@ class Lines:
         self.place = end
         return found
 
-    def need(self, form: str, what: str) -> re.Match[str]:
+    def need(self, form: Union[str, re.Pattern[str]], what: str) -> re.Match[str]:
         """The same, where any other line is a fault."""
-        found = self.next_is(form)
+        found = self.next_is(re.compile(form))
         if found is None:
             raise self.fault(f"{what} is due here")
         return found
@@ -296,11 +300,11 @@ def read_excuses(text: str, name: str = "excuses") -> Excuses:
 
 def read_excuse(lines: Lines) -> Excuse:
     """The next excuse."""
-    source, testing, unstable = lines.need(rf"({NAME}) (\S+) (\S+)", "a source with two versions").groups()
-    age, needed = lines.need(r" age (\d+) of (\d+)", "its age").groups()
+    source, testing, unstable = lines.need(EXCUSE_FORM, "a source with two versions").groups()
+    age, needed = lines.need(AGE_FORM, "its age").groups()
     reasons: list[Reason] = []
     while True:
-        end = lines.next_is(" (not a )?candidate")
+        end = lines.next_is(END_FORM)
         if end is not None:
             break
         reasons.append(read_reason(lines))
@@ -312,7 +316,7 @@ def read_excuse(lines: Lines) -> Excuse:
 
 def read_reason(lines: Lines) -> Reason:
     """The next reason of an excuse."""
-    text = lines.need(r" (\S.*)", "a reason, or whether it is a candidate")[1]
+    text = lines.need(REASON_FORM, "a reason, or whether it is a candidate")[1]
     for form, kind in REASON_FORMS:
         found = form.fullmatch(text)
         if found:

@@ -3,7 +3,7 @@ from dataclasses import dataclass, field
 from typing import Iterator, Mapping
 
 from office_tools.pages import views
-from office_tools.pages.britney_yaml import excuses_yaml
+from office_tools.pages.britney_yaml import ExcusesYaml
 from office_tools.pages.change_pages import change_pages, Feeds, RUNS
 from office_tools.pages.changes import changes_of
 from office_tools.pages.day_pages import day_pages, missing_pages
@@ -33,6 +33,7 @@ class More:
     def __init__(self, facts: views.Facts, state: State, extras: Extras) -> None:
         self.facts, self.state = facts, state
         self.feeds = Feeds(facts, extras.address)
+        self.yaml = ExcusesYaml(facts.newest.excuses, facts.outcomes, facts.people)
         first = [run.number for run in facts.runs[1:]][-RUNS:]
         self.changes = changes_of(state.events_from(first[0]), first[0]) if first else {}
 
@@ -61,4 +62,4 @@ class More:
 
     def answered_files(self, facts: views.Facts) -> Iterator[tuple[str, bytes]]:
         """The files that answers about sources change."""
-        yield "excuses.yaml", excuses_yaml(facts.newest.excuses, facts.outcomes, facts.people, facts.waits).encode()
+        yield "excuses.yaml", self.yaml.text(facts.waits).encode()

@@ -1,9 +1,9 @@
 """Lists that are too long for one page, cut into parts."""
 from dataclasses import dataclass
-from typing import Iterator, Sequence
+from typing import Iterator, NamedTuple, Sequence
 
 MOST_ROWS = 5000  # rows of one page
-LARGEST = 400_000  # characters of the rows of one page: so no page has more than half a megabyte
+LARGEST = 330_000  # characters of the rows of one page: with what stands before them it has half a megabyte at most
 
 
 @dataclass(frozen=True)
@@ -15,8 +15,7 @@ class Part:
     is_here: bool
 
 
-@dataclass(frozen=True)
-class RowText:
+class RowText(NamedTuple):
     """A row of a list: the name by which the list is ordered, and its HTML."""
 
     name: str

@@ -12,6 +12,7 @@ from markupsafe import escape, Markup
 from office_tools.pages.names import Name
 from office_tools.pages.told import Line, Piece
 from office_tools.pages.views import Row
+from office_tools.reports import Run
 
 MOST_KEPT = 1 << 16  # texts that are kept escaped
 
@@ -115,16 +116,26 @@ def moved_row(one: Moved) -> str:
                 cell(escaped(one.version), "Version"), cell(outcome, "Outcome")), f' data-is="{one.word}"')
 
 
+def run_row(run: Run, up: str = "") -> str:
+    """A run in the list of all."""
+    counts = {"Excuses": run.excuses, "Candidates": run.candidates, "Moved alone": run.accepted, "Groups": run.groups,
+              "Removed": run.removed, "Wait": run.waiting}
+    return row((cell(f'<a href="{up}run/{run.number}.html">Run {run.number}</a>'),
+                cell(f"<time>{run.date}</time>", "Day"),
+                *(cell(str(count), title, ' class="n"') for title, count in counts.items())))
+
+
 def testing_row(name: str, version: str, binaries: Sequence[str]) -> str:
     """A source in testing, with its packages."""
     return row((cell(source_link("", name)), cell(escaped(version), "Version"),
                 cell(escaped(", ".join(binaries) or "-"), "Packages")))
 
 
-def name_item(one: Name) -> str:
-    """A name in the list of all names."""
-    leads = f'<a href="source/{escaped(one.source)}.html">{escaped(one.name)}</a>'
-    return f"<li>{leads}</li>\n" if one.name == one.source else f"<li>{leads} of {escaped(one.source)}</li>\n"
+def name_items(names: Sequence[Name]) -> Sequence[str]:
+    """Names in the list of all names. None has a blank, and all are escaped at once."""
+    pairs = (line.split(" ") for line in str(escape("\n".join(map(" ".join, names)))).split("\n") if line)
+    return [f'<li><a href="source/{source}.html">{name}</a>{"" if name == source else f" of {source}"}</li>\n'
+            for name, source in pairs]
 
 
 def source_link(up: str, name: str) -> str:

@@ -25,7 +25,7 @@ from office_tools.pages.day_pages import glance
 from office_tools.pages.kept_mail import KeptMail
 from office_tools.pages.more_pages import Extras, More
 from office_tools.pages.outcomes import counted, reason_words
-from office_tools.pages.parts import parts_of, RowText
+from office_tools.pages.parts import Part, parts_of, RowText
 from office_tools.pages.patterns import Patterns
 from office_tools.pages.sections import Kept, SectionPage, written
 from office_tools.pages.sentences import LIST_TITLES, REASON_TITLES
@@ -35,6 +35,7 @@ from office_tools.reports import Outcome, Word
 
 NEWEST = 20  # runs on the first page
 IN_WAITS = "waits "  # before the digest of a page that says what waits for what
+HINTS = 200  # hints on the page of a run
 OFFENDERS = 15  # what has to be mended on the first page
 MANY = ("source", "run", "people")  # the folders of pages that are many
 HERE = os.path.dirname(os.path.realpath(__file__))
@@ -230,7 +231,8 @@ class Site:
                 source = source or views.source_of(facts, name, links)
                 events = self.state.events(name)
                 history = views.history_of(facts, events)
-                self.put(path, self.page("source.html", {"source": source, "history": history, "up": "../"}))
+                self.put(path, self.page("source.html", {
+                    "source": source, "history": history, "earlier": len(events) - len(history), "up": "../"}))
                 if source.has_feed:
                     self.put(f"source/{name}.xml", feeds.of_source(name, events))
             self.digests_now[path] = digest
@@ -253,13 +255,16 @@ class Site:
             read = facts.newest if run == facts.newest.kept.run else read_run(self.state.run(run.number))
             self.write_run(facts, read, {"before": before, "after": after})
             self.digests_now[path] = digest
-        self.put("runs.html", self.page("runs.html", {"runs": facts.runs[::-1], "up": ""}))
+        for link, parts, shown in parts_of("runs", [
+                RowText(f"run {run.number}", rows.run_row(run)) for run in facts.runs[::-1]]):
+            self.put(link, self.page("runs.html", {"rows": shown, "list": parts, "up": ""}))
 
     def write_run(self, facts: views.Facts, read: Newest, values: Mapping[str, Any]) -> None:
         """The page of a run; those that are many are on pages behind it."""
         run = read.kept.run
         counts = counted(map(reason_words, read.excuses.excuses))
-        values = {**values, "run": run, "hints": hints_of(facts, read), "up": "../",
+        asked = hints_of(facts, read)
+        values = {**values, "run": run, "hints": asked[:HINTS], "more": len(asked[HINTS:]), "up": "../",
                   "counts": [(word, REASON_TITLES[word], count) for word, count in counts.items()]}
         for link, parts, shown in parts_of(str(run.number), [
                 RowText(row.name, rows.moved_row(row)) for row in moved_in(read)]):
@@ -299,12 +304,20 @@ class Site:
     def write_hints(self, facts: views.Facts) -> None:
         """The hints in force, the proposed ones, and those that may be taken back."""
         shown = hints.shown_hints(facts.standing, facts.hints, facts.refusals, facts.links("source/"))
-        proposed, label = hints.proposed_lines(self.state, facts.newest.number), hints.next_label(self.state)
-        stale = [hint for hint in shown if hint.stale]
-        self.put("hints.html", self.page("hints.html", {
-            "run": facts.newest.kept.run, "hints": shown, "label": label, "is_asked": proposed is not None,
-            "proposed": hints.proposed_copies(proposed or (), label), "lines": proposed,
-            "stale": hints.unhint_copies(stale, label), "up": ""}))
+        lines, label = hints.proposed_lines(self.state, facts.newest.number), hints.next_label(self.state)
+        copies = {"proposed": hints.proposed_copies(lines or (), label),
+                  "stale": hints.unhint_copies([hint for hint in shown if hint.stale], label)}
+        values: dict[str, Any] = {"run": facts.newest.kept.run, "label": label, "is_asked": lines is not None,
+                                  "number": len(shown), "up": ""}
+        for word, some in copies.items():
+            first = hints.first_copies(some)
+            values |= {word: first, f"{word}_in_all": len(some)}
+            if label and some:
+                self.put(f"hints-{word}.txt", hints.bag_of(some))
+        values["lines"] = (lines or ())[:len(values["proposed"])]
+        for link, parts, some_hints in paged(shown, facts.hint_pages):
+            self.put(link, self.page("hints.html", {
+                **values, "hints": some_hints, "list": parts, "is_first": parts[0].is_here}))
 
     def write_names(self, facts: views.Facts) -> None:
         """All names of sources and packages: lists by their beginning, and what the search looks through."""
@@ -317,7 +330,7 @@ class Site:
         self.put("names.html", self.page("names.html", {**values, "here": "", "rows": (), "list": ()}))
         for letter, some in lists.items():
             for link, parts, shown in parts_of(f"names-{letter}", [
-                    RowText(one.name, rows.name_item(one)) for one in some]):
+                    RowText(one.name, text) for one, text in zip(some, rows.name_items(some))]):
                 self.put(link, self.page("names.html", {**values, "here": letter, "rows": shown, "list": parts}))
 
     def write_lists(self, facts: views.Facts) -> None:
@@ -349,7 +362,7 @@ class Site:
             "verdicts": {word: (counts[verdicts.LISTS[word]], title) for word, title in verdicts.TITLES.items()},
             "mending": found, "most": OFFENDERS,
             "offenders": [] if is_asked else views.offenders_of(facts, links)[:OFFENDERS],
-            "runs": facts.runs[:-NEWEST - 1:-1], "up": ""}))
+            "rows": list(map(rows.run_row, facts.runs[:-NEWEST - 1:-1])), "up": ""}))
 
 
 def sync(folder: str) -> None:
@@ -360,6 +373,17 @@ def sync(folder: str) -> None:
             raise OSError(ctypes.get_errno(), os.strerror(ctypes.get_errno()), folder)
     finally:
         os.close(number)
+
+
+def paged(shown: Sequence[hints.ShownHint], pages: Mapping[int, str]) -> Iterator[
+        tuple[str, Sequence[Part], Sequence[hints.ShownHint]]]:
+    """The pages of hints in force, of which there is one at least: each with all parts and with its hints."""
+    by_page: dict[str, list[hints.ShownHint]] = {"hints.html": []}
+    for hint in shown:
+        by_page.setdefault(pages[hint.number], []).append(hint)
+    for link, some in by_page.items():
+        yield link, [Part(other, f"{of[0].number} to {of[-1].number}" if of else "", other == link)
+                     for other, of in by_page.items()], some
 
 
 def list_link(word: str) -> str:

@@ -25,6 +25,14 @@ class Suite:
     sources: Mapping[str, str]
     rows: Mapping[Key, tuple[str, str]]
 
+    def of_sources(self, names: Collection[str]) -> Mapping[str, Mapping[Key, str]]:
+        """The rows of some sources, with their versions."""
+        found: dict[str, dict[Key, str]] = {name: {} for name in names}
+        for key, (version, source) in self.rows.items():
+            if source in found:
+                found[source][key] = version
+        return {name: of_source for name, of_source in found.items() if of_source}
+
     @functools.cached_property
     def by_source(self) -> Mapping[str, Mapping[Key, str]]:
         """The rows of each source, with their versions."""
@@ -106,7 +114,8 @@ def stem(name: str) -> str:
 
 def suite_of_testing(testing: Testing) -> Suite:
     """Testing, as it was read."""
-    return Suite(testing.sources, {(row.architecture, row.package): (row.version, row.source) for row in testing.rows})
+    return Suite(testing.sources, {(architecture, package): (version, source)
+                                   for architecture, package, version, source in testing.rows})
 
 
 def suite_of_unstable(told: str) -> Suite:
@@ -130,7 +139,7 @@ class Reader:
 
     def transitions(self, names: Collection[str]) -> Sequence[Transition]:
         """The transitions of these sources, those with the most users first."""
-        testing, unstable = self.testing.by_source, self.unstable.by_source
+        testing, unstable = self.testing.of_sources(names), self.unstable.by_source
         changed = [name for name in names if name in testing and name in unstable
                    and is_changed(testing[name], unstable[name], self.unstable.sources[name])]
         builds = self.mail.builds_of({package for name in changed for _, package in unstable[name]})

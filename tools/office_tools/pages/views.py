@@ -8,7 +8,7 @@ from typing import Callable, Mapping, Optional, Sequence
 
 from office_tools import reports
 from office_tools.pages.fetching import HINTS, PROPOSED, hints_named, Newest, sources_in, without_age
-from office_tools.pages.hints import Refusal, refusals_of
+from office_tools.pages.hints import pages_of, Refusal, refusals_of
 from office_tools.pages.kept_mail import Person
 from office_tools.pages.outcomes import NOTHING, outcome_in, outcomes_of, reason_words, SourceOutcome, What
 from office_tools.pages.patterns import Patterns
@@ -30,6 +30,8 @@ ASKING: Mapping[str, ReasonKind] = {
 """The reason that a hint of these words gives."""
 
 MOST_WAITING = 100  # sources on the page of one that they wait for
+MOST_LINES = 600  # lines of an answer on a page
+MOST_EVENTS = 400  # events of a source on its page
 NO_GROUP = "No hint: the office found no group that frees it."
 NOT_ASKED = "Not asked yet: a later call asks."
 
@@ -135,6 +137,11 @@ class Facts:
         return frozenset(item.number for item in self.standing)
 
     @functools.cached_property
+    def hint_pages(self) -> Mapping[int, str]:
+        """The page of each hint in force."""
+        return pages_of(self.in_force)
+
+    @functools.cached_property
     def dates(self) -> Mapping[int, str]:
         """The day of each run."""
         return {run.number: run.date.isoformat() for run in self.runs}
@@ -173,7 +180,7 @@ class Facts:
         return Links(lambda name: f"{folder}{name}.html" if name in self.names else "",
                      lambda name: f"{folder}{self.packages[name]}.html" if name in self.packages else "",
                      self.patterns.bug, self.hint_texts,
-                     lambda number: f"{above}hints.html#hint-{number}")
+                     lambda number: f"{above}{self.hint_pages[number]}#hint-{number}")
 
     @functools.cached_property
     def hint_texts(self) -> Mapping[int, str]:
@@ -210,11 +217,15 @@ def facts_of(state: State, newest: Newest, patterns: Patterns) -> Facts:
 
 def binaries_of(rows: Sequence[reports.Row]) -> Mapping[str, Sequence[str]]:
     """The binary packages of each source: each package and version once, with its architectures."""
-    found: dict[str, dict[tuple[str, str], list[str]]] = {}
-    for row in rows:
-        found.setdefault(row.source, {}).setdefault((row.package, row.version), []).append(row.architecture)
-    return {source: [f"{package} {version} ({', '.join(archs)})" for (package, version), archs in sorted(of.items())]
-            for source, of in found.items()}
+    found: dict[str, dict[tuple[str, str], str]] = {}
+    for architecture, package, version, source in rows:
+        of_source = found.get(source)
+        if of_source is None:
+            of_source = found[source] = {}
+        key = package, version
+        of_source[key] = f"{of_source[key]}, {architecture}" if key in of_source else architecture
+    return {source: [f"{package} {version} ({archs})" for (package, version), archs in sorted(of_source.items())]
+            for source, of_source in found.items()}
 
 
 def why_of(facts: Facts, excuse: Excuse) -> Optional[Why]:
@@ -325,7 +336,7 @@ def source_of(facts: Facts, name: str, links: Links) -> Source:
         name, testing_version(facts, name), excuse.unstable if excuse else "",
         age_sentence(excuse, facts.date) if excuse else "", verdict_of(facts, name),
         () if has_moved else told_of(facts, excuse, outcomes, links),
-        lines_of(name, why.told, links) if why else (),
+        cut(lines_of(name, why.told, links), f"office-ask why {name}") if why else (),
         why.since if why else None,
         proposal_lines(facts, excuse), facts.binaries.get(name, ()), ways_out(facts, name, excuse),
         facts.last.get(name),
@@ -338,6 +349,12 @@ def quiet_texts(facts: Facts, name: str) -> Sequence[str]:
     """All that the page of a quiet source shows, by which it is known to be as it was."""
     return (name, testing_version(facts, name), *facts.binaries.get(name, ()), repr(facts.last.get(name)),
             repr(facts.people.get(name)))
+
+
+def cut(lines: Sequence[Line], command: str) -> Sequence[Line]:
+    """Lines of an answer, the first ones alone where they are many, with the command that prints all of them."""
+    more = len(lines) - MOST_LINES
+    return lines if more <= 0 else [*lines[:MOST_LINES], Line((Piece(f".. and {more} more lines: {command}"),))]
 
 
 def verdict_of(facts: Facts, name: str) -> str:
@@ -421,7 +438,8 @@ def age_sentence(excuse: Excuse, date: datetime.date) -> str:
 def history_of(facts: Facts, events: Sequence[Event]) -> Sequence[Standing]:
     """How a source stood from run to run, the newest first."""
     return [Standing(event.run, facts.dates.get(event.run, ""), event.testing, event.unstable,
-                     event_pieces(event, facts), outcome_in(event.outcome).what is What.ACCEPT) for event in events]
+                     event_pieces(event, facts), outcome_in(event.outcome).what is What.ACCEPT)
+            for event in events[:MOST_EVENTS]]
 
 
 def event_pieces(event: Event, facts: Facts) -> Sequence[Piece]:
@@ -452,7 +470,8 @@ def proposal_lines(facts: Facts, excuse: Optional[Excuse]) -> Sequence[str]:
     proposal = proposal_of(facts, excuse)
     if proposal is None:
         return (NOT_ASKED,)
-    return tuple(map(shortened, proposal.told.splitlines())) or (NO_GROUP,)
+    told = [Line((Piece(shortened(line)),)) for line in proposal.told.splitlines()]
+    return tuple(line.pieces[0].text for line in cut(told, f"office-ask propose {excuse.source}")) or (NO_GROUP,)
 
 
 def offenders_of(facts: Facts, links: Links) -> Sequence[tuple[int, Piece, str]]:
