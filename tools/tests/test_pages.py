@@ -355,16 +355,19 @@ class AllRuns(Pages):
         self.make("--url", self.office.url)
         self.assertNotIn("Not asked yet", self.read("source/libgreet.html"))
 
+    def mending(self):
+        """The cells of the first row of what has to be mended."""
+        return Reader(self.read("index.html").partition('<h2 id="mending">')[2]).cells[:5]
+
     def test_what_has_to_be_mended(self):
         """The last numbered line of what the office proposes for stuck says what nothing meets."""
         self.make("--url", self.office.url)
-        cells = self.page("index.html").cells
-        self.assertEqual(cells[:5], ["greeter", "greeter", "libgreet1", "1", "stuck"])
+        self.assertEqual(self.mending(), ["greeter", "greeter", "libgreet1", "1", "stuck"])
         # Without that it is the last line of why the source can't move alone.
         self.office.answers["/propose/stuck"] = ""
         shutil.rmtree(os.path.join(self.folder, ".state"))
         self.make("--url", self.office.url)
-        self.assertEqual(self.page("index.html").cells[:5], ["libgreet1", "libgreet", "libgreet-doc", "1", "stuck"])
+        self.assertEqual(self.mending(), ["libgreet1", "libgreet", "libgreet-doc", "1", "stuck"])
 
     def test_a_source_that_left_the_archive(self):
         self.office.answers["/excuses/2"] = EXCUSES[2].replace(

@@ -12,7 +12,8 @@ from office_tools.pages.told import Links, Piece
 from office_tools.pages.verdicts import TITLES, word_of
 from office_tools.pages.outcomes import reason_words
 
-WORDS = ("waits", "young", "blocked", "rejected", "refused")
+MEANINGS = {**TITLES, "refused": "a candidate for which a hint was refused"}
+WORDS = tuple(MEANINGS)
 
 
 def unmoved(facts: views.Facts) -> Mapping[str, str]:
@@ -74,7 +75,7 @@ def list_page(facts: views.Facts, found: Mapping[str, Sequence[tuple[str, bool]]
              for _, _, name, counts in sorted(rows, key=lambda row: row[:3])]
     unknown = sum(source not in facts.people for source in verdicts)
     told = [line("Those with the most sources that wait or are rejected come first. ",
-                 "; ".join(f"{word}: {title}" for word, title in TITLES.items()), ".")]
+                 "; ".join(f"{word}: {title}" for word, title in MEANINGS.items()), ".")]
     if unknown:
         told.append(line(f"Of {unknown} of {len(verdicts)} sources that don't move nobody said who maintains them."))
     return SectionPage("people", "Maintainers and teams", told, (Section(
@@ -95,7 +96,7 @@ def one_page(facts: views.Facts, person: tuple[str, str], sources: Sequence[tupl
         if name in verdicts:
             excuse, outcomes = facts.excuses[name], facts.outcomes.get(name, NOTHING)
             rows.append((cell(Piece(name, links.source(name)), "" if is_maintainer else " (uploader)"),
-                         cell(excuse.testing or "-"), cell(excuse.unstable), cell(verdicts[name]),
+                         cell(excuse.testing or "-"), cell(excuse.unstable), cell(Piece(verdicts[name], is_verdict=True)),
                          views.told_of(facts, excuse, outcomes, links),
                          views.wait_lines(facts, facts.waits.by_source.get(name, ()), links, lambda wait: wait.other)))
     items = [line(Piece(name, links.source(name)), f" is {change.kind.value}: {sentence(change.after)}")

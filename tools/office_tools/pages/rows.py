@@ -55,7 +55,9 @@ def link(address: str, text: str) -> str:
 
 
 def piece_text(piece: Piece) -> str:
-    """A piece: its picture, if it has one, and its text, which may be a link."""
+    """A piece: its picture, if it has one, and its text, which may be a link or the word of a verdict."""
+    if piece.is_verdict:
+        return verdict(piece.text)
     told = link(piece.link, piece.text) if piece.link else escaped(piece.text)
     return f"{piece.drawn} {told}" if piece.drawn else told
 
