@@ -393,8 +393,14 @@ def wait_lines(facts: Facts, waits: Sequence[Wait], links: Links, named: Callabl
     found: dict[str, list[str]] = {}
     for wait in waits:
         found.setdefault(named(wait), []).append(wait.why)
-    return [Line((Piece(name, links.source(name)), Piece(f": {'; '.join(whys)} ({standing_of(facts, name)})"))
+    return [Line((Piece(name, links.source(name)), Piece(f": {'; '.join(whys)}{standing_behind(facts, name, whys)}"))
                  if name else (Piece("; ".join(whys)),)) for name, whys in sorted(found.items())]
+
+
+def standing_behind(facts: Facts, name: str, whys: Sequence[str]) -> str:
+    """How it stands with a source in brackets, unless the last reason tells that."""
+    standing = standing_of(facts, name)
+    return "" if whys[-1].endswith(f" {standing}") else f" ({standing})"
 
 
 def standing_of(facts: Facts, name: str) -> str:
