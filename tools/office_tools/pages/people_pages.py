@@ -96,7 +96,8 @@ def one_page(facts: views.Facts, person: tuple[str, str], sources: Sequence[tupl
         if name in verdicts:
             excuse, outcomes = facts.excuses[name], facts.outcomes.get(name, NOTHING)
             rows.append((cell(Piece(name, links.source(name)), "" if is_maintainer else " (uploader)"),
-                         cell(excuse.testing or "-"), cell(excuse.unstable), cell(Piece(verdicts[name], is_verdict=True)),
+                         cell(excuse.testing or "-"), cell(excuse.unstable),
+                         cell(Piece(verdicts[name], is_verdict=True)),
                          views.told_of(facts, excuse, outcomes, links),
                          views.wait_lines(facts, facts.waits.by_source.get(name, ()), links, lambda wait: wait.other)))
     items = [line(Piece(name, links.source(name)), f" is {change.kind.value}: {sentence(change.after)}")

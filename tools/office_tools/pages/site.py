@@ -92,19 +92,10 @@ class Site:
         return self.state.digests()
 
     @functools.cached_property
-    def paths_by_digest(self) -> Mapping[str, Sequence[str]]:
-        """The pages of people that were written, by their digests."""
-        found: dict[str, list[str]] = {}
-        for path, digest in self.digests.items():
-            if digest and path.startswith("people/"):
-                found.setdefault(digest, []).append(path)
-        return found
-
-    @functools.cached_property
-    def there(self) -> frozenset[str]:
+    def there(self) -> set[str]:
         """The files that stand in the folders of pages that are many."""
-        return frozenset(f"{folder}/{name}" for folder in MANY if os.path.isdir(os.path.join(self.folder, folder))
-                         for name in os.listdir(os.path.join(self.folder, folder)))
+        return {f"{folder}/{name}" for folder in MANY if os.path.isdir(os.path.join(self.folder, folder))
+                for name in os.listdir(os.path.join(self.folder, folder))}
 
     def build(self, newest: Newest) -> None:
         """Writes all pages that changed, and takes away those that there is no reason for any more."""
@@ -200,6 +191,8 @@ class Site:
         changed = {path for path, digest in self.digests_now.items() if self.digests.get(path) != digest}
         self.state.keep_digests({path: self.digests_now[path] for path in changed.union(self.written)}, gone)
         self.state.keep_built(self.look + self.extras.digest)
+        self.there.update(self.written)
+        self.there.difference_update(gone)
         self.digests, self.written, self.folders = self.digests_now, [], set()
         shutil.rmtree(self.beside, ignore_errors=True)
 
@@ -291,9 +284,13 @@ class Site:
 
     def write_kept(self, files: Iterable[Kept]) -> None:
         """Files that are made only if what they show changed. All of one are kept under the same digest."""
+        paths: dict[str, list[str]] = {}
+        for path, digest in self.digests.items():
+            if path.startswith("people/"):
+                paths.setdefault(digest, []).append(path)
         for kept in files:
             digest = digest_of([self.look, kept.path, *kept.shown])
-            before = self.paths_by_digest.get(digest, ())
+            before = paths.get(digest, ())
             if kept.path in before and self.there.issuperset(before):
                 self.digests_now.update(dict.fromkeys(before, digest))
                 continue
