@@ -4,6 +4,7 @@ A Debian release has some 34,000 of them, and as many again for each list that t
 template takes ten times as long. Each text is escaped as the templates do it.
 """
 import functools
+import re
 from dataclasses import dataclass
 from typing import Callable, Iterable, Sequence
 
@@ -15,6 +16,8 @@ from office_tools.pages.views import Row
 from office_tools.reports import Run
 
 MOST_KEPT = 1 << 16  # texts that are kept escaped
+
+DAY = re.compile(r"(?<= )\d{4}-\d{2}-\d{2}(?=$|[ ,.;:)])")
 
 Cell = Sequence[Line]
 
@@ -49,6 +52,12 @@ def escaped(text: str) -> str:
     return str(escape(text))
 
 
+@functools.lru_cache(MOST_KEPT)
+def told_text(text: str) -> str:
+    """A sentence as HTML, with its days marked, which the style keeps on one line."""
+    return DAY.sub(r"<time>\g<0></time>", escaped(text))
+
+
 def link(address: str, text: str) -> str:
     """A link."""
     return f'<a href="{escaped(address)}">{escaped(text)}</a>'
@@ -58,7 +67,7 @@ def piece_text(piece: Piece) -> str:
     """A piece: its picture, if it has one, and its text, which may be a link or the word of a verdict."""
     if piece.is_verdict:
         return verdict(piece.text)
-    told = link(piece.link, piece.text) if piece.link else escaped(piece.text)
+    told = link(piece.link, piece.text) if piece.link else told_text(piece.text)
     return f"{piece.drawn} {told}" if piece.drawn else told
 
 

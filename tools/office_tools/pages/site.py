@@ -79,8 +79,9 @@ class Site:
         found = jinja2.Environment(
             loader=jinja2.FileSystemLoader(os.path.join(HERE, "templates")), autoescape=True, trim_blocks=True,
             lstrip_blocks=True, auto_reload=False, keep_trailing_newline=True, undefined=jinja2.StrictUndefined)
-        found.globals |= {"link": rows.shown(rows.piece_text), "pieces": rows.shown(rows.line_text),
-                          "verdict": rows.shown(rows.verdict), "table_row": rows.shown(rows.table_row)}
+        made = {"link": rows.piece_text, "pieces": rows.line_text, "told": rows.told_text, "verdict": rows.verdict,
+                "table_row": rows.table_row}
+        found.globals |= {name: rows.shown(function) for name, function in made.items()}
         # The menu is the same for all pages of a folder.
         menu = found.get_template("menu.html")
         found.globals["menus"] = {up: Markup(menu.render(up=up)) for up in ("", "../")}
