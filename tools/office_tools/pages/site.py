@@ -12,7 +12,7 @@ import os
 import re
 import shutil
 from dataclasses import dataclass
-from typing import Any, Collection, Iterable, Iterator, Mapping, Optional, Sequence
+from typing import Any, Callable, Collection, Iterable, Iterator, Mapping, Optional, Sequence
 
 import jinja2
 from markupsafe import Markup
@@ -79,8 +79,9 @@ class Site:
         found = jinja2.Environment(
             loader=jinja2.FileSystemLoader(os.path.join(HERE, "templates")), autoescape=True, trim_blocks=True,
             lstrip_blocks=True, auto_reload=False, keep_trailing_newline=True, undefined=jinja2.StrictUndefined)
-        made = {"link": rows.piece_text, "pieces": rows.line_text, "told": rows.told_text, "verdict": rows.verdict,
-                "table_row": rows.table_row}
+        made: Mapping[str, Callable[..., str]] = {
+            "link": rows.piece_text, "pieces": rows.line_text, "told": rows.told_text, "verdict": rows.verdict,
+            "table_row": rows.table_row}
         found.globals |= {name: rows.shown(function) for name, function in made.items()}
         # The menu is the same for all pages of a folder.
         menu = found.get_template("menu.html")
