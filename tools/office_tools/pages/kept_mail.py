@@ -223,5 +223,6 @@ def read_of(office: Office, mail: KeptMail, sender: tuple[str, int], numbers: tu
         texts = []
         if time.monotonic() >= until:
             return number == numbers[1]
-    mail.keep(texts)
+    if texts:
+        mail.keep(texts)
     return True

@@ -180,9 +180,10 @@ class Site:
         All of it is on the disk before: so no failure of power leaves an empty page, and the file system needn't write
         each file out at its move.
         """
+        changed = {path for path, digest in self.digests_now.items() if self.digests.get(path) != digest}
         if self.written:
-            # From here on a later call knows them as pages that it may remove.
-            self.state.keep_digests({path: "" for path in self.written})
+            # From here on a later call knows them as pages that it may remove, and none as what it was before.
+            self.state.keep_digests({path: "" for path in changed.union(self.written)})
             sync(self.folder)
         for path in self.written:
             self.move(path)
@@ -190,7 +191,6 @@ class Site:
         for path in gone:
             with contextlib.suppress(FileNotFoundError):
                 os.unlink(os.path.join(self.folder, path))
-        changed = {path for path, digest in self.digests_now.items() if self.digests.get(path) != digest}
         self.state.keep_digests({path: self.digests_now[path] for path in changed.union(self.written)}, gone)
         self.state.keep_built(self.look + self.extras.digest)
         self.there.update(self.written)
@@ -319,18 +319,34 @@ class Site:
                 **values, "hints": some_hints, "list": parts, "is_first": parts[0].is_here}))
 
     def write_names(self, facts: views.Facts) -> None:
-        """All names of sources and packages: lists by their beginning, and what the search looks through."""
-        found = names.names_of(facts.names, facts.packages)
-        for path, data in names.index_files(facts.names, facts.packages).items():
+        """All names of sources and packages: lists by their beginning, and what the search looks through.
+
+        Most runs change none of them.
+        """
+        digest = digest_of([self.look, *sorted(facts.names), "", *map(" ".join, sorted(facts.packages.items()))])
+        paths = [path for path, before in self.digests.items() if before == digest]
+        if not paths or not all(os.path.exists(os.path.join(self.folder, path)) for path in paths):
+            paths = list(self.put_all(self.name_files(facts)))
+        self.digests_now.update(dict.fromkeys(paths, digest))
+
+    def put_all(self, files: Iterable[tuple[str, bytes]]) -> Iterator[str]:
+        """Writes files, and gives their paths."""
+        for path, data in files:
             self.put(path, data)
+            yield path
+
+    def name_files(self, facts: views.Facts) -> Iterator[tuple[str, bytes]]:
+        """The pages of names, and the search's index."""
+        yield from names.index_files(facts.names, facts.packages).items()
+        found = names.names_of(facts.names, facts.packages)
         lists = names.by_beginning(found)
         letters = {letter: f"names-{letter}.html" for letter in lists}
         values = {"letters": letters.items(), "number": len(found), "up": ""}
-        self.put("names.html", self.page("names.html", {**values, "here": "", "rows": (), "list": ()}))
+        yield "names.html", self.page("names.html", {**values, "here": "", "rows": (), "list": ()})
         for letter, some in lists.items():
             for link, parts, shown in parts_of(f"names-{letter}", [
                     RowText(one.name, text) for one, text in zip(some, rows.name_items(some))]):
-                self.put(link, self.page("names.html", {**values, "here": letter, "rows": shown, "list": parts}))
+                yield link, self.page("names.html", {**values, "here": letter, "rows": shown, "list": parts})
 
     def write_lists(self, facts: views.Facts) -> None:
         """The sources that don't move, all of them and by each reason, outcome and verdict, and last the first page."""

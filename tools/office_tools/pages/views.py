@@ -347,8 +347,10 @@ def source_of(facts: Facts, name: str, links: Links) -> Source:
 
 def quiet_texts(facts: Facts, name: str) -> Sequence[str]:
     """All that the page of a quiet source shows, by which it is known to be as it was."""
-    return (name, testing_version(facts, name), *facts.binaries.get(name, ()), repr(facts.last.get(name)),
-            repr(facts.people.get(name)))
+    last, person = facts.last.get(name), facts.people.get(name)
+    return (name, testing_version(facts, name), *facts.binaries.get(name, ()), "",
+            *((str(last.run), *last.standing) if last else ()), "",
+            *((person.maintainer, *person.uploaders) if person else ()))
 
 
 def cut(lines: Sequence[Line], command: str) -> Sequence[Line]:
