@@ -137,9 +137,9 @@ def run_row(run: Run, up: str = "") -> str:
 
 
 def testing_row(name: str, version: str, binaries: Sequence[str]) -> str:
-    """A source in testing, with its packages."""
-    return row((cell(source_link("", name)), cell(escaped(version), "Version"),
-                cell(escaped(", ".join(binaries) or "-"), "Packages")))
+    """A source in testing, with its packages. Its texts are in no other row, and are escaped at once."""
+    name, version, packages = str(escape("\n".join((name, version, ", ".join(binaries) or "-")))).split("\n")
+    return row((cell(f'<a href="source/{name}.html">{name}</a>'), cell(version, "Version"), cell(packages, "Packages")))
 
 
 def name_items(names: Sequence[Name]) -> Sequence[str]:

@@ -75,8 +75,9 @@ class Site:
 
     @functools.cached_property
     def templates(self) -> jinja2.Environment:
-        """The templates, each compiled once."""
+        """The templates, which the folder of what is kept has compiled."""
         found = jinja2.Environment(
+            bytecode_cache=jinja2.FileSystemBytecodeCache(os.path.dirname(os.path.abspath(self.state.path))),
             loader=jinja2.FileSystemLoader(os.path.join(HERE, "templates")), autoescape=True, trim_blocks=True,
             lstrip_blocks=True, auto_reload=False, keep_trailing_newline=True, undefined=jinja2.StrictUndefined)
         made: Mapping[str, Callable[..., str]] = {
