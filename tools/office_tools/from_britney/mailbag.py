@@ -23,16 +23,7 @@ from office_tools.messages import Kind, Role, Urgency, kind_of
 from office_tools.setups import Setup
 
 BUGS, HINTS = "bts", "rt"
-MOST_SPARES = 8  # of the 16 senders of a setup
 MOST_ARCHITECTURES = 16
-
-
-def spares(word: str) -> int:
-    """How many spare senders of builds there are, as a word of a command."""
-    found = int(word)
-    if not 0 <= found <= MOST_SPARES:
-        raise ValueError(word)
-    return found
 
 
 def setup_of(architectures: Sequence[str], count: int) -> Setup:

@@ -4,6 +4,7 @@ from typing import Iterator, Mapping, Optional, Sequence
 
 from office_tools import messages, versions
 from office_tools.bags import LONGEST
+from office_tools.counts import count
 from office_tools.from_packages import proposals
 from office_tools.from_packages.binaries import Binary
 from office_tools.from_packages.sent import Sent
@@ -20,8 +21,8 @@ MOST_SPARES = 8  # of the 16 senders of a setup, beside those above and `hand`
 
 def spares(word: str) -> int:
     """How many spare senders of builds there are, as a word of a command."""
-    found = int(word)
-    if not 0 <= found <= MOST_SPARES:
+    found = count(word)
+    if found > MOST_SPARES:
         raise ValueError(word)
     return found
 
