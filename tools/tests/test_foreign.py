@@ -77,9 +77,9 @@ BAG = b"".join(map(framed, (
 PIECES = (
     b"\x81", b"\xc3", b"\xff\xfe", b"\x00", b"\xc2\xa0", b"\xe2\x80\xa8", b"\x0b", b"\x0c", b"\x1c", b"\x85", b"\r",
     b"\r\n", b"\n\n", b"\n", b": ", b":", b" ", b"\t", b"-", b"#", b"(", b")", b"|", b",", b"=", b"<<", b"+b1", b"~",
-    b"9" * 30, b"99999999999999999999", b"+9999", b"x" * 300, b"\xf0\x9f\x92\xa9", b"\xed\xa0\x80", b"[", b"{",
-    b"-----BEGIN PGP SIGNED MESSAGE-----\n", b"Version: 1\n", b"Package: aa\n", b"Date: Sat, 01 Mar 0 0:0:0\n",
-    b"mail 5\n", b"mail 999999999\n", b"1e999", b"-1", b"[[[[", b"\"")
+    b"9" * 30, b"9" * 5000, b"99999999999999999999", b"+9999", b"x" * 300, b"\xf0\x9f\x92\xa9", b"\xed\xa0\x80",
+    b"[", b"{", b"-----BEGIN PGP SIGNED MESSAGE-----\n", b"Version: 1\n", b"Package: aa\n",
+    b"Date: Sat, 01 Mar 0 0:0:0\n", b"mail 5\n", b"mail 999999999\n", b"1e999", b"-1", b"[[[[", b"\"")
 
 
 def garbled(chance: random.Random, data: bytes) -> bytes:
