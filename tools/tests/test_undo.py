@@ -155,8 +155,9 @@ class Undo(unittest.TestCase):
         asked = argparse.Namespace(url=command.URL, cache=[pages, os.path.join(self.folder, "state")])
         with mock.patch.object(command, "DAY", day), mock.patch.object(command, "PAGES", pages), \
                 mock.patch.dict(os.environ, {"XDG_CACHE_HOME": self.folder + "/cache"}):
-            for mail, found in ((None, due), (world()[:3], due), ([b"From: x\nNumber: 1\nKind: none\n", *world()],
-                                                                 [path for path in due if not path.startswith(day)])):
+            others = [b"From: x\nNumber: 1\nKind: none\n", *world()]
+            left = [path for path in due if not path.startswith(day)]
+            for mail, found in ((None, due), (world()[:3], due), (others, left)):
                 if mail is not None:
                     with open(f"{day}/feed/bag", "wb") as file:
                         file.write(b"".join(map(bags.framed, mail)))
