@@ -19,7 +19,6 @@ from stage import Failed
 from world import Bug, Come, Hint, Kept, Leave, Unhint, day_text
 
 SKIP, OVER = "skip", "over"
-HOLDING = 8  # days for which what was pulled away behind an order may be held back
 Steps = Iterator[Optional[str]]
 Trouble = Callable[[Simulation], Steps]
 
@@ -99,7 +98,8 @@ def withdrawn(month: Simulation) -> Steps:
 
 
 def withdrawn_late(month: Simulation) -> Steps:
-    """An upload is accepted, and withdrawn before it is applied. All else is published, and the next version moves."""
+    """An upload is accepted, and withdrawn before it is applied. It alone is held back until the next version moves.
+    """
     kept = settled(month)
     before = dataclasses.replace(kept)
     renewed(month, kept, "critical")
@@ -107,7 +107,7 @@ def withdrawn_late(month: Simulation) -> Steps:
     month.look_at(ran_by("office-feed", *month.stage.feed_words(month.today, "--propose")), (0, 1))
     withdraw(month, kept, before)
     month.stage.archive.ready()
-    month.may_hold = month.number + HOLDING
+    month.lacks[kept.name] = month.number + 1
     month.books.held[kept.name] = before.version
     yield None
     yield None

@@ -124,6 +124,18 @@ class Feeds(Feeding):
         self.assertEqual(self.service.good_text("/update/4"), "update 4 2025-03-10\naccept app 1\n")
         self.assertIn("binary amd64 app 1+back1 app", self.service.good_text("/testing"))
 
+    def test_maintainers(self):
+        """An upload whose source has a maintainer in Sources says so; the office and its mail stay as they are."""
+        sources = ("--sources", self.file("Sources", "Package: lib\nVersion: 1\nMaintainer: Team <t@example.org>,\n"
+                                                     " Other <o@example.org>\n"))
+        self.assertEqual(self.feed(FIRST, "2025-03-03", *sources)[0][1], "ready 1 finished 1")
+        plain = b"From: ftp\nNumber: %d\nKind: upload\nSource: %s\nVersion: 1\nUrgency: medium\nDay: 2025-03-03\n"
+        self.assertEqual([self.service.kept_text("ftp", number) for number in (1, 2)],
+                         [plain % (1, b"app"), plain % (2, b"lib") +
+                          b"Maintainer: Team <t@example.org>, Other <o@example.org>\n"])
+        self.assertEqual(self.feed(FIRST, "2025-03-03", *sources)[0][0],
+                         "uploads 0, drops 0, builds 0, hints 0, unhints 0, orders 0")
+
     def test_order(self):
         self.assertEqual(self.feed(FIRST, "2025-03-03", "--no-order")[0][1], "ready 0 finished 0")
         self.assertEqual(self.feed(FIRST, "2025-03-03")[0][1], "ready 1 finished 1")

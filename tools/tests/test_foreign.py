@@ -18,7 +18,7 @@ from office_tools.feed.mailbox import Folder, Outgoing
 from office_tools.from_packages import sent, told
 from office_tools.from_packages.binaries import fitting, read_binaries
 from office_tools.from_packages.sources import Arrival, read_arrivals, read_sources
-from office_tools.messages import Label, Urgency, build, label_of
+from office_tools.messages import Label, Urgency, build, label_of, upload
 
 COUNT = int(os.environ.get("FOREIGN", "300"))
 SEED = int(os.environ.get("FOREIGN_SEED", "78"))
@@ -38,6 +38,7 @@ Pre-Depends: dpkg
 """
 SOURCES = b"""Package: lib
 Version: 1:2.0-1
+Maintainer: A <a@example.org>
 Extra-Source-Only: no
 
 Package: other
@@ -137,8 +138,11 @@ class Garbled(Reading):
 
     def test_sources(self):
         def read(path):
-            for version in read_sources([path], []).values():
+            found = read_sources([path], [])
+            for name, version in found.versions.items():
                 relations.checked_version(version)
+                text = upload(Label("ftp", 1), name, version, Urgency.LOW, "2025-03-01", found.maintainers.get(name))
+                self.assertEqual(label_of(text), Label("ftp", 1))
         self.each(SOURCES, read)
 
     def test_changes(self):

@@ -111,7 +111,8 @@ def unstable_of(files: archive.Files) -> Unstable:
     if not architectures:
         raise Fault("the indexes have no package", REFUSED)
     binaries = list(fitting(found))
-    return Unstable(read_sources(files.sources, binaries), binaries, architectures)
+    sources = read_sources(files.sources, binaries)
+    return Unstable(sources.versions, binaries, architectures, sources.maintainers)
 
 
 @dataclass(frozen=True)

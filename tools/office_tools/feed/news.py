@@ -29,11 +29,12 @@ GONE = "Gone"
 
 @dataclass(frozen=True)
 class Unstable:
-    """What the archive has in unstable: each source's version, and the binary packages."""
+    """What the archive has in unstable: each source's version, the binary packages, and who maintains the sources."""
 
     sources: Mapping[str, str]
     binaries: Sequence[Binary]
     architectures: Sequence[str]
+    maintainers: Mapping[str, str] = field(default_factory=dict)
 
 
 @dataclass(frozen=True)
@@ -92,7 +93,7 @@ class Ways:
 def news(unstable: Unstable, box: Mailbox, told: Told, ways: Ways) -> tuple[News, Mapping[Key, str]]:
     """What the archive has and the mail doesn't tell; and the packages that are gone, for the brakes."""
     look_at(unstable, box)
-    archive = Archive(unstable.sources, unstable.binaries, box.known, told.testing)
+    archive = Archive(unstable.sources, unstable.binaries, box.known, told.testing, unstable.maintainers)
     retold = came_back(archive, ways.back)
     again = rebuilds(archive, box, retold) if ways.with_rebuilds else Rebuilds()
     staying = stay(archive, box, retold, again) if ways.is_smooth else set()
@@ -148,7 +149,7 @@ def uploads(archive: Archive, box: Mailbox, retold: Retold, ways: Ways) -> Itera
         if arrival is not None:
             number += 1
             yield messages.upload(Label(UPLOADS, number), name, retold.sources.get(name, version), arrival.urgency,
-                                  arrival.day)
+                                  arrival.day, archive.maintainers.get(name))
     for name, version in sorted(retold.staying.items()):
         if archive.known.versions.get(name) != version:
             number += 1
