@@ -29,7 +29,7 @@ from office_tools.mirror import held  # noqa: E402
 
 MODULES: Mapping[str, str] = {"bugs": "bugs.command", "mend": "mend", "tests": "autopkgtests.command"}
 """Where a tool's words are read, if it isn't in the module `command` of its own folder."""
-CACHED = {"bag": "bag", "known": "known.json", "memory": "memory.json"}
+CACHED = {"bag": "bag", "known": "known.json", "memory": "memory.json", "indexes": "indexes.json"}
 STATUSES = range(5)
 SECONDS = 60
 DAY = "2025-03-06"
@@ -249,6 +249,7 @@ class Bench:
             "heidi": [Reading(kind, (*take, "heidi", kind))],
             "known": [Reading("cache/known.json", (*feeds, "packages"))],
             "memory": [Reading("cache/memory.json", (*feeds, "packages"))],
+            "indexes": [Reading("cache/indexes.json", (*feeds, "packages"))],
             "bugs": [Reading(kind, ("bugs", "--url", self.url, "--dry-run", kind, "tests")),
                      Reading(kind, ("bugs", "--url", self.url, "--dry-run", "bugs", kind))],
             "tests": [Reading(kind, ("tests", "--url", self.url, "--dry-run", kind))],

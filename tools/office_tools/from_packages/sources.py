@@ -5,7 +5,7 @@ from dataclasses import dataclass, field
 from typing import Callable, Mapping, Optional, Sequence, TypeVar
 
 from office_tools import relations, versions
-from office_tools.control import Changes, read_changes, sections
+from office_tools.control import Changes, Reader, read_changes, sections
 from office_tools.faults import Fault, cause_of
 from office_tools.from_packages.binaries import Binary
 from office_tools.from_packages.told import Weight, tell
@@ -42,14 +42,14 @@ class Sources:
         return Sources({name: version for name, version in self.versions.items() if name in names}, self.maintainers)
 
 
-def read_sources(paths: Sequence[str], binaries: Sequence[Binary]) -> Sources:
+def read_sources(paths: Sequence[str], binaries: Sequence[Binary], read: Reader = sections) -> Sources:
     """The sources, each at the newest version that a package or a file Sources names."""
     found = Sources()
     known = found.versions
     for binary in binaries:
         put_newer(known, binary.source, binary.source_version)
     for path in paths:
-        for fields in sections(path, ["Package", "Version", "Extra-Source-Only", MAINTAINER]):
+        for fields in read(path, ["Package", "Version", "Extra-Source-Only", MAINTAINER]):
             name, version = fields.get("Package", ""), fields.get("Version", "")
             try:
                 relations.checked_name(name, "Package")
