@@ -256,7 +256,8 @@ def settings(stage: Stage, setup: str) -> str:
             os.path.join(stage.folder, "cache"), *(word for line in lines for word in ("--apt", line))]
     fields = {"Url": stage.url or stage.office.url, "Setup": setup, "State": os.path.join(stage.folder, "state"),
               "Pull": shlex.join(stage.archive.pull_words()), "Feed": shlex.join(feed),
-              "Apply": shlex.join(stage.archive.apply_words())}
+              "Apply": shlex.join(stage.archive.apply_words()),
+              **({"Bugs": shlex.join(stage.bugs)} if stage.bugs else {})}
     path = os.path.join(stage.folder, "day.conf")
     with open(path, "w", encoding="utf-8") as file:
         file.write("".join(f"{name}: {value}\n" for name, value in fields.items()))
