@@ -616,8 +616,8 @@ USUAL: Mapping[int, Sequence[Trouble]] = {
     2: [withdrawn, bad_changes], 3: [without_source, twice], 4: [conflict], 5: [third_rebuild], 6: [short_index],
     7: [listed], 8: [killed_feed, chain], 9: [by_hand], 10: [withdrawn_late, two_orders], 11: [restored],
     13: [killed_manager], 14: [missed_apply, own_date, bad_hint], 15: [undecided], 16: [came_back, left_lock],
-    17: [put_back_old], 18: [strange_blank, strange_field], 19: [killed_service, hasty], 20: [needed_gone, gap], 21: [nothing_run],
-    24: [clock_back, truncated], 25: [full_disk]}
+    17: [put_back_old], 18: [strange_blank, strange_field], 19: [killed_service, hasty], 20: [needed_gone, gap],
+    21: [nothing_run], 24: [clock_back, truncated], 25: [full_disk]}
 BRIEF: Mapping[int, Sequence[Trouble]] = {
     1: [withdrawn, bad_changes], 2: [restored, conflict], 3: [short_index], 4: [listed],
     5: [killed_feed, strange_blank], 6: [gap]}
