@@ -11,7 +11,7 @@ from typing import Mapping, NamedTuple, Optional, Sequence, Union
 from office_tools.faults import Fault
 
 NAME = r"[a-z0-9][a-z0-9+.-]+"
-HEAD = r"%s (\d+) (\d{4}-\d{2}-\d{2})"
+HEAD = r"%s (\d{1,9}) (\d{4}-\d{2}-\d{2})"
 
 
 class ReasonKind(enum.Enum):
@@ -200,7 +200,7 @@ class Run:
 
 REASON_FORMS: Sequence[tuple[re.Pattern[str], ReasonKind]] = (
     (re.compile("too young"), ReasonKind.TOO_YOUNG),
-    (re.compile(r"new bug (?P<bug>\d+)"), ReasonKind.NEW_BUG),
+    (re.compile(r"new bug (?P<bug>\d{1,9})"), ReasonKind.NEW_BUG),
     (re.compile("no binaries"), ReasonKind.NO_BINARIES),
     (re.compile(r"missing on (?P<architecture>\S+)"), ReasonKind.MISSING),
     (re.compile("blocked"), ReasonKind.BLOCKED),
@@ -212,24 +212,25 @@ LEFT = r"uninstallable (?P<architecture>\S+) (?P<package>\S+)"
 CHANGE_FORMS: Sequence[tuple[re.Pattern[str], Word, Outcome]] = (
     (re.compile(r"accept (?P<items>\S+ \S+)"), Word.ACCEPT, Outcome.ACCEPTED),
     (re.compile(r"wait (?P<items>\S+ \S+) " + LEFT), Word.WAIT, Outcome.WAITS),
-    (re.compile(r"remove (?P<hint>\d+) accept (?P<items>\S+ \S+)"), Word.REMOVE, Outcome.ACCEPTED),
-    (re.compile(r"remove (?P<hint>\d+) refuse (?P<items>\S+ \S+) " + LEFT), Word.REMOVE, Outcome.UNINSTALLABLE),
-    (re.compile(r"easy (?P<hint>\d+) accept " + ITEMS), Word.EASY, Outcome.ACCEPTED),
-    (re.compile(r"easy (?P<hint>\d+) refuse (?P<item>[^ /]+/\S+) not a candidate"), Word.EASY, Outcome.NO_CANDIDATE),
-    (re.compile(r"easy (?P<hint>\d+) refuse " + LEFT), Word.EASY, Outcome.UNINSTALLABLE))
+    (re.compile(r"remove (?P<hint>\d{1,9}) accept (?P<items>\S+ \S+)"), Word.REMOVE, Outcome.ACCEPTED),
+    (re.compile(r"remove (?P<hint>\d{1,9}) refuse (?P<items>\S+ \S+) " + LEFT), Word.REMOVE, Outcome.UNINSTALLABLE),
+    (re.compile(r"easy (?P<hint>\d{1,9}) accept " + ITEMS), Word.EASY, Outcome.ACCEPTED),
+    (re.compile(r"easy (?P<hint>\d{1,9}) refuse (?P<item>[^ /]+/\S+) not a candidate"), Word.EASY,
+     Outcome.NO_CANDIDATE),
+    (re.compile(r"easy (?P<hint>\d{1,9}) refuse " + LEFT), Word.EASY, Outcome.UNINSTALLABLE))
 
-RUN_FORM = (r"run (\d+) (\d{4}-\d{2}-\d{2}) excuses (\d+) candidates (\d+) accept (\d+) easy (\d+) remove (\d+) "
-            r"wait (\d+)")
+RUN_FORM = (r"run (\d{1,9}) (\d{4}-\d{2}-\d{2}) excuses (\d{1,9}) candidates (\d{1,9}) accept (\d{1,9}) "
+            r"easy (\d{1,9}) remove (\d{1,9}) wait (\d{1,9})")
 
 
 EXCUSE_FORM = re.compile(rf"({NAME}) (\S+) (\S+)")
-AGE_FORM = re.compile(r" age (\d+) of (\d+)")
+AGE_FORM = re.compile(r" age (\d{1,9}) of (\d{1,9})")
 END_FORM = re.compile(" (not a )?candidate")
 REASON_FORM = re.compile(r" (\S.*)")
 SOURCE_FORM = re.compile(rf"^source ({NAME}) (\S+)$", re.M)
 ROW_FORM = re.compile(r"^binary (\S+) (\S+) (\S+) (\S+)$", re.M)
 
-HINT_FORM = (r"(\S+) (\d+) (covered|new) (\S+(?: \d+)?) (\S+): "
+HINT_FORM = (r"(\S+) (\d{1,9}) (covered|new) (\S+(?: \d{1,9})?) (\S+): "
              r"(?:(in force|moved|no source)|unstable (\S+))")
 
 
@@ -362,7 +363,7 @@ def items_of(part: Mapping[str, str]) -> Sequence[Item]:
 def read_testing(text: str, name: str = "testing") -> Testing:
     """What is in testing."""
     lines = Lines(text, name)
-    finished = int(lines.need(r"testing (\d+)", "the line `testing F`")[1])
+    finished = int(lines.need(r"testing (\d{1,9})", "the line `testing F`")[1])
     sources = read_sources(lines)
     first = lines.place
     rows = read_rows(lines)
@@ -376,7 +377,7 @@ def read_testing(text: str, name: str = "testing") -> Testing:
 def read_unstable(text: str, name: str = "unstable") -> Unstable:
     """What is in unstable."""
     lines = Lines(text, name)
-    finished = int(lines.need(r"unstable (\d+)", "the line `unstable F`")[1])
+    finished = int(lines.need(r"unstable (\d{1,9})", "the line `unstable F`")[1])
     return Unstable(finished, read_sources(lines), read_rows(lines))
 
 
@@ -396,7 +397,7 @@ def read_rows(lines: Lines) -> Sequence[Row]:
 def read_hints(text: str, name: str = "hints") -> Hints:
     """The hints in force, as `office hints` and `GET /hints` print them."""
     lines = Lines(text, name)
-    finished = int(lines.need(r"hints (\d+)", "the line `hints F`")[1])
+    finished = int(lines.need(r"hints (\d{1,9})", "the line `hints F`")[1])
     sender: Optional[str] = None
     items = []
     while lines.is_left():

@@ -6,6 +6,7 @@ from dataclasses import dataclass
 from typing import Collection, Iterable, Mapping, Optional, Sequence
 
 from office_tools import reports
+from office_tools.counts import FORM
 from office_tools.faults import Fault, tell
 from office_tools.pages.offices import finished_in, NAME, Office
 from office_tools.pages.outcomes import NOTHING, outcome_in, outcomes_of, SourceOutcome, What
@@ -257,6 +258,6 @@ def hints_named(lines: Iterable[str]) -> Iterable[int]:
     """The numbers of the hints that the lines of an answer name as messages."""
     for line in lines:
         words = line.split(" ")
-        if len(words) > 3 and words[-3] == "by" and words[-1].isdigit() and line.startswith(
+        if len(words) > 3 and words[-3] == "by" and FORM.fullmatch(words[-1]) and line.startswith(
                 ("blocked ", "removal asked ", "old enough ")):
             yield int(words[-1])

@@ -5,6 +5,7 @@ from dataclasses import dataclass
 from typing import Iterable, Mapping, Optional, Sequence
 
 from office_tools import messages, reports
+from office_tools.counts import FORM
 from office_tools.messages import Label
 from office_tools.pages.fetching import NEXT_HINT, PROPOSED
 from office_tools.pages.sentences import refused_because
@@ -155,7 +156,7 @@ def next_label(state: State) -> Optional[Label]:
     """The sender of hints and its next number, if they are known."""
     told = state.told(NEXT_HINT)
     sender, _, number = told[1].partition(" ") if told else ("", "", "")
-    return Label(sender, int(number)) if number.isdigit() else None
+    return Label(sender, int(number)) if FORM.fullmatch(number) else None
 
 
 def proposed_copies(lines: Sequence[str], label: Optional[Label]) -> Sequence[Copy]:
