@@ -37,7 +37,8 @@ class Counts(unittest.TestCase):
     def test_words(self):
         """Each command says that its words are wrong, whatever number of digits they have."""
         for name, *words in WORDS:
-            module = importlib.import_module("office_tools." + (name if name in ("mend", "order") else name + ".command"))
+            place = name if name in ("mend", "order") else name + ".command"
+            module = importlib.import_module("office_tools." + place)
             with self.subTest(name=name, words=[word[:30] for word in words]):
                 _, told, status = tool_here("office-" + name, module.main, *words)
                 self.assertEqual((status, bool(told)), (2, True), told[-300:])
