@@ -18,11 +18,7 @@ use office_mail::{Feed, Setup, Sink};
 use office_store_keeper::Keeper;
 
 /// Refuses a request for another host.
-fn refuse_host<W: Sink>(
-    setup: &Setup,
-    is_head: bool,
-    writer: &mut W,
-) -> Result<Served, ServeFault>
+fn refuse_host<W: Sink>(setup: &Setup, is_head: bool, writer: &mut W) -> Result<Served, ServeFault>
     ensures code { IfOk result (λ served. served.code ≡ Some 403) }
     ensures ok { OnOk result (Appends (W.written writer.old) (W.written writer.new) (reply_bytes (refused Refusal.OtherHost) is_head)) }
     ensures err { OnErr result (AppendsFront (W.written writer.old) (W.written writer.new) (reply_bytes (refused Refusal.OtherHost) is_head)) }
