@@ -1,11 +1,12 @@
 #!/usr/bin/env python3
-"""Draws docs/layers.svg, the crates by layers, and docs/way.svg, the way of one message.
+"""Draws docs/layers.svg, the crates by layers, docs/way.svg, the way of one message, and docs/day.svg, a day's flow.
 
 usage: diagrams.py [TOP] [--write | --check]
 
 The layers and what each crate uses are those of crates.txt; a use that follows from others isn't drawn. The way is the
-table "The way of one message" of docs/ARCHITECTURE.md. Each drawing ends with the checksum of what it was drawn from.
-  --write  draws both by Graphviz (dot)
+table "The way of one message" of docs/ARCHITECTURE.md, and the steps of a day are those of docs/ARCHIVE.md. Each
+drawing ends with the checksum of what it was drawn from.
+  --write  draws them by Graphviz (dot)
   --check  a line for each drawing that was drawn from something else; status 1 if there is one
 """
 import hashlib
@@ -15,6 +16,10 @@ import sys
 from pathlib import Path
 
 STYLE = 'node [shape=box, fontname="sans-serif", fontsize=11, height=0.3]; edge [arrowsize=0.6];'
+
+FLOWS = (('unstable', 'ordered', 'Pull'), ('ordered', 'office', 'office-feed'), ('lists', 'office', 'office-bugs'),
+         ('ordered', 'office', 'office-look'), ('office', 'testing', 'office-apply'))
+"""What each step of a day takes from where to where, by a word of its name."""
 
 
 def layers(text):
@@ -63,11 +68,29 @@ def way_dot(top):
     return '\n'.join(lines + ['}', ''])
 
 
+def day_dot(top):
+    """The steps of a day, each numbered at the way of what it moves."""
+    table = re.search(r'(?ms)^\| Step \| What it does \|$.*?\n\n', (top / 'docs' / 'ARCHIVE.md').read_text())
+    steps = [step.replace('`', '') for step in re.findall(r'(?m)^\| ([^|-]+[^|]*?) \|', table[0] if table else '')[1:]]
+    lines = ['digraph day {', 'rankdir=LR; fontname="sans-serif"; edge [fontname="sans-serif", fontsize=10];', STYLE,
+             'subgraph cluster_archive { label="the archive"; color=gray; unstable; ordered; testing; }',
+             'lists [label="lists of bugs,\\nresults of tests"]; office [label="the office", style=bold];']
+    drawn = set()
+    for source, target, word in FLOWS:
+        places = [place for place, step in enumerate(steps) if word in step]
+        drawn.update(places)
+        names = dict.fromkeys(steps[place] for place in places)
+        lines.append(f'{source} -> {target} [label="{" and ".join(str(place + 1) for place in places)}. {", ".join(names)}"];')
+    if drawn != set(range(len(steps))) or not steps:
+        sys.exit(f'docs/ARCHIVE.md: no flow is known for the steps {steps}')
+    return '\n'.join(lines + ['}', ''])
+
+
 def main():
     words = [word for word in sys.argv[1:] if not word.startswith('--')]
     top = Path(words[0] if words else Path(__file__).resolve().parents[1])
     stale = []
-    for name, dot in (('layers', layers_dot(top)), ('way', way_dot(top))):
+    for name, dot in (('layers', layers_dot(top)), ('way', way_dot(top)), ('day', day_dot(top))):
         page = top / 'docs' / f'{name}.svg'
         end = f'<!-- drawn from {hashlib.sha256(dot.encode()).hexdigest()} -->\n'
         if '--write' in sys.argv:

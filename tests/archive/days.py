@@ -1,7 +1,7 @@
 """The days of the tests: what comes to unstable and goes, what is sent by hand, and what each run has to do.
 
-The lines of the updates are worked out by hand from docs/RULES.md, part 12. Each of the ways of docs/ARCHIVE.md is one
-of these days.
+The lines of the updates are worked out by hand from docs/RULES.md, part 12; an upload is as old as its first feed. Each
+of the ways of docs/ARCHIVE.md is one of these days.
 """
 from dataclasses import dataclass
 from typing import Optional, Sequence
@@ -16,7 +16,7 @@ class Day:
     """A day: `gone` are sources, `less` binary packages, on an architecture or on all, that leave unstable.
 
     `words` are further ones of office-feed. Its run leaves something to be sent, where it isn't settled: sources that
-    have to leave testing next.
+    have to leave testing next, or hints that are done.
     """
 
     title: str
@@ -80,14 +80,15 @@ DAYS: Sequence[Day] = (
         mail=[hint("easy base/12-1 libbase/3-1"), hint("easy cyca/1-1 cycb/1-1"), hint("age-days 3 app2/2.0-1")]),
     Day("a library with a new name is too young", "2025-03-10", ["accept lone 0.2-1"], MARCH_9,
         mail=[unhint(1), unhint(2)]),
-    Day("and waits alone", "2025-03-14", [
+    Day("and waits alone", "2025-03-15", [
         "wait app1 1.1-1 uninstallable amd64 app1", "wait app2 2.0-2 uninstallable amd64 app2",
         "wait libfoo 2.0-1 uninstallable amd64 app1"]),
-    Day("and moves with all that needs it", "2025-03-15", ["easy 6 accept libfoo 2.0-1 app1 1.1-1 app2 2.0-2"],
+    Day("and moves with all that needs it", "2025-03-16", ["easy 6 accept libfoo 2.0-1 app1 1.1-1 app2 2.0-2"],
         mail=[hint("easy libfoo/2.0-1 app1/1.1-1 app2/2.0-2")]),
     Day("a source leaves unstable; a test that failed is a bug", "2025-03-17", ["remove 8 accept tool 1-1"], MARCH_16,
         gone=["tool"], less=[("libfoo1", None)],
-        mail=[unhint(6), ("bts", "bug", "Bug: 900000001", "Source: lone", "Severity: serious", "Found: 0.3-1")]),
+        mail=[unhint(6), ("bts", "bug", "Bug: 900000001", "Source: lone", "Severity: serious", "Found: 0.3-1")],
+        is_settled=False),
     Day("half of a source can't be installed; the test is tried again", "2025-03-18",
         ["accept lone 0.3-1", DUO_WAITS], [DUO],
         mail=[("bts", "bug", "Bug: 900000001", "Source: lone", "Severity: wishlist", "Found: 0.3-1")]),
@@ -103,11 +104,11 @@ DAYS: Sequence[Day] = (
               ("again1", "build", row("libfoo2", "2.0-1", "amd64", "smooth-libfoo2"),
                row("libfoo2", "2.0-1", "arm64", "smooth-libfoo2"))]),
     Day("until nothing needs it", "2025-03-21",
-        ["remove 9 refuse smooth-libfoo2 2.0-1 uninstallable amd64 app2", "accept app2 2.0-3", DUO_WAITS],
+        ["remove 10 refuse smooth-libfoo2 2.0-1 uninstallable amd64 app2", "accept app2 2.0-3", DUO_WAITS],
         [APP2_LAST], less=[("libfoo2", None)], mail=[hint("remove smooth-libfoo2/2.0-1")]),
     Day("a package leaves one architecture; a cycle leaves", "2025-03-24",
-        ["remove 9 accept smooth-libfoo2 2.0-1", "accept cyca 1-1+gone", "accept cycb 1-1+gone", "accept mailer 5-2+b1",
-         DUO_WAITS],
+        ["remove 10 accept smooth-libfoo2 2.0-1", "accept cyca 1-1+gone", "accept cycb 1-1+gone",
+         "accept mailer 5-2+b1", DUO_WAITS],
         gone=["cyca", "cycb"], less=[("mailer", "arm64")],
         mail=[upload("mailer", "5-2+b1", "2025-03-24"),
               ("again1", "build", row("mailer", "5-2", "amd64", "mailer (5-2+b1)", "mta (>= 1)")),
@@ -115,5 +116,6 @@ DAYS: Sequence[Day] = (
               ("again1", "build", row("cyca", "1-1+gone", "amd64", "cyca"), row("cyca", "1-1+gone", "arm64", "cyca"),
                row("cycb", "1-1+gone", "amd64", "cycb"), row("cycb", "1-1+gone", "arm64", "cycb"))],
         is_settled=False),
-    Day("as one", "2025-03-26",
-        ["remove 10 accept cyca 1-1+gone", "remove 11 accept cycb 1-1+gone", "accept guide 6-1", DUO_WAITS]))
+    Day("as one", "2025-03-27",
+        ["remove 11 accept cyca 1-1+gone", "remove 12 accept cycb 1-1+gone", "accept guide 6-1", DUO_WAITS],
+        is_settled=False))

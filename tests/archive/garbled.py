@@ -10,6 +10,7 @@ kept, and named with the command. The exit status is 1 if there is one.
 import importlib
 import os
 import random
+import re
 import shutil
 import signal
 import subprocess
@@ -28,10 +29,11 @@ from office_tools.mirror import held  # noqa: E402
 
 MODULES: Mapping[str, str] = {"bugs": "bugs.command", "mend": "mend", "tests": "autopkgtests.command"}
 """Where a tool's words are read, if it isn't in the module `command` of its own folder."""
-CACHED = {"bag": "bag", "known": "known.json", "memory": "memory.json"}
+CACHED = {"bag": "bag", "known": "known.json", "memory": "memory.json", "indexes": "indexes.json"}
 STATUSES = range(5)
 SECONDS = 60
 DAY = "2025-03-06"
+NUMBER = re.compile(b"[0-9]+")
 
 PACKAGES = b"""Package: aa
 Version: 1.0-1
@@ -85,8 +87,9 @@ Files:
  d41d8cd98f00b204e9800998ecf8427e 0 misc optional aa_1.0-1.dsc
 """
 BUGS = b"aa 1001,1002\nbb 1003\n"
-TESTS = b"""[{"package": "aa", "suite": "unstable", "architecture": "amd64", "version": "1.0-1", "status": "fail",
-  "last_pass_version": "0.9-1"}, {"package": "bb", "suite": "testing", "version": "1:2.0-1", "status": "pass"}]
+TESTS = b"""[{"package": "aa", "suite": "unstable", "arch": "amd64", "version": "1.0-1", "status": "fail",
+  "trigger": "aa/1.0-1", "date": "2025-03-05T10:00:00.000Z"}, {"package": "bb", "suite": "testing", "arch": "amd64",
+  "version": "1:2.0-1", "status": "pass", "trigger": null, "date": "2025-03-05T10:00:00.000Z"}]
 """
 SETTINGS = b"""Url: http://127.0.0.1:9
 Setup: setup
@@ -94,6 +97,8 @@ State: states
 Feed: --rebuilds packages
 Apply: heidi out/heidi dists
 Look: dists
+Bugs: --close 3 bugs bugs
+Tests: tests
 Patience: 30
 """
 HEIDI = b"aa 1.0-1 source\naa 1.0-1 amd64\ndd 0~rc1 all\n"
@@ -101,8 +106,9 @@ HEIDI = b"aa 1.0-1 source\naa 1.0-1 amd64\ndd 0~rc1 all\n"
 TOKENS = (
     b"\xc3:", b"\xc3\xa9", b"\xff", b"\0", b"\xc2\xa0", b"\r", b"\r\n", b"\n", b"\n\n", b"\n ", b"\t", b"\x0b",
     b"\x1c", b"\xe2\x80\xa8", b":", b": ", b",", b"|", b"(", b")", b"((", b"<<", b"[amd64]", b"<!x>", b"~", b"+", b"-",
-    b"1:", b"0", b"-1", b"99999999999999999999", b"1e999", b"NaN", b"Infinity", b"null", b"{", b"[", b"[" * 3000, b"]",
-    b'"', b"\\u0000", b"\\ud800", b"#", b"mail ", b"mail 5\n", b"mail 999999999\n", b"From: ftp\n", b"Package: ",
+    b"1:", b"0", b"-1", b"99999999999999999999", b"9" * 5000, b"1e999", b"NaN", b"Infinity", b"null",
+    b"{", b"[", b"[" * 3000, b"]", b'"', b"\\u0000", b"\\ud800", b"#", b"mail ", b"mail 5\n", b"mail 999999999\n",
+    b"From: ftp\n", b"Package: ",
     b"Version: ", b"=?utf-8?q?x?=", b"-----BEGIN PGP SIGNED MESSAGE-----\n\n", b"-----BEGIN PGP SIGNATURE-----\n",
     b"\x1f\x8b", b"\xfd7zXZ\0", b"BZh9", b"x" * 5000, b"../../etc/passwd", b"\x1b[2J", b"\xef\xbb\xbf", b"\xff\xfe")
 
@@ -147,6 +153,15 @@ def value(random_: random.Random, text: bytes) -> bytes:
     return b"\n".join(lines)
 
 
+def number(random_: random.Random, text: bytes) -> bytes:
+    """Thousands of digits in the place of a number."""
+    numbers = list(NUMBER.finditer(text))
+    if not numbers:
+        return inserted(random_, text)
+    found = random_.choice(numbers)
+    return text[:found.start()] + b"9" * 5000 + text[found.end():]
+
+
 def without(random_: random.Random, text: bytes) -> bytes:
     """A part less."""
     first, last = part(random_, text)
@@ -178,8 +193,8 @@ def noise(random_: random.Random, text: bytes) -> bytes:
 
 
 WAYS: Sequence[Callable[[random.Random, bytes], bytes]] = (
-    flipped, flipped, flipped, inserted, inserted, inserted, inserted, value, value, value, without, doubled, cut,
-    swapped, noise)
+    flipped, flipped, flipped, inserted, inserted, inserted, inserted, value, value, value, number, without, doubled,
+    cut, swapped, noise)
 
 
 @dataclass(frozen=True)
@@ -234,6 +249,7 @@ class Bench:
             "heidi": [Reading(kind, (*take, "heidi", kind))],
             "known": [Reading("cache/known.json", (*feeds, "packages"))],
             "memory": [Reading("cache/memory.json", (*feeds, "packages"))],
+            "indexes": [Reading("cache/indexes.json", (*feeds, "packages"))],
             "bugs": [Reading(kind, ("bugs", "--url", self.url, "--dry-run", kind, "tests")),
                      Reading(kind, ("bugs", "--url", self.url, "--dry-run", "bugs", kind))],
             "tests": [Reading(kind, ("tests", "--url", self.url, "--dry-run", kind))],

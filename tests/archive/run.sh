@@ -6,8 +6,8 @@
 #
 # OFFICE is the built program. What lacks of Debian's packages is installed first, where this is run by root. Four parts
 # run at once: all days over reprepro and over aptly (loop.py), ends by force (kills.py), and adoption, looks before
-# orders and days of office-day (ways.py). With `planted` the tests are tested instead, by commands that have a fault (planted.py). The exit
-# status is 0 where all is as it is due, 1 where something isn't, 2 where the words or the tools lack.
+# orders and days of office-day (ways.py). With `planted` the tests are tested instead, by commands that have a fault
+# (planted.py). The exit status is 0 if all is as it is due, 1 if something isn't, 2 if the words or the tools are wrong.
 set -u
 if [ $# -lt 1 ] || [ $# -gt 2 ] || [ ! -x "$1" ] || [ "${2:-planted}" != planted ]; then
     echo "usage: $0 OFFICE [planted]" >&2

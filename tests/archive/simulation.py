@@ -23,7 +23,7 @@ PATIENCE = 3  # days that a source may wait for no known reason: a group may nee
 NAMED = re.compile(r"['`](office[- ][^'`]+)['`]")
 ALLOWED = re.compile(r"^office-day: (feed|look|apply): .*(?:allow (?:it|the gap) by (--[a-z-]+(?: [a-z0-9-]+)?)"
                      r"|unless (--[a-z-]+(?: [0-9]+)?) allows it)", re.MULTILINE)
-HELD = re.compile(r"held back: ([a-z0-9+.-]+)")
+HELD = re.compile(r"^office-day: stands still: (?:for [0-9]+ days?: )?apply: held back: ([a-z0-9+.-]+)", re.MULTILINE)
 TROUBLE = re.compile(r"Traceback|Segmentation|core dumped|panicked")
 
 
@@ -78,7 +78,8 @@ class Simulation:
     books: Books = field(default_factory=Books)
     testing: Testing = field(default_factory=Testing)
     hints: dict[str, int] = field(default_factory=dict)  # the numbers of hints, by their titles
-    may_hold: int = 0  # the last day on which the archive may lack what an order saw
+    lacks: dict[str, int] = field(default_factory=dict)
+    """The sources that the archive lacks as an order saw them, each with the last day of that."""
     sourceless: set[str] = field(default_factory=set)  # packages whose source the archive never had
     has_disk: bool = False
     problems: list[str] = field(default_factory=list)
@@ -195,9 +196,12 @@ class Simulation:
         return Testing.of(archived(self.stage.archive))
 
     def same_as_office(self, lines: set[str]) -> None:
-        """What is published is the office's testing, but for what is held back since the archive lacks it."""
+        """What is published is the office's testing, but for what the archive lacks: that alone is held back."""
         want = due(self.stage.office.rows())
-        held = set(HELD.findall(self.said)) if self.number <= self.may_hold else set()
+        held = {source for source, last in self.lacks.items() if self.number <= last}
+        told = set(HELD.findall(self.said))
+        if told != held:
+            self.problem(f"held back is {sorted(told)}, and {sorted(held)} is due\n{self.said[-1500:]}")
         differ = {line for line in want ^ lines if not self.is_excused(line, held)}
         if differ:
             self.problem(f"published and the office's differ: {sorted(differ)[:6]}, missing "
@@ -252,7 +256,8 @@ def settings(stage: Stage, setup: str) -> str:
             os.path.join(stage.folder, "cache"), *(word for line in lines for word in ("--apt", line))]
     fields = {"Url": stage.url or stage.office.url, "Setup": setup, "State": os.path.join(stage.folder, "state"),
               "Pull": shlex.join(stage.archive.pull_words()), "Feed": shlex.join(feed),
-              "Apply": shlex.join(stage.archive.apply_words())}
+              "Apply": shlex.join(stage.archive.apply_words()),
+              **({"Bugs": shlex.join(stage.bugs)} if stage.bugs else {})}
     path = os.path.join(stage.folder, "day.conf")
     with open(path, "w", encoding="utf-8") as file:
         file.write("".join(f"{name}: {value}\n" for name, value in fields.items()))

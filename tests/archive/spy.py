@@ -1,4 +1,5 @@
 """A proxy between a feed and the office: it sees each text that is sent, and ends the feed at a message."""
+import contextlib
 import http.server
 import os
 import signal
@@ -33,8 +34,9 @@ class Spy:
                 """Says nothing."""
 
             def do_GET(self) -> None:
-                """Asks the office."""
-                self.tell(*spy.ask(self.path, None))
+                """Asks the office. If that was ended, the connection ends without a reply."""
+                with contextlib.suppress(OSError):
+                    self.tell(*spy.ask(self.path, None))
 
             def do_POST(self) -> None:
                 """Sees a message, and hands it on."""
@@ -42,9 +44,10 @@ class Spy:
                 is_mail = self.path.startswith("/mail")
                 if is_mail and spy.is_ended(text, False):
                     return
-                answer = spy.ask(self.path, text)
-                if not is_mail or not spy.is_ended(text, True):
-                    self.tell(*answer)
+                with contextlib.suppress(OSError):
+                    answer = spy.ask(self.path, text)
+                    if not is_mail or not spy.is_ended(text, True):
+                        self.tell(*answer)
 
             def tell(self, status: int, body: bytes) -> None:
                 """Answers."""

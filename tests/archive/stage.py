@@ -346,7 +346,9 @@ class Aptly:
 
 @dataclass
 class Stage:
-    """An office and an archive, fed and applied day by day. The feed asks for `url`, where it is stated."""
+    """An office and an archive, fed and applied day by day. The feed asks for `url`, where it is stated. `bugs` are the
+    lists of a bug tracker, where there are some.
+    """
 
     office: Office
     archive: Archive
@@ -354,6 +356,7 @@ class Stage:
     built: str
     line: str = ""
     url: str = ""
+    bugs: Sequence[str] = ()
     maker: Callable[[Upload, str], str] = build
 
     def takes(self, uploads: Sequence[Upload]) -> None:

@@ -19,7 +19,6 @@ from stage import Failed
 from world import Bug, Come, Hint, Kept, Leave, Unhint, day_text
 
 SKIP, OVER = "skip", "over"
-HOLDING = 8  # days for which what was pulled away behind an order may be held back
 Steps = Iterator[Optional[str]]
 Trouble = Callable[[Simulation], Steps]
 
@@ -99,7 +98,8 @@ def withdrawn(month: Simulation) -> Steps:
 
 
 def withdrawn_late(month: Simulation) -> Steps:
-    """An upload is accepted, and withdrawn before it is applied. All else is published, and the next version moves."""
+    """An upload is accepted, and withdrawn before it is applied. It alone is held back until the next version moves.
+    """
     kept = settled(month)
     before = dataclasses.replace(kept)
     renewed(month, kept, "critical")
@@ -107,7 +107,7 @@ def withdrawn_late(month: Simulation) -> Steps:
     month.look_at(ran_by("office-feed", *month.stage.feed_words(month.today, "--propose")), (0, 1))
     withdraw(month, kept, before)
     month.stage.archive.ready()
-    month.may_hold = month.number + HOLDING
+    month.lacks[kept.name] = month.number + 1
     month.books.held[kept.name] = before.version
     yield None
     yield None
@@ -345,6 +345,29 @@ def gap(month: Simulation) -> Steps:
     yield None
     month.do(dataclasses.replace(bug, severity="normal"))
     month.world.untouched.discard(kept.name)
+
+
+def listed(month: Simulation) -> Steps:
+    """A bug tracker lists a bug that nobody mails. It holds its source up until the list has it no more."""
+    kept = settled(month)
+    renewed(month, kept, "critical")
+    month.stage.bugs = [os.path.join(month.stage.folder, f"bugs-{suite}") for suite in ("unstable", "testing")]
+    write_lists(month, f"src:{kept.name} 7001\nsrc:base 7002\n", "src:base 7002\n")
+    month.books.held[kept.name] = kept.version
+    yield None
+    write_lists(month, "src:base 7002\n", "src:base 7002\n")
+    del month.books.held[kept.name]
+    yield None
+    if month.published().sources.get(kept.name) != kept.version:
+        month.problem(f"{kept.name} {kept.version} isn't published, whose bug is in no list any more")
+    month.world.untouched.discard(kept.name)
+
+
+def write_lists(month: Simulation, *texts: str) -> None:
+    """The tracker lists bugs of unstable and of testing."""
+    for path, text in zip(month.stage.bugs, texts):
+        with open(path, "w", encoding="utf-8") as file:
+            file.write(text)
 
 
 def undecided(month: Simulation) -> Steps:
@@ -591,11 +614,11 @@ def strange_blank(month: Simulation) -> Steps:
 
 USUAL: Mapping[int, Sequence[Trouble]] = {
     2: [withdrawn, bad_changes], 3: [without_source, twice], 4: [conflict], 5: [third_rebuild], 6: [short_index],
-    8: [killed_feed, chain], 9: [by_hand], 10: [withdrawn_late, two_orders], 11: [restored], 13: [killed_manager],
-    14: [missed_apply, own_date, bad_hint], 15: [undecided], 16: [came_back, left_lock], 17: [put_back_old],
-    18: [strange_blank, strange_field], 19: [killed_service, hasty], 20: [needed_gone, gap], 21: [nothing_run],
-    24: [clock_back, truncated], 25: [full_disk]}
+    7: [listed], 8: [killed_feed, chain], 9: [by_hand], 10: [withdrawn_late, two_orders], 11: [restored],
+    13: [killed_manager], 14: [missed_apply, own_date, bad_hint], 15: [undecided], 16: [came_back, left_lock],
+    17: [put_back_old], 18: [strange_blank, strange_field], 19: [killed_service, hasty], 20: [needed_gone, gap],
+    21: [nothing_run], 24: [clock_back, truncated], 25: [full_disk]}
 BRIEF: Mapping[int, Sequence[Trouble]] = {
-    1: [withdrawn, bad_changes], 2: [restored, conflict], 3: [short_index], 5: [killed_feed, strange_blank],
-    6: [gap]}
+    1: [withdrawn, bad_changes], 2: [restored, conflict], 3: [short_index], 4: [listed],
+    5: [killed_feed, strange_blank], 6: [gap]}
 """On which days which faults begin, in a long month and in a short one."""

@@ -2,6 +2,7 @@
 import collections
 import datetime
 import os
+import re
 
 from office_tools import reports
 from texts import anything, column, differences, missing, zip_lists
@@ -34,11 +35,10 @@ class MoreKinds:
         rows = {name: {(row.package, row.source) for row in suite.rows}
                 for name, suite in (("testing", self.told.testing), ("unstable", unstable))}
         for source, packages in zip_lists(column(seen, "transitions", 1), column(seen, "transitions", 2)):
-            old, _, new = packages.split("new:")[0].partition(" → ")
-            yield from missing("testing", [(old, source)], rows["testing"])
-            yield from missing("unstable", [(name.strip(), source) for name in [new] if name.strip() != "gone"],
-                               rows["unstable"])
-            yield from missing("new in unstable", [True], [(new.strip(), source) not in rows["testing"]])
+            for old, new in re.findall(r"(\S+) → (\S+)", packages):
+                yield from missing("testing", [(old, source)], rows["testing"])
+                if new != "gone":
+                    yield from missing("unstable", [(new, source)], rows["unstable"] - rows["testing"])
 
     def transition(self, seen):
         """Each source that is left is in testing or in unstable."""

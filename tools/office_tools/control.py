@@ -8,7 +8,7 @@ import re
 import stat
 import sys
 from dataclasses import dataclass
-from typing import Iterator, Mapping, Optional, Sequence, Union
+from typing import Callable, Iterator, Mapping, Optional, Sequence, Union
 
 import apt_pkg
 from debian import deb822
@@ -20,6 +20,15 @@ STRANGE_LINE = re.compile(r"^(?![ \t]|\r?$|[!-9;-~]+:).+", re.MULTILINE)
 """A line that neither continues a field nor begins with the name of one."""
 
 LONGEST_CHANGES = 16_000_000  # bytes of a file .changes that is read
+
+Reader = Callable[[str, Sequence[str]], Iterator[Mapping[str, str]]]
+"""How the paragraphs of a file are read, each with those of some fields that it has."""
+
+
+class Fields(dict[str, str]):
+    """The fields of a paragraph that may have been read before; `is_good` if its relations were good."""
+
+    is_good = False
 
 
 def sections(path: str, names: Sequence[str]) -> Iterator[Mapping[str, str]]:

@@ -3,7 +3,7 @@ import argparse
 import sys
 from typing import Iterator, Sequence
 
-from office_tools import bags
+from office_tools import bags, counts
 from office_tools.faults import Fault
 from office_tools.files import read_bytes
 from office_tools.messages import Label, label_of
@@ -58,7 +58,7 @@ def main(words: Sequence[str]) -> int:
         if asked.message or not asked.conf or not asked.db:
             known.error("--undo needs --conf and --db, and no other message")
         return undo.main(asked)
-    if len(asked.message) != 3 or not asked.message[1].isascii() or not asked.message[1].isdigit():
+    if len(asked.message) != 3 or not counts.FORM.fullmatch(asked.message[1]):
         known.error("name a message by SENDER NUMBER, and the FILE of its new text")
     sender, number, path = asked.message
     label = Label(sender, int(number))

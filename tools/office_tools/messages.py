@@ -15,6 +15,7 @@ BLANKS = " \t\r"
 WHITE = " \t\r\n"
 FIELD_NAME = re.compile(r"(?![#-])[!-9;-~]+")
 NUMBER = re.compile(r"[1-9][0-9]{0,8}")
+MAINTAINER = "Maintainer"
 MOST_BINARIES = 63  # paragraphs of binaries in a build
 
 
@@ -284,9 +285,11 @@ def message(label: Label, kind: Kind, values: Sequence[Optional[str]] = ()) -> b
     return composed(head + [(rule.name, value) for rule, value in zip(rules, values) if value is not None])
 
 
-def upload(label: Label, source: str, version: str, urgency: Urgency, day: str) -> bytes:
-    """A version of a source came to unstable on a day."""
-    return message(label, Kind.UPLOAD, (source, version, urgency.value, day))
+def upload(label: Label, source: str, version: str, urgency: Urgency, day: str,
+           maintainer: Optional[str] = None) -> bytes:
+    """A version of a source came to unstable on a day. The office doesn't read who maintains it; pages and mails do."""
+    text = message(label, Kind.UPLOAD, (source, version, urgency.value, day))
+    return text if maintainer is None else text + composed([(MAINTAINER, maintainer)])
 
 
 def drop(label: Label, package: str, architecture: str, version: str) -> bytes:

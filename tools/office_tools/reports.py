@@ -6,12 +6,12 @@ import datetime
 import enum
 import re
 from dataclasses import dataclass
-from typing import Mapping, Optional, Sequence
+from typing import Mapping, NamedTuple, Optional, Sequence, Union
 
 from office_tools.faults import Fault
 
 NAME = r"[a-z0-9][a-z0-9+.-]+"
-HEAD = r"%s (\d+) (\d{4}-\d{2}-\d{2})"
+HEAD = r"%s (\d{1,9}) (\d{4}-\d{2}-\d{2})"
 
 
 class ReasonKind(enum.Enum):
@@ -120,8 +120,7 @@ class Update:
     changes: Sequence[Change]
 
 
-@dataclass(frozen=True)
-class Row:
+class Row(NamedTuple):
     """A binary package in testing, and its source."""
 
     architecture: str
@@ -201,7 +200,7 @@ class Run:
 
 REASON_FORMS: Sequence[tuple[re.Pattern[str], ReasonKind]] = (
     (re.compile("too young"), ReasonKind.TOO_YOUNG),
-    (re.compile(r"new bug (?P<bug>\d+)"), ReasonKind.NEW_BUG),
+    (re.compile(r"new bug (?P<bug>\d{1,9})"), ReasonKind.NEW_BUG),
     (re.compile("no binaries"), ReasonKind.NO_BINARIES),
     (re.compile(r"missing on (?P<architecture>\S+)"), ReasonKind.MISSING),
     (re.compile("blocked"), ReasonKind.BLOCKED),
@@ -213,17 +212,25 @@ LEFT = r"uninstallable (?P<architecture>\S+) (?P<package>\S+)"
 CHANGE_FORMS: Sequence[tuple[re.Pattern[str], Word, Outcome]] = (
     (re.compile(r"accept (?P<items>\S+ \S+)"), Word.ACCEPT, Outcome.ACCEPTED),
     (re.compile(r"wait (?P<items>\S+ \S+) " + LEFT), Word.WAIT, Outcome.WAITS),
-    (re.compile(r"remove (?P<hint>\d+) accept (?P<items>\S+ \S+)"), Word.REMOVE, Outcome.ACCEPTED),
-    (re.compile(r"remove (?P<hint>\d+) refuse (?P<items>\S+ \S+) " + LEFT), Word.REMOVE, Outcome.UNINSTALLABLE),
-    (re.compile(r"easy (?P<hint>\d+) accept " + ITEMS), Word.EASY, Outcome.ACCEPTED),
-    (re.compile(r"easy (?P<hint>\d+) refuse (?P<item>[^ /]+/\S+) not a candidate"), Word.EASY, Outcome.NO_CANDIDATE),
-    (re.compile(r"easy (?P<hint>\d+) refuse " + LEFT), Word.EASY, Outcome.UNINSTALLABLE))
+    (re.compile(r"remove (?P<hint>\d{1,9}) accept (?P<items>\S+ \S+)"), Word.REMOVE, Outcome.ACCEPTED),
+    (re.compile(r"remove (?P<hint>\d{1,9}) refuse (?P<items>\S+ \S+) " + LEFT), Word.REMOVE, Outcome.UNINSTALLABLE),
+    (re.compile(r"easy (?P<hint>\d{1,9}) accept " + ITEMS), Word.EASY, Outcome.ACCEPTED),
+    (re.compile(r"easy (?P<hint>\d{1,9}) refuse (?P<item>[^ /]+/\S+) not a candidate"), Word.EASY,
+     Outcome.NO_CANDIDATE),
+    (re.compile(r"easy (?P<hint>\d{1,9}) refuse " + LEFT), Word.EASY, Outcome.UNINSTALLABLE))
 
-RUN_FORM = (r"run (\d+) (\d{4}-\d{2}-\d{2}) excuses (\d+) candidates (\d+) accept (\d+) easy (\d+) remove (\d+) "
-            r"wait (\d+)")
+RUN_FORM = (r"run (\d{1,9}) (\d{4}-\d{2}-\d{2}) excuses (\d{1,9}) candidates (\d{1,9}) accept (\d{1,9}) "
+            r"easy (\d{1,9}) remove (\d{1,9}) wait (\d{1,9})")
 
 
-HINT_FORM = (r"(\S+) (\d+) (covered|new) (\S+(?: \d+)?) (\S+): "
+EXCUSE_FORM = re.compile(rf"({NAME}) (\S+) (\S+)")
+AGE_FORM = re.compile(r" age (\d{1,9}) of (\d{1,9})")
+END_FORM = re.compile(" (not a )?candidate")
+REASON_FORM = re.compile(r" (\S.*)")
+SOURCE_FORM = re.compile(rf"^source ({NAME}) (\S+)$", re.M)
+ROW_FORM = re.compile(r"^binary (\S+) (\S+) (\S+) (\S+)$", re.M)
+
+HINT_FORM = (r"(\S+) (\d{1,9}) (covered|new) (\S+(?: \d{1,9})?) (\S+): "
              r"(?:(in force|moved|no source)|unstable (\S+))")
 
 
@@ -237,16 +244,30 @@ class Lines:
         self.lines = text.split("\n")[:-1]
         self.place = 0
 
-    def next_is(self, form: str) -> Optional[re.Match[str]]:
+    def next_is(self, form: re.Pattern[str]) -> Optional[re.Match[str]]:
         """The match of the next line, which is then read, where it is of this form."""
-        found = re.fullmatch(form, self.lines[self.place]) if self.is_left() else None
+        found = form.fullmatch(self.lines[self.place]) if self.is_left() else None
         if found is not None:
             self.place += 1
         return found
 
-    def need(self, form: str, what: str) -> re.Match[str]:
+    def all_next(self, beginning: str, form: re.Pattern[str]) -> Sequence[tuple[str, ...]]:
+        """The groups of all next lines of a form with this beginning, which are then read.
+
+        A release has some 160,000 lines in testing, so they are matched at once and not one by one.
+        """
+        end = next((place for place in range(self.place, len(self.lines))
+                    if not self.lines[place].startswith(beginning)), len(self.lines))
+        found = form.findall("\n".join(self.lines[self.place:end]))
+        if len(found) != end - self.place:
+            end = next(place for place in range(self.place, end) if not form.fullmatch(self.lines[place]))
+            found = found[:end - self.place]
+        self.place = end
+        return found
+
+    def need(self, form: Union[str, re.Pattern[str]], what: str) -> re.Match[str]:
         """The same, where any other line is a fault."""
-        found = self.next_is(form)
+        found = self.next_is(re.compile(form))
         if found is None:
             raise self.fault(f"{what} is due here")
         return found
@@ -280,11 +301,11 @@ def read_excuses(text: str, name: str = "excuses") -> Excuses:
 
 def read_excuse(lines: Lines) -> Excuse:
     """The next excuse."""
-    source, testing, unstable = lines.need(rf"({NAME}) (\S+) (\S+)", "a source with two versions").groups()
-    age, needed = lines.need(r" age (\d+) of (\d+)", "its age").groups()
+    source, testing, unstable = lines.need(EXCUSE_FORM, "a source with two versions").groups()
+    age, needed = lines.need(AGE_FORM, "its age").groups()
     reasons: list[Reason] = []
     while True:
-        end = lines.next_is(" (not a )?candidate")
+        end = lines.next_is(END_FORM)
         if end is not None:
             break
         reasons.append(read_reason(lines))
@@ -296,7 +317,7 @@ def read_excuse(lines: Lines) -> Excuse:
 
 def read_reason(lines: Lines) -> Reason:
     """The next reason of an excuse."""
-    text = lines.need(r" (\S.*)", "a reason, or whether it is a candidate")[1]
+    text = lines.need(REASON_FORM, "a reason, or whether it is a candidate")[1]
     for form, kind in REASON_FORMS:
         found = form.fullmatch(text)
         if found:
@@ -342,48 +363,41 @@ def items_of(part: Mapping[str, str]) -> Sequence[Item]:
 def read_testing(text: str, name: str = "testing") -> Testing:
     """What is in testing."""
     lines = Lines(text, name)
-    finished = int(lines.need(r"testing (\d+)", "the line `testing F`")[1])
+    finished = int(lines.need(r"testing (\d{1,9})", "the line `testing F`")[1])
     sources = read_sources(lines)
-    rows = []
-    while lines.is_left():
-        row = read_row(lines)
+    first = lines.place
+    rows = read_rows(lines)
+    for place, row in enumerate(rows, first):
         if row.source not in sources:
-            lines.place -= 1
+            lines.place = place
             raise lines.fault(f"the source {row.source} isn't in testing")
-        rows.append(row)
     return Testing(finished, sources, rows)
 
 
 def read_unstable(text: str, name: str = "unstable") -> Unstable:
     """What is in unstable."""
     lines = Lines(text, name)
-    finished = int(lines.need(r"unstable (\d+)", "the line `unstable F`")[1])
-    sources = read_sources(lines)
-    rows = []
-    while lines.is_left():
-        rows.append(read_row(lines))
-    return Unstable(finished, sources, rows)
+    finished = int(lines.need(r"unstable (\d{1,9})", "the line `unstable F`")[1])
+    return Unstable(finished, read_sources(lines), read_rows(lines))
 
 
 def read_sources(lines: Lines) -> Mapping[str, str]:
     """The sources that come next, with their versions."""
-    sources: dict[str, str] = {}
-    while True:
-        found = lines.next_is(rf"source ({NAME}) (\S+)")
-        if found is None:
-            return sources
-        sources[found[1]] = found[2]
+    return {name: version for name, version in lines.all_next("source ", SOURCE_FORM)}
 
 
-def read_row(lines: Lines) -> Row:
-    """The next binary package."""
-    return Row(*lines.need(r"binary (\S+) (\S+) (\S+) (\S+)", "a source or a binary").groups())
+def read_rows(lines: Lines) -> Sequence[Row]:
+    """The binary packages that come next, to the last line."""
+    rows = list(map(Row._make, lines.all_next("binary ", ROW_FORM)))
+    if lines.is_left():
+        raise lines.fault("a source or a binary is due here")
+    return rows
 
 
 def read_hints(text: str, name: str = "hints") -> Hints:
     """The hints in force, as `office hints` and `GET /hints` print them."""
     lines = Lines(text, name)
-    finished = int(lines.need(r"hints (\d+)", "the line `hints F`")[1])
+    finished = int(lines.need(r"hints (\d{1,9})", "the line `hints F`")[1])
     sender: Optional[str] = None
     items = []
     while lines.is_left():

@@ -15,8 +15,8 @@ UNANSWERED = 4  # status of a command whose office didn't answer
 SECONDS = 60.0  # how long a connection waits for its peer
 LONGEST_TOLD = 200  # characters of an answer that are told
 
-KEPT_LINE = re.compile(r"mail (\S+) (\d+) kept(?:, 1 to (\d+))?(?:, greatest (\d+))?")
-STATUS_LINE = re.compile(r"ready (\d+) finished (\d+)\n")
+KEPT_LINE = re.compile(r"mail (\S+) ([0-9]{1,9}) kept(?:, 1 to ([0-9]{1,9}))?(?:, greatest ([0-9]{1,9}))?")
+STATUS_LINE = re.compile(r"ready ([0-9]{1,9}) finished ([0-9]{1,9})\n")
 NO_ROUTE = "refused NoRoute"
 OLDER = "it is an office of an earlier version, and these tools need one that has this page"
 

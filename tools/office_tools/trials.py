@@ -10,9 +10,9 @@ from office_tools.messages import Label
 from office_tools.service import Service
 
 REFUSED = 3
-HEAD = re.compile(r"try (\d+) (\d{4}-\d{2}-\d{2}) (\S+) (\d+) (.*)")
+HEAD = re.compile(r"try ([0-9]{1,9}) ([0-9]{4}-[0-9]{2}-[0-9]{2}) (\S+) ([0-9]{1,9}) (.*)")
 CHANGE = re.compile(r"[-+](excuse|update|testing) ")
-REFUSAL = re.compile(r"\+update ((?:easy|remove) \d+ refuse .*)")
+REFUSAL = re.compile(r"\+update ((?:easy|remove) [0-9]{1,9} refuse .*)")
 
 
 @dataclass(frozen=True)

@@ -46,13 +46,16 @@ class Settings(unittest.TestCase):
         self.assertEqual((found.url, found.setup, found.state, found.propose, found.patience),
                          ("http://127.0.0.1:8080", "/etc/office/setup.conf", "/var/lib/office-day", True, 30))
         self.assertEqual((found.feed, found.pull), (["--apt", "deb file:/srv x main", "--rebuilds"], []))
+        self.assertEqual((found.bugs, found.tests), ([], []))
         self.assertEqual(found.look, ["/srv/archive/dists/testing", "/srv/archive/dists/ordered"])
 
     def test_all_fields(self):
         found = self.read(self.WORDS + "Url: http://x:1\nSetup: s\nState: t\nPull: a 'b c'\nLook: d e\nPropose: no\n"
-                                       "Patience: 7\n")
+                                       "Patience: 7\nBugs: --close 7 u https://x/t\nTests: --testing t 'a b' c\n")
         self.assertEqual((found.url, found.setup, found.state, found.pull, found.look, found.propose, found.patience),
                          ("http://x:1", "s", "t", ["a", "b c"], ["d", "e"], False, 7))
+        self.assertEqual((found.bugs, found.tests),
+                         (["--close", "7", "u", "https://x/t"], ["--testing", "t", "a b", "c"]))
 
     def test_refusals(self):
         for text, cause in [
@@ -61,6 +64,14 @@ class Settings(unittest.TestCase):
                 (self.WORDS + "\nUrl: x\n", "it has 2 paragraphs"), (self.WORDS + "nonsense\n", ""),
                 (self.WORDS + "Pull: 'x\n", "Pull: No closing quotation"),
                 (self.WORDS + "Propose: maybe\n", "it is yes or no"), (self.WORDS + "Patience: -1\n", "number of days"),
+                (self.WORDS + f"Patience: {'9' * 5000}\n", "number of days, of at most nine digits"),
+                (self.WORDS.replace("reprepro", f"--gone {'9' * 5000} reprepro"),
+                 "office-apply doesn't take these words"),
+                (self.WORDS + f"Bugs: --close {'9' * 5000} u t\n", "Bugs: office-bugs doesn't take these words"),
+                (self.WORDS + "Bugs: u\n", "Bugs: office-bugs doesn't take these words"),
+                (self.WORDS + "Bugs: --dry-run u t\n", "Bugs: --dry-run"),
+                (self.WORDS + "Tests: --what\n", "Tests: office-tests doesn't take these words"),
+                (self.WORDS + "Tests: --dry-run r\n", "Tests: --dry-run"),
                 (self.WORDS.replace("--rebuilds", "--propose"), "--propose"),
                 (self.WORDS.replace("reprepro", "nothing"), "office-apply doesn't take these words"),
                 (self.WORDS.replace("reprepro /srv/archive ordered testing", "heidi x"), "the field Look is needed")]:
@@ -130,7 +141,7 @@ class Day(unittest.TestCase):
         self.addCleanup(shutil.rmtree, self.folder)
         self.steps = os.path.join(self.folder, "steps")
         self.state = os.path.join(self.folder, "state")
-        for name in ("office-apply", "office-feed", "office-look", "pull"):
+        for name in (*dict.fromkeys(self.WHOLE), "pull"):
             self.write(name, STUB)
         os.symlink(os.path.join(TOOLS, "bin/office-day"), os.path.join(self.folder, "office-day"))
         self.configure(self.serving.url)
@@ -141,9 +152,9 @@ class Day(unittest.TestCase):
             file.write(text)
         os.chmod(path, 0o755)
 
-    def configure(self, url):
+    def configure(self, url, more=""):
         self.write("day.conf", f"Url: {url}\nSetup: setup\nState: {self.state}\nPull: {self.folder}/pull all\n"
-                               "Feed: --apt 'deb x'\nApply: reprepro base ordered testing\nLook: a b\n")
+                               f"Feed: --apt 'deb x'\nApply: reprepro base ordered testing\nLook: a b\n{more}")
 
     def does(self, name, number, script):
         """What a step does when it is called for this time."""
@@ -160,6 +171,8 @@ class Day(unittest.TestCase):
         return told
 
     ALL = ["office-apply", "pull", "office-feed", "office-look", "office-apply"]
+    WHOLE = [*ALL[:3], "office-bugs", "office-tests", *ALL[3:]]
+    LISTS = "Bugs: --close 3 unstable testing\nTests: results more\n"
 
     def names(self):
         return [line.split()[0] for line in self.called]
@@ -173,6 +186,27 @@ class Day(unittest.TestCase):
             f"office-feed {url} {day} --no-order --cache {self.state}/feed --apt deb x",
             f"office-look {url} {day} --conf setup --cache {self.state}/look --order --propose --gap=bts a b"])
         self.assertEqual(told.stdout.splitlines()[-1], "2025-03-22: all well")
+
+    def test_bugs_and_tests(self):
+        """They come behind the feed and before the look. If a list can't be read the day ends, or a person goes on."""
+        self.configure(self.serving.url, self.LISTS)
+        told = self.day("--bugs=--close=9", "--tests=--take-over")
+        self.assertEqual((told.returncode, told.stderr, self.names()), (0, "", self.WHOLE))
+        url = f"--url {self.serving.url}"
+        self.assertEqual(self.called[3:5], [f"office-bugs {url} --close 3 unstable testing --close=9",
+                                            f"office-tests {url} results more --take-over"])
+        for step, at in (("bugs", 3), ("tests", 4)):
+            self.does(f"office-{step}", 1, f"echo 'office-{step}: http://x/list: 404: Not Found' >&2; exit 3")
+            told = self.day("--summary")
+            self.assertEqual((told.returncode, self.names()), (3, self.WHOLE[:at + 1]))
+            self.assertIn(f"Stands still:\n  {step}: http://x/list: 404: Not Found\n", told.stdout)
+            told = self.day(f"--without={step}")
+            self.assertEqual((told.returncode, self.names()), (0, [name for name in self.WHOLE
+                                                                   if name != f"office-{step}"]))
+            os.unlink(os.path.join(self.folder, f"steps.office-{step}.1"))
+        told = self.day("--without", "bugs", "--without", "tests")
+        self.assertEqual((told.returncode, self.names()), (0, self.ALL))
+        self.assertEqual(self.day("--without", "feed").returncode, 2)
 
     def test_before_the_first_run_nothing_is_applied(self):
         self.configure(self.empty.url)

@@ -7,9 +7,9 @@ import tempfile
 import unittest
 
 from helpers import SETUP, Serving, needs_office, tool
-from office_tools import bags
+from office_tools import bags, messages
 from office_tools.feed.mailbox import Outgoing
-from office_tools.messages import label_of, paragraphs
+from office_tools.messages import Label, label_of, paragraphs
 from office_tools.service import Kept, Service
 
 CHANGES = """Format: 1.8
@@ -123,6 +123,18 @@ class Feeds(Feeding):
         self.assertEqual(self.hint(2).value("Cancels"), "1")
         self.assertEqual(self.service.good_text("/update/4"), "update 4 2025-03-10\naccept app 1\n")
         self.assertIn("binary amd64 app 1+back1 app", self.service.good_text("/testing"))
+
+    def test_maintainers(self):
+        """An upload whose source has a maintainer in Sources says so; the office and its mail stay as they are."""
+        sources = ("--sources", self.file("Sources", "Package: lib\nVersion: 1\nMaintainer: Team <t@example.org>,\n"
+                                                     " Other <o@example.org>\n"))
+        self.assertEqual(self.feed(FIRST, "2025-03-03", *sources)[0][1], "ready 1 finished 1")
+        plain = b"From: ftp\nNumber: %d\nKind: upload\nSource: %s\nVersion: 1\nUrgency: medium\nDay: 2025-03-03\n"
+        self.assertEqual([self.service.kept_text("ftp", number) for number in (1, 2)],
+                         [plain % (1, b"app"), plain % (2, b"lib") +
+                          b"Maintainer: Team <t@example.org>, Other <o@example.org>\n"])
+        self.assertEqual(self.feed(FIRST, "2025-03-03", *sources)[0][0],
+                         "uploads 0, drops 0, builds 0, hints 0, unhints 0, orders 0")
 
     def test_order(self):
         self.assertEqual(self.feed(FIRST, "2025-03-03", "--no-order")[0][1], "ready 0 finished 0")
@@ -284,6 +296,22 @@ class Rebuilding(Folder):
             self.assertEqual(self.service.good_text("/testing").splitlines()[2:], [
                 "binary amd64 lib1 1+b1 lib", "binary arm64 lib1 1+b1 lib", "binary all lib-data 1 lib"])
             self.assertEqual(self.feed(once)[0], "uploads 0, drops 0, builds 0, hints 0, unhints 0, orders 0")
+
+    def test_a_newer_version_waits(self):
+        """A rebuild waits no days, whatever the delays are, and the version behind it waits as any other."""
+        self.file("changes/lib.changes", CHANGES)
+        once = self.BOTH.replace("Source: lib\nVersion: 1\n", "Source: lib (1)\nVersion: 1+b1\n")
+        with Serving(self.file("setup.conf", SPARE_SETUP)) as office:
+            self.service = Service(office.url)
+            self.feed(self.BOTH, "--changes", self.path("changes"))
+            for text in (messages.delays(Label("rt", 1), messages.Delays(40, 5, 2, 0)),
+                         messages.hint(Label("rt", 2), "block lib")):
+                self.assertTrue(self.service.post("/mail", text).is_good)
+            self.feed(once)
+            self.assertIn("lib 1 1+b1\n age 40 of 40\n blocked\n", self.service.good_text("/excuses/2"))
+            self.service.post("/mail", messages.unhint(Label("rt", 3), 2))
+            self.feed(self.BOTH.replace("Version: 1", "Version: 2"))
+            self.assertIn("lib 1 2\n age 0 of 5\n too young\n", self.service.good_text("/excuses/3"))
 
     def test_behind_the_last_spare_sender(self):
         self.file("changes/lib.changes", CHANGES)

@@ -18,7 +18,7 @@ from office_tools.feed.mailbox import Folder, Outgoing
 from office_tools.from_packages import sent, told
 from office_tools.from_packages.binaries import fitting, read_binaries
 from office_tools.from_packages.sources import Arrival, read_arrivals, read_sources
-from office_tools.messages import Label, Urgency, build, label_of
+from office_tools.messages import Label, Urgency, build, label_of, upload
 
 COUNT = int(os.environ.get("FOREIGN", "300"))
 SEED = int(os.environ.get("FOREIGN_SEED", "78"))
@@ -38,6 +38,7 @@ Pre-Depends: dpkg
 """
 SOURCES = b"""Package: lib
 Version: 1:2.0-1
+Maintainer: A <a@example.org>
 Extra-Source-Only: no
 
 Package: other
@@ -77,9 +78,9 @@ BAG = b"".join(map(framed, (
 PIECES = (
     b"\x81", b"\xc3", b"\xff\xfe", b"\x00", b"\xc2\xa0", b"\xe2\x80\xa8", b"\x0b", b"\x0c", b"\x1c", b"\x85", b"\r",
     b"\r\n", b"\n\n", b"\n", b": ", b":", b" ", b"\t", b"-", b"#", b"(", b")", b"|", b",", b"=", b"<<", b"+b1", b"~",
-    b"9" * 30, b"99999999999999999999", b"+9999", b"x" * 300, b"\xf0\x9f\x92\xa9", b"\xed\xa0\x80", b"[", b"{",
-    b"-----BEGIN PGP SIGNED MESSAGE-----\n", b"Version: 1\n", b"Package: aa\n", b"Date: Sat, 01 Mar 0 0:0:0\n",
-    b"mail 5\n", b"mail 999999999\n", b"1e999", b"-1", b"[[[[", b"\"")
+    b"9" * 30, b"9" * 5000, b"99999999999999999999", b"+9999", b"x" * 300, b"\xf0\x9f\x92\xa9", b"\xed\xa0\x80",
+    b"[", b"{", b"-----BEGIN PGP SIGNED MESSAGE-----\n", b"Version: 1\n", b"Package: aa\n",
+    b"Date: Sat, 01 Mar 0 0:0:0\n", b"mail 5\n", b"mail 999999999\n", b"1e999", b"-1", b"[[[[", b"\"")
 
 
 def garbled(chance: random.Random, data: bytes) -> bytes:
@@ -137,8 +138,11 @@ class Garbled(Reading):
 
     def test_sources(self):
         def read(path):
-            for version in read_sources([path], []).values():
+            found = read_sources([path], [])
+            for name, version in found.versions.items():
                 relations.checked_version(version)
+                text = upload(Label("ftp", 1), name, version, Urgency.LOW, "2025-03-01", found.maintainers.get(name))
+                self.assertEqual(label_of(text), Label("ftp", 1))
         self.each(SOURCES, read)
 
     def test_changes(self):

@@ -85,6 +85,21 @@ class FirstWeek(Folder):
         self.assertEqual(list(setup.senders), ["ftp", "hand", *(f"again{number}" for number in range(8, 0, -1)), "bd",
                                                "bts", "rt", "clock"])
 
+    def test_maintainers(self):
+        """The maintainers of files Sources come with the uploads, as their last field; all else keeps its bytes."""
+        self.file("plain", "".join(package(name, "1") for name in ("aa", "bb", "cc", "dd")))
+        self.convert(*DAYS, self.path("without"), self.path("plain"))
+        mail = {"aa": "C\u00e9line <c@example.org>", "bb": "x" * 1001, "cc": "bell \a <c@example.org>", "ee": "E <e@x>"}
+        self.file("Sources", "".join(f"Package: {name}\nVersion: 1\nMaintainer: {value}\n\n"
+                                     for name, value in mail.items()))
+        self.convert(*DAYS, "--sources", self.path("Sources"), self.path("with"), self.path("plain"))
+        due = self.messages("without")
+        due[0] += f"Maintainer: {mail['aa']}\n".encode()
+        due[4:4] = [b"From: ftp\nNumber: 5\nKind: upload\nSource: ee\nVersion: 1\nUrgency: medium\n"
+                    b"Day: 2025-03-01\nMaintainer: E <e@x>\n"]
+        due[-1] = due[-1].replace(b"ftp 4", b"ftp 5")
+        self.assertEqual(self.messages("with"), due)
+
     @needs_office
     def test_next_day(self):
         self.convert(*DAYS, *SOURCES, self.path("week"), PACKAGES, hints=True)

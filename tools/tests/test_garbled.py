@@ -31,8 +31,9 @@ SEED = int(os.environ.get("GARBLED_SEED") or 7)
 
 PIECES = (
     b"\x81", b"\xc3", b"\xff\xfe", b"\x00", b"\xc2\xa0", b"\xe2\x80\xa8", b"\x0b", b"\x0c", b"\x1c", b"\x85", b"\r",
-    b"\n\n", b"\n", b": ", b":", b" ", b"\t", b"-", b"#", b"/", b",", b"~", b"9" * 30, b"0", b"-1", b"1e999", b"NaN",
-    b"Infinity", b"null", b"true", b"x" * 300, b"\xd9\xa3", b"\xc2\xb2", b"[", b"{", b"[" * 5000, b"\"", b"src:", b"A~",
+    b"\n\n", b"\n", b": ", b":", b" ", b"\t", b"-", b"#", b"/", b",", b"~", b"9" * 30, b"9" * 5000,
+    b"0", b"-1", b"1e999", b"NaN", b"Infinity", b"null", b"true", b"x" * 300, b"\xd9\xa3", b"\xc2\xb2", b"[", b"{",
+    b"[" * 5000, b"\"", b"src:", b"A~",
     b"mail 5\n", b"mail 999999999\n", b"-----BEGIN PGP MESSAGE-----\n", b"-----END PGP MESSAGE-----\n", b"\xa3\x01")
 VERSIONS = {"app": "2-1", "lone": "2-1", "tool": "2-1"}
 NAMES = lists.Names(VERSIONS, {"libfoo1": {"app"}}), lists.Names({"app": "1-1"}, {})

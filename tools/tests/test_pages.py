@@ -16,7 +16,7 @@ import urllib.parse
 
 from helpers import EXAMPLES, example, needs_office, office, Serving, SETUP, tool, TOOLS
 from pages_office import EXCUSES, FakeOffice, routes, RUNS, TESTING, UPDATES
-from office_tools import faults, reports
+from office_tools import bags, faults, reports
 from office_tools.pages import command, hints, parts, site, verdicts
 from office_tools.pages.patterns import Patterns
 
@@ -311,6 +311,26 @@ class AllRuns(Pages):
                                   "From: rt\nNumber: 11\nKind: unhint\nCancels: 9\n"])
         self.assertIn("Hint 8: all that it names has moved", self.read("hints.html"))
 
+    def test_many_hints_have_parts(self):
+        with unittest.mock.patch.object(hints, "A_PAGE", 1):
+            self.make("--url", self.office.url)
+        self.assertEqual([self.page(name).cells[0] for name in ("hints.html", "hints-2.html")], ["2", "9, new"])
+        self.assertNotIn("Proposed", self.read("hints-2.html"))
+        self.assertIn("../hints.html#hint-2", self.page("source/libgreet.html").links)
+        self.assert_links()
+
+    def test_messages_that_a_page_has_no_place_for_are_in_a_bag(self):
+        self.office.answers["/propose"] = "easy app/1-1 stuck/2-1\neasy libgreet/2.0-1 b/1\n"
+        message = "From: rt\nNumber: {}\nKind: hint\nHint: {}\n"
+        due = [message.format(10, "easy app/1-1 stuck/2-1").encode(),
+               message.format(11, "easy libgreet/2.0-1 b/1").encode()]
+        with unittest.mock.patch.object(hints, "MOST_COPIED", len(due[0])):
+            self.make("--url", self.office.url)
+        self.assertIn("1 more aren't shown.", "".join(self.page("hints.html").texts))
+        self.assertNotIn(due[1].decode(), self.read("hints.html"))
+        with open(os.path.join(self.folder, "hints-proposed.txt"), "rb") as file:
+            self.assertEqual(list(bags.messages_in(file.read())), due)
+
     def test_a_hint_that_run_after_run_refuses_is_stale(self):
         change = reports.read_update(UPDATES[2]).changes[0]
         item = reports.HintItem(9, True, "easy", "app/1-1", reports.ItemStanding.IN_FORCE)
@@ -335,16 +355,19 @@ class AllRuns(Pages):
         self.make("--url", self.office.url)
         self.assertNotIn("Not asked yet", self.read("source/libgreet.html"))
 
+    def mending(self):
+        """The cells of the first row of what has to be mended."""
+        return Reader(self.read("index.html").partition('<h2 id="mending">')[2]).cells[:5]
+
     def test_what_has_to_be_mended(self):
         """The last numbered line of what the office proposes for stuck says what nothing meets."""
         self.make("--url", self.office.url)
-        cells = self.page("index.html").cells
-        self.assertEqual(cells[:5], ["greeter", "greeter", "libgreet1", "1", "stuck"])
+        self.assertEqual(self.mending(), ["greeter", "greeter", "libgreet1", "1", "stuck"])
         # Without that it is the last line of why the source can't move alone.
         self.office.answers["/propose/stuck"] = ""
         shutil.rmtree(os.path.join(self.folder, ".state"))
         self.make("--url", self.office.url)
-        self.assertEqual(self.page("index.html").cells[:5], ["libgreet1", "libgreet", "libgreet-doc", "1", "stuck"])
+        self.assertEqual(self.mending(), ["libgreet1", "libgreet", "libgreet-doc", "1", "stuck"])
 
     def test_a_source_that_left_the_archive(self):
         self.office.answers["/excuses/2"] = EXCUSES[2].replace(

@@ -1,4 +1,5 @@
 """office-mend --undo: a way back from a slip of a feed."""
+import argparse
 import datetime
 import os
 import re
@@ -9,7 +10,7 @@ from unittest import mock
 from helpers import OFFICE, SETUP, Serving, needs_office, office, tool
 from office_tools import bags, messages, program
 from office_tools.messages import Kind, Label, Urgency
-from office_tools.undo import exchange, outcome, selection
+from office_tools.undo import command, exchange, outcome, selection
 
 NAMES = ("app", "base", "tool")
 
@@ -141,6 +142,26 @@ class Undo(unittest.TestCase):
                          ["feed.", "state.", "store.db", "store.db."])
         old = next(name for name in os.listdir(self.folder) if name.startswith("store.db.before") and "wal" not in name)
         self.assertEqual(self.kept(os.path.join(self.folder, old)), before)
+
+    def test_caches(self):
+        """What is moved away unasked: what the units keep, unless it is another office's, and this user's caches."""
+        day, pages = os.path.join(self.folder, "day"), os.path.join(self.folder, "pages/.state")
+        place = "http%3A%2F%2F127.0.0.1%3A8080"
+        own = [os.path.join(self.folder, "cache", name, place) for name in ("office-feed", "office-day")]
+        due = [own[0], f"{day}/feed", f"{day}/look", f"{own[1]}/feed", f"{own[1]}/look", pages]
+        for path in (*due, f"{day}/other"):
+            os.makedirs(path)
+        letters = selection.read(world())
+        asked = argparse.Namespace(url=command.URL, cache=[pages, os.path.join(self.folder, "state")])
+        with mock.patch.object(command, "DAY", day), mock.patch.object(command, "PAGES", pages), \
+                mock.patch.dict(os.environ, {"XDG_CACHE_HOME": self.folder + "/cache"}):
+            others = [b"From: x\nNumber: 1\nKind: none\n", *world()]
+            left = [path for path in due if not path.startswith(day)]
+            for mail, found in ((None, due), (world()[:3], due), (others, left)):
+                if mail is not None:
+                    with open(f"{day}/feed/bag", "wb") as file:
+                        file.write(b"".join(map(bags.framed, mail)))
+                self.assertEqual(command.caches_of(asked, letters), [*found, os.path.join(self.folder, "state")])
 
     def test_nobody_says_so(self):
         before = self.kept(self.store)

@@ -3,7 +3,7 @@ import argparse
 import datetime
 import functools
 import os
-from typing import Mapping, Sequence
+from typing import Sequence
 
 from office_tools import bags, days, faults, messages, program, reports, setups
 from office_tools.adopt.rows import lifted, stripped
@@ -15,7 +15,7 @@ from office_tools.files import write_whole
 from office_tools.from_packages import mail, told
 from office_tools.from_packages.binaries import Binary, fitting, read_binaries
 from office_tools.from_packages.sent import Sent
-from office_tools.from_packages.sources import Arrival, read_sources
+from office_tools.from_packages.sources import Arrival, Sources, read_sources
 from office_tools.messages import Label, Urgency
 
 NAME = "office-adopt"
@@ -45,11 +45,11 @@ def parser() -> argparse.ArgumentParser:
     return words
 
 
-def letters(setup: str, binaries: Sequence[Binary], sources: Mapping[str, str], day: datetime.date) -> Sequence[bytes]:
+def letters(setup: str, binaries: Sequence[Binary], sources: Sources, day: datetime.date) -> Sequence[bytes]:
     """All mail of the first run; behind its order the hints are taken back, since all that they ask is done by it."""
     sent = Sent()
     arrival = Arrival(Urgency.MEDIUM, max(day - datetime.timedelta(LONG_AGO), datetime.date(1970, 1, 1)).isoformat())
-    came = list(mail.uploads(sources, sent, mail.Uploading({}, arrival)))
+    came = list(mail.uploads(sources.versions, sent, mail.Uploading({}, arrival, sources.maintainers)))
     made = list(mail.builds(binaries, sent))
     wishes = list(mail.hints(setup, sent, [*came, *made], day.isoformat()))
     first = mail.order(day.isoformat(), sent, {"ftp": len(came), "bd": len(made), "rt": len(wishes)})
@@ -102,13 +102,12 @@ def main(words: Sequence[str]) -> int:
         raise Fault(f"the files name {len(architectures)} architectures; 1 to {MOST_ARCHITECTURES} are taken")
     fit = list(fitting(found))
     current = read_sources(asked.sources, fit)
-    at_version, moved = lifted(fit, current)
+    at_version, moved = lifted(fit, current.versions)
     binaries, gone = stripped(at_version, architectures)
     for line in [entry.line() for entry in moved] + [entry.line() for entry in gone]:
         tell(line)
-    built = {binary.source for binary in binaries}
-    sources = {name: version for name, version in current.items() if name in built}
-    print(f"sources {len(sources)}, packages {len(binaries)}: under another version {len(moved)}, "
+    sources = current.among({binary.source for binary in binaries})
+    print(f"sources {len(sources.versions)}, packages {len(binaries)}: under another version {len(moved)}, "
           f"clauses taken out {len(gone)}")
     if asked.dry_run:
         return 0

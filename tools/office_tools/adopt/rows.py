@@ -97,5 +97,4 @@ def without(binary: Binary, clauses: set[Clause]) -> Binary:
         left = [item for item in items if relations.clause_of(item, name) not in clauses]
         if left:
             fields[name] = ", ".join(left)
-    return dataclasses.replace(binary, fields=fields,
-                               clauses=[clause for clause in binary.clauses if clause not in clauses])
+    return dataclasses.replace(binary, fields=fields)

@@ -15,6 +15,7 @@ from office_tools.apply.managers import Manager, locked
 from office_tools.apply.published import is_whole, packages_of, raw_sections, read_folder, read_indexes, read_release
 from office_tools.apply.reprepro import Reprepro
 from office_tools.apply.turn import Turn, counts, tell_idle
+from office_tools.counts import count
 from office_tools.faults import Fault
 from office_tools.files import read_bytes
 from office_tools.look.judge import judge, read_known
@@ -68,13 +69,6 @@ def parser() -> argparse.ArgumentParser:
     part.add_argument("packages", metavar="PACKAGES", nargs="+",
                       help="a file Packages, or a folder dists/SUITE alone")
     return words
-
-
-def count(word: str) -> int:
-    """A count that a word states, from 0 on; any other word is a `ValueError`."""
-    if not word.isdecimal():
-        raise ValueError(word)
-    return int(word)
 
 
 def manager_of(asked: argparse.Namespace) -> tuple[Manager, str]:

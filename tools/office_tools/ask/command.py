@@ -26,9 +26,9 @@ OPTIONS: Mapping[str, Sequence[str]] = {"run": ("why", "breaks"), "hint": ("why"
 
 def number(text: str) -> int:
     """A number from 1 on, as the program takes it: decimal digits, maybe with a plus sign and leading zeros."""
-    if not re.fullmatch(r"\+?0*[1-9][0-9]*", text):
+    if not re.fullmatch(r"\+?0*[1-9][0-9]{0,18}", text):
         raise ValueError(text)
-    return int(text)
+    return int(text.lstrip("+0"))
 
 
 def parser() -> argparse.ArgumentParser:

@@ -31,8 +31,8 @@ def parser() -> argparse.ArgumentParser:
     words.add_argument("--take-over", action="store_true",
                        help="also change bugs of tests whose last message a person wrote")
     words.add_argument("files", metavar="FILE", nargs="+",
-                       help="results of debci (packages.json, or what its API answers), or britney's "
-                            "autopkgtest-results.cache")
+                       help="a file or a URL: results of debci (packages.json, or what its API answers), or "
+                            "britney's autopkgtest-results.cache")
     return words
 
 

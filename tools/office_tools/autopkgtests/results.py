@@ -6,9 +6,9 @@ from dataclasses import dataclass
 from typing import Any, Iterator, Mapping, NoReturn, Optional, Sequence
 
 from office_tools import relations, versions
+from office_tools.addresses import read_named
 from office_tools.bugs.kept import REFUSED
 from office_tools.faults import Fault
-from office_tools.files import read_bytes
 
 REFERENCE = "migration-reference/0"
 """What triggers a test of testing as it is, by the word of britney and debci."""
@@ -52,9 +52,9 @@ class Result:
 
 
 def read_results(path: str, testing: str) -> Sequence[Result]:
-    """The results of a file; `testing` is the name of testing in debci's results. Any other file is refused."""
+    """The results in a file or at a URL, where `testing` is testing's name for debci. Any other text is refused."""
     try:
-        told = json.loads(read_bytes(path))
+        told = json.loads(read_named(path))
     except (ValueError, RecursionError) as fault:
         raise Fault(f"{path}: it is no JSON", REFUSED) from fault
     except Fault as fault:

@@ -10,6 +10,7 @@ from office_tools.bags import framed
 from office_tools.bugs.changes import LISTED, Change, Lists, changes, read_pairs
 from office_tools.bugs.kept import REFUSED, Book, read_book, send
 from office_tools.bugs.lists import names_of, read_list
+from office_tools.counts import count
 from office_tools.faults import Fault
 
 NAME = "office-bugs"
@@ -31,10 +32,11 @@ def parser() -> argparse.ArgumentParser:
                "4: no office answers.")
     words.add_argument("--url", default=URL, help=f"the service ({URL})")
     words.add_argument("--dry-run", action="store_true", help="print what would be sent, as a bag, and send nothing")
-    words.add_argument("--close", type=int, default=0, metavar="N", help="close up to N bugs, whatever share this is")
+    words.add_argument("--close", type=count, default=0, metavar="N", help="close up to N bugs, whatever share this is")
     words.add_argument("--take-over", action="store_true",
                        help="also change bugs whose last message another sender's tool or a person wrote")
-    words.add_argument("unstable", metavar="UNSTABLE", help="the list of unstable: lines NAME BUG[,BUG..]")
+    words.add_argument("unstable", metavar="UNSTABLE",
+                       help="the list of unstable, a file or a URL: lines NAME BUG[,BUG..]")
     words.add_argument("testing", metavar="TESTING", help="the list of testing")
     return words
 

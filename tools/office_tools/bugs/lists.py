@@ -5,10 +5,10 @@ from dataclasses import dataclass
 from typing import Iterator, Mapping, Sequence, Union
 
 from office_tools import reports
+from office_tools.addresses import read_named
 from office_tools.apply import marks
 from office_tools.bugs.kept import REFUSED
 from office_tools.faults import Fault
-from office_tools.files import read_bytes
 
 LINE = re.compile(r"(\S+)[ \t]+([0-9]+(?:,[0-9]+)*)[ \t\r]*")
 OF_SOURCE = "src:"
@@ -19,13 +19,13 @@ Entry = tuple[str, int]
 
 
 def read_list(path: str) -> Sequence[Entry]:
-    """The entries of a list, whose lines are `NAME BUG[,BUG..]`.
+    """The entries of a list in a file or at a URL, whose lines are `NAME BUG[,BUG..]`.
 
     A line of another form is refused, since the bugs that it states would count as closed. So is a last line without
     an end: such a file was cut off.
     """
     try:
-        text = read_bytes(path).decode()
+        text = read_named(path).decode()
     except UnicodeDecodeError as fault:
         raise Fault(f"{path}: it is no text in UTF-8", REFUSED) from fault
     except Fault as fault:

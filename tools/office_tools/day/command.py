@@ -16,6 +16,7 @@ from office_tools.service import Service
 
 NAME = "office-day"
 CONF = "/etc/office/day.conf"
+STEPS = ("feed", "bugs", "tests", "look", "apply")
 SHOWN = 50  # lines of one part of a summary
 TITLES = {WELL: "all well", STANDS: "something stands still", WRONG: "the settings are wrong", REFUSED: "refused",
           FAILED: "failed"}
@@ -26,17 +27,20 @@ tell = functools.partial(faults.tell, NAME)
 def parser() -> argparse.ArgumentParser:
     """The command's words."""
     words = argparse.ArgumentParser(
-        prog=NAME, description="Runs a day of an archive: applies testing, pulls unstable, feeds the office, looks at "
-                               "the next run, orders it, and applies testing again.",
+        prog=NAME, description="Runs a day of an archive: applies testing, pulls unstable, feeds the office, mails it "
+                               "bugs and results of tests, looks at the next run, orders it, and applies testing "
+                               "again.",
         epilog="Status 0: all is well. 1: something stands still that a person should see. 2: the words or the "
                "settings are wrong. 3: a step refused, and the day ended there. 4: a step failed, and the day ended "
                "there.")
     words.add_argument("--conf", default=CONF, metavar="FILE", help=f"the settings ({CONF})")
     words.add_argument("--day", type=days.day, help="the day of the run, as 2025-03-20 (today, in UTC)")
     words.add_argument("--summary", action="store_true", help="print one mail at the end, with a subject")
-    for step in ("feed", "look", "apply"):
+    for step in STEPS:
         words.add_argument(f"--{step}", action="append", default=[], metavar="WORD",
                            help=f"a further word of office-{step} for this day; may be repeated")
+    words.add_argument("--without", action="append", default=[], choices=("bugs", "tests"),
+                       help="leave out this step, as when its list can't be had; may be repeated")
     return words
 
 
@@ -83,8 +87,8 @@ def summary(day: datetime.date, status: int, done: Sequence[Ran], lines: Sequenc
 def main(words: Sequence[str]) -> int:
     """Runs the day."""
     asked = parser().parse_args(words)
-    more = {"feed": asked.feed, "look": asked.look, "apply": asked.apply}
-    settings = read_settings(asked.conf, more)
+    more = {step: getattr(asked, step) for step in STEPS}
+    settings = read_settings(asked.conf, more, asked.without)
     prepared(settings)
     service = service_at(settings.url)
     today = asked.day or days.today()

@@ -1,4 +1,5 @@
 """The settings of a day: a file of fields, as the office's setup, and what stands for a field that is missing."""
+import argparse
 import os
 import shlex
 import urllib.parse
@@ -6,12 +7,16 @@ from dataclasses import dataclass, field
 from typing import Optional, Sequence
 
 from office_tools.apply.command import manager_of, parser
+from office_tools.autopkgtests import command as autopkgtests
+from office_tools.bugs import command as bugs
+from office_tools.counts import count
 from office_tools.faults import Fault
 from office_tools.files import read_bytes
 from office_tools.messages import ParagraphFault, paragraphs
 
 WRONG = 2
-FIELDS = ("Url", "Setup", "State", "Pull", "Feed", "Apply", "Look", "Propose", "Patience")
+FIELDS = ("Url", "Setup", "State", "Pull", "Feed", "Bugs", "Tests", "Apply", "Look", "Propose", "Patience")
+STEPS = ("Pull", "Feed", "Bugs", "Tests", "Apply", "Look")
 URL = "http://127.0.0.1:8080"
 SETUP = "/etc/office/setup.conf"
 PATIENCE = 30  # days
@@ -28,13 +33,16 @@ class Settings:
     feed: Sequence[str]
     apply: Sequence[str]
     look: Sequence[str]
+    bugs: Sequence[str] = ()
+    tests: Sequence[str] = ()
     propose: bool = True
     patience: int = PATIENCE
     more: dict[str, Sequence[str]] = field(default_factory=dict)
+    left_out: Sequence[str] = ()
 
 
-def read_settings(path: str, more: dict[str, Sequence[str]]) -> Settings:
-    """The settings that a file states; `more` has further words of steps."""
+def read_settings(path: str, more: dict[str, Sequence[str]], left_out: Sequence[str] = ()) -> Settings:
+    """The settings that a file states; `more` has further words of steps, and `left_out` steps of this day."""
     try:
         found = list(paragraphs(read_bytes(path)))
     except ParagraphFault as fault:
@@ -47,17 +55,19 @@ def read_settings(path: str, more: dict[str, Sequence[str]]) -> Settings:
         if entry.name.lower() not in map(str.lower, FIELDS):
             raise Fault(f"{path}:{entry.line}: there is no field {entry.name}", WRONG)
     values = {name: found[0].value(name) for name in FIELDS}
-    words = {name: split(path, name, values[name]) for name in ("Pull", "Feed", "Apply", "Look")}
+    words = {name: split(path, name, values[name]) for name in STEPS}
     if not words["Feed"] or not words["Apply"]:
         raise Fault(f"{path}: the fields Feed and Apply are needed", WRONG)
     for word in words["Feed"]:
         if word in ("--propose", "--proposals", "--order", "--no-order", "--dry-run"):
             raise Fault(f"{path}: Feed: {word}: office-day orders, and the field Propose says whether it proposes",
                         WRONG)
+    taken(path, "Bugs", bugs.parser(), words["Bugs"])
+    taken(path, "Tests", autopkgtests.parser(), words["Tests"])
     url = values["Url"] or URL
     return Settings(url, values["Setup"] or SETUP, values["State"] or state_for(url), words["Pull"], words["Feed"],
-                    words["Apply"], words["Look"] or folders(path, words["Apply"]), is_yes(path, values["Propose"]),
-                    number(path, values["Patience"]), more)
+                    words["Apply"], words["Look"] or folders(path, words["Apply"]), words["Bugs"], words["Tests"],
+                    is_yes(path, values["Propose"]), number(path, values["Patience"]), more, left_out)
 
 
 def split(path: str, name: str, value: Optional[str]) -> Sequence[str]:
@@ -70,13 +80,24 @@ def split(path: str, name: str, value: Optional[str]) -> Sequence[str]:
 
 def folders(path: str, words: Sequence[str]) -> Sequence[str]:
     """The published folders of the archive that the words of office-apply name."""
-    try:
-        asked = parser().parse_args(words)
-    except SystemExit as fault:
-        raise Fault(f"{path}: Apply: office-apply doesn't take these words", WRONG) from fault
+    asked = parsed(path, "Apply", parser(), words)
     if asked.manager not in ("reprepro", "aptly"):
         raise Fault(f"{path}: the field Look is needed: the folders dists/SUITE of testing and of unstable", WRONG)
     return manager_of(asked)[0].published_folders()
+
+
+def parsed(path: str, name: str, known: argparse.ArgumentParser, words: Sequence[str]) -> argparse.Namespace:
+    """The words of a field, as its command takes them."""
+    try:
+        return known.parse_args(words)
+    except SystemExit as fault:
+        raise Fault(f"{path}: {name}: {known.prog} doesn't take these words", WRONG) from fault
+
+
+def taken(path: str, name: str, known: argparse.ArgumentParser, words: Sequence[str]) -> None:
+    """Looks whether a command that mails bugs takes the words of a field, if there are any."""
+    if words and parsed(path, name, known, words).dry_run:
+        raise Fault(f"{path}: {name}: --dry-run: office-day sends what is new", WRONG)
 
 
 def is_yes(path: str, value: Optional[str]) -> bool:
@@ -88,9 +109,10 @@ def is_yes(path: str, value: Optional[str]) -> bool:
 
 def number(path: str, value: Optional[str]) -> int:
     """A number of days."""
-    if value is not None and not value.isdecimal():
-        raise Fault(f"{path}: Patience: it is a number of days", WRONG)
-    return PATIENCE if value is None else int(value)
+    try:
+        return PATIENCE if value is None else count(value)
+    except ValueError as fault:
+        raise Fault(f"{path}: Patience: it is a number of days, of at most nine digits", WRONG) from fault
 
 
 def state_for(url: str) -> str:

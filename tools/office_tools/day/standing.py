@@ -12,7 +12,7 @@ from office_tools.day.steps import STANDS, Ran
 from office_tools.files import read_bytes, write_whole
 
 MEMORY = "memory.json"
-COUNTED = re.compile(r"for (\d+) days?: (.*)")
+COUNTED = re.compile(r"for ([0-9]{1,9}) days?: (.*)")
 HELD = "held back: "
 
 

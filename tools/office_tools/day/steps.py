@@ -1,4 +1,5 @@
 """The steps of a day: other commands, run one after the other, and what each of them said."""
+import functools
 import os
 import shutil
 import subprocess
@@ -41,7 +42,7 @@ class Steps:
         """
         plan: list[Callable[[], Ran]] = [self.check, *([self.apply] if has_testing else [])]
         plan += [self.pull] if self.settings.pull else []
-        plan += [self.feed, self.look, self.apply, self.backup]
+        plan += [self.feed, *self.bugs_and_tests(), self.look, self.apply, self.backup]
         for step in plan:
             ran = step()
             self.done.append(ran)
@@ -96,8 +97,17 @@ class Steps:
     def feed(self) -> Ran:
         """Sends what is new, and orders nothing."""
         cache = [] if "--cache" in self.settings.feed else ["--cache", self.cache]
-        return self.command("feed", [*self.office(), *self.days(), "--no-order", *cache, *self.more("feed"),
-                                     *self.settings.feed])
+        return self.command("feed", [*self.office(), *self.days(), "--no-order", *cache, *self.settings.feed,
+                                     *self.more("feed")])
+
+    def bugs_and_tests(self) -> Sequence[Callable[[], Ran]]:
+        """Mails bugs and results of tests, if the settings have some and this day leaves them in.
+
+        That is behind the feed, since a bug states versions that unstable has, and before the order, which covers it.
+        """
+        known = {"bugs": self.settings.bugs, "tests": self.settings.tests}
+        return [functools.partial(self.command, name, [*self.office(), *words, *self.more(name)])
+                for name, words in known.items() if words and name not in self.settings.left_out]
 
     def look(self) -> Ran:
         """Blocks what can't be installed, and orders the run, and the one of proposed groups."""

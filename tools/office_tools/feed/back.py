@@ -18,12 +18,13 @@ from office_tools.from_packages.binaries import Binary, Key
 
 @dataclass(frozen=True)
 class Archive:
-    """What the archive has in unstable, what the mail says, and what the office's testing has."""
+    """What the archive has in unstable, what the mail says, what the office's testing has, and the maintainers."""
 
     sources: Mapping[str, str]
     binaries: Sequence[Binary]
     known: Known
     testing: reports.Testing
+    maintainers: Mapping[str, str] = field(default_factory=dict)
 
     def told_version(self, source: str) -> Optional[str]:
         """The archive's version that was last sent for a source, without marks."""

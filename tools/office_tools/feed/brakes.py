@@ -49,7 +49,7 @@ def check_day(day: Optional[datetime.date], today: datetime.date, last: datetime
     if today < last:
         raise Fault(f"today is {today} by the clock, and the last order is of {last}: set the clock, or state the "
                     "day by --day", REFUSED)
-    if today > last + datetime.timedelta(MOST_DAYS):
+    if (today - last).days > MOST_DAYS:
         raise Fault(f"today is {today} by the clock, and the last order is of {last}, more than {MOST_DAYS} days "
                     "before: all uploads would be so much older; set the clock, or state the day by --day", REFUSED)
 

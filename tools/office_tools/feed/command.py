@@ -11,6 +11,7 @@ from office_tools.accounts import service_at
 from office_tools.bags import framed
 from office_tools.faults import Fault
 from office_tools.feed import archive, brakes, mailbox, restoring
+from office_tools.feed.indexes import Indexes, indexes_in
 from office_tools.feed.mailbox import REFUSED, Mailbox, Outgoing
 from office_tools.feed.memory import ChangesRead, Memory, remembered
 from office_tools.feed.news import BUILDS, HINTS, UPLOADS, News, Told, Unstable, Ways, news
@@ -105,13 +106,15 @@ class Feed:
         print(f"proposed {len(hints)}, in {path}")
 
 
-def unstable_of(files: archive.Files) -> Unstable:
+def unstable_of(files: archive.Files, indexes: Indexes) -> Unstable:
     """What the indexes have."""
-    found, architectures = read_binaries(files.packages)
+    found, architectures = read_binaries(files.packages, indexes.sections)
     if not architectures:
         raise Fault("the indexes have no package", REFUSED)
     binaries = list(fitting(found))
-    return Unstable(read_sources(files.sources, binaries), binaries, architectures)
+    sources = read_sources(files.sources, binaries, indexes.sections)
+    indexes.write()
+    return Unstable(sources.versions, binaries, architectures, sources.maintainers)
 
 
 @dataclass(frozen=True)
@@ -133,7 +136,7 @@ class Turn:
             archive.Files(asked.packages, asked.sources)
         if not asked.other_release:
             brakes.check_releases(files.releases, self.memory.releases)
-        unstable = unstable_of(files)
+        unstable = unstable_of(files, indexes_in(self.folder))
         feed = self.feed(unstable)
         if not asked.dry_run:
             feed.settle()

@@ -13,8 +13,9 @@ from office_tools.from_packages.sent import key_of, needed
 from office_tools.from_packages.sources import put_newer
 from office_tools.messages import Kind, Label, Paragraph, kind_of, paragraphs
 
-FORM = 1
+FORM = 2
 """The number of the form in which it is kept. A file of another form is read no more."""
+LOW_DAYS = 10  # days that an upload of the urgency low waits, where nothing else is said
 
 
 @dataclass
@@ -24,7 +25,8 @@ class Known:
     `versions` has each source's greatest version, `packages` each package's greatest one, dropped or not, and `dropped`
     up to which version it was dropped. `staying` are the packages told under a made-up source, `retold` which senders
     told a version of a package under a spare name. `hints` are the texts of the release team's messages. `covers` and
-    `last_day` are those of the orders together. `ends` has the first and the last text of each sender.
+    `last_day` are those of the orders together. `ends` has the first and the last text of each sender. `low_days` is
+    how many days an upload of the least urgency waits.
     """
 
     taken: dict[str, int] = field(default_factory=dict)
@@ -37,6 +39,7 @@ class Known:
     covers: dict[str, int] = field(default_factory=dict)
     last_day: str = ""
     ends: dict[str, list[str]] = field(default_factory=dict)
+    low_days: int = LOW_DAYS
 
     @property
     def live(self) -> Mapping[Key, str]:
@@ -76,6 +79,8 @@ class Known:
                 self.covers[sender] = max(self.covers.get(sender, 0), int(number))
         elif kind is Kind.UNHINT:
             int(needed(first, "Cancels"))
+        elif kind is Kind.DELAYS:
+            self.low_days = int(needed(first, "Low"))
         if is_hint:
             self.hints[label.number] = text.decode()
         self.taken[label.sender] = label.number
@@ -97,7 +102,8 @@ class Known:
         retold = {" ".join((*key, version)): sorted(senders) for (key, version), senders in self.retold.items()}
         return json.dumps({"form": FORM, "size": size, "digest": digest, "taken": self.taken, "ends": self.ends,
                            "versions": self.versions, **keyed, "retold": retold, "hints": self.hints,
-                           "covers": self.covers, "last_day": self.last_day}).encode()
+                           "covers": self.covers, "last_day": self.last_day,
+                           "low_days": self.low_days}).encode()
 
 
 @dataclass(frozen=True)
@@ -115,7 +121,8 @@ def read(data: bytes) -> Kept:
         found: Any = json.loads(data.decode())
         if found["form"] == FORM:
             known = Known(found["taken"], found["versions"], last_day=found["last_day"], covers=found["covers"],
-                          ends=found["ends"], hints={int(number): text for number, text in found["hints"].items()})
+                          ends=found["ends"], low_days=int(found["low_days"]),
+                          hints={int(number): text for number, text in found["hints"].items()})
             for name in ("packages", "dropped", "staying"):
                 getattr(known, name).update({pair_of(key): version for key, version in found[name].items()})
             for words, senders in found["retold"].items():

@@ -1,10 +1,11 @@
 """What is new in an archive since the office's kept mail: the messages on it."""
 import dataclasses
+import datetime
 from collections import Counter
 from dataclasses import dataclass, field
 from typing import Iterator, Mapping, Optional, Sequence
 
-from office_tools import messages, reports, versions
+from office_tools import days, messages, reports, versions
 from office_tools.apply import marks
 from office_tools.bags import framed
 from office_tools.faults import Fault
@@ -29,11 +30,12 @@ GONE = "Gone"
 
 @dataclass(frozen=True)
 class Unstable:
-    """What the archive has in unstable: each source's version, and the binary packages."""
+    """What the archive has in unstable: each source's version, the binary packages, and who maintains the sources."""
 
     sources: Mapping[str, str]
     binaries: Sequence[Binary]
     architectures: Sequence[str]
+    maintainers: Mapping[str, str] = field(default_factory=dict)
 
 
 @dataclass(frozen=True)
@@ -92,7 +94,7 @@ class Ways:
 def news(unstable: Unstable, box: Mailbox, told: Told, ways: Ways) -> tuple[News, Mapping[Key, str]]:
     """What the archive has and the mail doesn't say; and the packages that are gone, for the brakes."""
     look_at(unstable, box)
-    archive = Archive(unstable.sources, unstable.binaries, box.known, told.testing)
+    archive = Archive(unstable.sources, unstable.binaries, box.known, told.testing, unstable.maintainers)
     retold = came_back(archive, ways.back)
     again = rebuilds(archive, box, retold) if ways.with_rebuilds else Rebuilds()
     staying = stay(archive, box, retold, again) if ways.is_smooth else set()
@@ -140,7 +142,7 @@ def uploads(archive: Archive, box: Mailbox, retold: Retold, ways: Ways) -> Itera
         if name not in retold.sources and (told is None or versions.compare(version, told) > 0):
             arrival: Optional[Arrival] = arrival_of(name, version, ways)
         elif name in retold.urgent:
-            arrival = Arrival(Urgency.CRITICAL, ways.day)
+            arrival = long_ago(ways.day, box.known.low_days)
         else:
             is_once_more = name in retold.sources and name not in retold.again
             first = first_arrival(box, name, version) if is_once_more else None
@@ -148,11 +150,19 @@ def uploads(archive: Archive, box: Mailbox, retold: Retold, ways: Ways) -> Itera
         if arrival is not None:
             number += 1
             yield messages.upload(Label(UPLOADS, number), name, retold.sources.get(name, version), arrival.urgency,
-                                  arrival.day)
+                                  arrival.day, archive.maintainers.get(name))
     for name, version in sorted(retold.staying.items()):
         if archive.known.versions.get(name) != version:
             number += 1
             yield messages.upload(Label(UPLOADS, number), name, version, Urgency.CRITICAL, ways.day)
+
+
+def long_ago(day: str, wait: int) -> Arrival:
+    """The arrival of what is old enough at once. It has the least urgency: a greater one would count for the version
+    behind it, too, if this one doesn't move before.
+    """
+    first, today = datetime.date(days.FIRST_YEAR, 1, 1), datetime.date.fromisoformat(day)
+    return Arrival(Urgency.LOW, (today - datetime.timedelta(min(wait, (today - first).days))).isoformat())
 
 
 def arrival_of(name: str, version: str, ways: Ways) -> Arrival:

@@ -2,6 +2,7 @@
 import argparse
 
 from office_tools import days
+from office_tools.counts import count
 from office_tools.feed.told import NAME
 
 URL = "http://127.0.0.1:8080"
@@ -55,11 +56,3 @@ def add_brakes(words: argparse.ArgumentParser) -> None:
                         help="order runs that don't see the mail after a gap in this sender's numbers")
     brakes.add_argument("--other-release", action="store_true",
                         help="take indexes whose Release is older than the last one, or has less")
-
-
-def count(word: str) -> int:
-    """A number from 0 on."""
-    found = int(word)
-    if found < 0:
-        raise ValueError(word)
-    return found

@@ -10,8 +10,9 @@ from office_tools.faults import Fault
 from office_tools.files import write_whole
 from office_tools.from_britney.compare import compared, read_heidi, reason
 from office_tools.from_britney.folder import REFUSED, Folder
-from office_tools.from_britney.mailbag import MOST_SPARES, adopted, news, office_of, read_suite, setup_of, spares
+from office_tools.from_britney.mailbag import adopted, news, office_of, read_suite, setup_of
 from office_tools.from_britney.told import NAME, take_over, tell
+from office_tools.from_packages.mail import MOST_SPARES, spares
 
 URL = "http://127.0.0.1:8080"
 SHOWN = 10

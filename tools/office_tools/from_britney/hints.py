@@ -1,6 +1,7 @@
 """The hints of britney's files, as the office has them."""
 import functools
 import os
+import re
 from dataclasses import dataclass
 from typing import Callable, Iterator, Mapping, Sequence
 
@@ -13,7 +14,7 @@ BRITNEY = "Britney"
 """A field that the office doesn't read: the file that a hint is in. It marks the hints of this command."""
 GONE = "Gone"
 """The mark of a hint for a source that is gone from unstable, as office-feed has it."""
-MOST_AGE = 9999
+AGE = re.compile("0*[0-9]{1,4}")
 SENDER = "rt"
 
 ITEMS: Mapping[str, str] = {
@@ -73,9 +74,9 @@ def converted(words: Sequence[str]) -> str:
             raise LeftOut("it isn't block NAME ..")
         return " ".join(words)
     if kind == "age-days":
-        if not others[0].isascii() or not others[0].isdigit() or int(others[0][:9]) > MOST_AGE or not others[1:]:
+        if not AGE.fullmatch(others[0]) or not others[1:]:
             raise LeftOut("it isn't age-days N NAME/VERSION ..")
-        return " ".join([kind, str(int(others[0])), *checked(others[1:])])
+        return " ".join([kind, others[0].lstrip("0") or "0", *checked(others[1:])])
     if kind not in ITEMS:
         raise LeftOut("the office has no such hint")
     items = checked(others)

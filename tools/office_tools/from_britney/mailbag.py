@@ -18,21 +18,12 @@ from office_tools.from_britney.told import tell
 from office_tools.from_packages import mail
 from office_tools.from_packages.binaries import Binary, fitting, read_binaries
 from office_tools.from_packages.sent import read_sent
-from office_tools.from_packages.sources import Arrival, read_sources
+from office_tools.from_packages.sources import Arrival, Sources, read_sources
 from office_tools.messages import Kind, Role, Urgency, kind_of
 from office_tools.setups import Setup
 
 BUGS, HINTS = "bts", "rt"
-MOST_SPARES = 8  # of the 16 senders of a setup
 MOST_ARCHITECTURES = 16
-
-
-def spares(word: str) -> int:
-    """How many spare senders of builds there are, as a word of a command."""
-    found = int(word)
-    if not 0 <= found <= MOST_SPARES:
-        raise ValueError(word)
-    return found
 
 
 def setup_of(architectures: Sequence[str], count: int) -> Setup:
@@ -46,9 +37,14 @@ def setup_of(architectures: Sequence[str], count: int) -> Setup:
 class Contents:
     """What a suite has: each source's version, the packages, and the architectures."""
 
-    sources: Mapping[str, str]
+    found: Sources
     binaries: Sequence[Binary]
     architectures: Sequence[str]
+
+    @property
+    def sources(self) -> Mapping[str, str]:
+        """The version of each source."""
+        return self.found.versions
 
     def names(self) -> Names:
         """Its sources, and those of its packages."""
@@ -74,9 +70,7 @@ def adopted(setup: str, testing: Contents, day: datetime.date) -> Sequence[bytes
     binaries, gone = stripped(at_version, testing.architectures)
     for line in [entry.line() for entry in moved] + [entry.line() for entry in gone]:
         tell(line)
-    built = {binary.source for binary in binaries}
-    sources = {name: version for name, version in testing.sources.items() if name in built}
-    return adoption.letters(setup, binaries, sources, day)
+    return adoption.letters(setup, binaries, testing.found.among({binary.source for binary in binaries}), day)
 
 
 def book_of(letters: Letters) -> Book:
@@ -119,7 +113,8 @@ def news(folder: Folder, unstable: Contents, testing: Contents, office: Office, 
     """The messages about what is new in the folder, and an order after them that covers all mail."""
     sent = read_sent(office.path)
     default = Arrival(Urgency.MEDIUM, day)
-    arrivals = mail.Uploading(folder.arrivals(unstable.sources, testing.sources, default), default)
+    arrivals = mail.Uploading(folder.arrivals(unstable.sources, testing.sources, default), default,
+                              unstable.found.maintainers)
     uploads = list(mail.uploads(unstable.sources, sent, arrivals))
     drops = list(mail.drops(unstable.binaries, sent, sent.last["ftp"] + len(uploads)))
     builds = list(mail.builds(unstable.binaries, sent))

@@ -1,12 +1,13 @@
 """The binary packages of an archive's indexes, as far as the office takes them."""
 import dataclasses
+import functools
 from collections import defaultdict
 from dataclasses import dataclass
 from typing import Iterator, Mapping, Optional, Sequence
 
 from office_tools import messages, relations, versions
 from office_tools.bags import LONGEST
-from office_tools.control import sections
+from office_tools.control import Fields, Reader, sections
 from office_tools.from_packages.told import Weight, tell
 from office_tools.relations import Alternative, Bad, Clause
 
@@ -17,7 +18,10 @@ GREATEST_LABEL = messages.Label("bd", 999_999_999)
 
 @dataclass(frozen=True)
 class Binary:
-    """A binary package: the values of its fields as they are sent, and what is read from them."""
+    """A binary package: the values of its fields as they are sent, and what is read from them.
+
+    Its relations are read when they are asked for.
+    """
 
     name: str
     version: str
@@ -25,8 +29,17 @@ class Binary:
     source: str
     source_version: str
     fields: Mapping[str, str]
-    clauses: Sequence[Clause]
-    provisions: Sequence[Alternative]
+
+    @functools.cached_property
+    def clauses(self) -> Sequence[Clause]:
+        """What it needs."""
+        return [clause for field in ("Pre-Depends", "Depends")
+                for clause in relations.clauses(self.fields.get(field, ""), field)]
+
+    @functools.cached_property
+    def provisions(self) -> Sequence[Alternative]:
+        """What it provides."""
+        return relations.provisions(self.fields.get("Provides", ""))
 
     @property
     def key(self) -> Key:
@@ -39,22 +52,31 @@ class Binary:
 
 
 def binary_of(fields: Mapping[str, str]) -> Binary:
-    """A binary package as it is sent. The fields are looked at in the office's order."""
+    """A binary package as it is sent. The fields are looked at in the office's order; relations that were good once
+    are good.
+    """
     name = relations.checked_name(fields.get("Package", ""), "Package")
     version = relations.checked_version(fields.get("Version", ""))
     architecture = relations.checked_architecture(fields.get("Architecture", ""))
     source, source_version = relations.source_of(fields.get("Source"), name, version)
-    clauses = [clause for field in ("Pre-Depends", "Depends")
-               for clause in relations.clauses(fields.get(field, ""), field)]
-    provisions = relations.provisions(fields.get("Provides", ""))
-    return Binary(name, version, architecture, source, source_version, fields, clauses, provisions)
+    binary = Binary(name, version, architecture, source, source_version, fields)
+    if not isinstance(fields, Fields) or not fields.is_good:
+        checked(binary)
+    if isinstance(fields, Fields):
+        fields.is_good = True
+    return binary
 
 
-def read_binaries(paths: Sequence[str]) -> tuple[list[Binary], list[str]]:
+def checked(binary: Binary) -> None:
+    """Reads the relations of a package, so that a bad one is found."""
+    _ = binary.clauses, binary.provisions
+
+
+def read_binaries(paths: Sequence[str], read: Reader = sections) -> tuple[list[Binary], list[str]]:
     """The binary packages of the files, one for each name on an architecture, in order; and the architectures."""
     found: dict[Key, list[Binary]] = defaultdict(list)
     for path in paths:
-        for fields in sections(path, [rule.name for rule in messages.BINARY_FIELDS]):
+        for fields in read(path, [rule.name for rule in messages.BINARY_FIELDS]):
             try:
                 binary = binary_of(fields)
             except Bad as bad:
@@ -104,4 +126,4 @@ def shortened(binary: Binary, needed: set[str]) -> Binary:
     fields = {name: value for name, value in binary.fields.items() if name != "Provides" or kept}
     if kept:
         fields["Provides"] = ", ".join(kept)
-    return dataclasses.replace(binary, fields=fields, provisions=relations.provisions(", ".join(kept)))
+    return dataclasses.replace(binary, fields=fields)

@@ -50,13 +50,14 @@ def main(given: Sequence[str]) -> int:
     if not architectures or len(architectures) > MOST_ARCHITECTURES:
         raise Fault(f"the files name {len(architectures)} architectures; 1 to {MOST_ARCHITECTURES} are taken")
     binaries = list(fitting(found))
-    current = read_sources(asked.sources, binaries)
+    sources = read_sources(asked.sources, binaries)
+    current = sources.versions
     sent = read_sent(asked.after)
     arrived = Arrival(Urgency(asked.urgency), str(asked.uploaded))
     known = read_arrivals(asked.changes, arrived)
     if asked.after:  # what is new came since the mail before, whatever its uploader wrote
         known = {upload: Arrival(arrival.urgency, arrived.day) for upload, arrival in known.items()}
-    arrivals = mail.Uploading(known, arrived)
+    arrivals = mail.Uploading(known, arrived, sources.maintainers)
     suites = Suites(current_of(binaries, current), architectures)
     if not asked.with_uninstallable:
         suites.leave_out(sent)

@@ -1,9 +1,10 @@
 """The messages of the bag."""
-from dataclasses import dataclass
+from dataclasses import dataclass, field
 from typing import Iterator, Mapping, Optional, Sequence
 
 from office_tools import messages, versions
 from office_tools.bags import LONGEST
+from office_tools.counts import count
 from office_tools.from_packages import proposals
 from office_tools.from_packages.binaries import Binary
 from office_tools.from_packages.sent import Sent
@@ -20,8 +21,8 @@ MOST_SPARES = 8  # of the 16 senders of a setup, beside those above and `hand`
 
 def spares(word: str) -> int:
     """How many spare senders of builds there are, as a word of a command."""
-    found = int(word)
-    if not 0 <= found <= MOST_SPARES:
+    found = count(word)
+    if found > MOST_SPARES:
         raise ValueError(word)
     return found
 
@@ -49,10 +50,11 @@ def is_new(said: str, version: str, sent: Optional[str], dropped: Optional[str] 
 
 @dataclass(frozen=True)
 class Uploading:
-    """How the uploads came: each one whose arrival is known, and all others."""
+    """How the uploads came: each one whose arrival is known, and all others; and who maintains sources."""
 
     known: Arrivals
     others: Arrival
+    maintainers: Mapping[str, str] = field(default_factory=dict)
 
 
 def uploads(current: Mapping[str, str], sent: Sent, arrivals: Uploading) -> Iterator[bytes]:
@@ -63,7 +65,8 @@ def uploads(current: Mapping[str, str], sent: Sent, arrivals: Uploading) -> Iter
     new = [name for name in sorted(current) if is_new("source " + name, current[name], sent.versions.get(name))]
     for number, name in enumerate(new, sent.last["ftp"] + 1):
         arrival = arrivals.known.get((name, current[name]), arrivals.others)
-        yield messages.upload(Label("ftp", number), name, current[name], arrival.urgency, arrival.day)
+        yield messages.upload(Label("ftp", number), name, current[name], arrival.urgency, arrival.day,
+                              arrivals.maintainers.get(name))
 
 
 def drops(binaries: Sequence[Binary], sent: Sent, after: int) -> Iterator[bytes]:

@@ -1,18 +1,20 @@
 """The sources of an archive: their versions by its indexes, their urgency and day by their files .changes."""
 import email.utils
 import os
-from dataclasses import dataclass
+from dataclasses import dataclass, field
 from typing import Callable, Mapping, Optional, Sequence, TypeVar
 
 from office_tools import relations, versions
-from office_tools.control import Changes, read_changes, sections
+from office_tools.control import Changes, Reader, read_changes, sections
 from office_tools.faults import Fault, cause_of
 from office_tools.from_packages.binaries import Binary
 from office_tools.from_packages.told import Weight, tell
-from office_tools.messages import Urgency
+from office_tools.messages import MAINTAINER, Urgency
 from office_tools.relations import Bad
 
 Name = TypeVar("Name")
+
+LONGEST_MAINTAINER = 1000  # characters
 
 
 def put_newer(known: dict[Name, str], name: Name, version: str) -> None:
@@ -21,13 +23,33 @@ def put_newer(known: dict[Name, str], name: Name, version: str) -> None:
         known[name] = version
 
 
-def read_sources(paths: Sequence[str], binaries: Sequence[Binary]) -> dict[str, str]:
-    """The version of each source: the newest one that a package or a file Sources names."""
-    known: dict[str, str] = {}
+@dataclass(frozen=True)
+class Sources:
+    """The version of each source, and the maintainers of those of which that is known."""
+
+    versions: dict[str, str] = field(default_factory=dict)
+    maintainers: dict[str, str] = field(default_factory=dict)
+
+    def put(self, name: str, version: str, maintainer: str) -> None:
+        """Puts a version of a file Sources. A maintainer that a message can't have in a line is left out."""
+        self.versions[name] = version
+        self.maintainers.pop(name, None)
+        if maintainer.isprintable() and 0 < len(maintainer) <= LONGEST_MAINTAINER:
+            self.maintainers[name] = maintainer
+
+    def among(self, names: set[str]) -> "Sources":
+        """Those of these names."""
+        return Sources({name: version for name, version in self.versions.items() if name in names}, self.maintainers)
+
+
+def read_sources(paths: Sequence[str], binaries: Sequence[Binary], read: Reader = sections) -> Sources:
+    """The sources, each at the newest version that a package or a file Sources names."""
+    found = Sources()
+    known = found.versions
     for binary in binaries:
         put_newer(known, binary.source, binary.source_version)
     for path in paths:
-        for fields in sections(path, ["Package", "Version", "Extra-Source-Only"]):
+        for fields in read(path, ["Package", "Version", "Extra-Source-Only", MAINTAINER]):
             name, version = fields.get("Package", ""), fields.get("Version", "")
             try:
                 relations.checked_name(name, "Package")
@@ -42,8 +64,8 @@ def read_sources(paths: Sequence[str], binaries: Sequence[Binary]) -> dict[str, 
             elif newer is not None and versions.compare(version, newer) < 0:
                 tell(f"source {name} {version}: left out: {newer} is newer", Weight.NOTE)
             else:
-                known[name] = version
-    return known
+                found.put(name, version, fields.get(MAINTAINER, ""))
+    return found
 
 
 @dataclass(frozen=True)

@@ -3,6 +3,7 @@ from dataclasses import dataclass
 from typing import Iterator, Sequence
 
 from office_tools import versions
+from office_tools.counts import FORM
 from office_tools.hint.letters import Letter, Signature, hint, unhint
 from office_tools.hint.team import Standing, Team
 from office_tools.lint.state import Wish, wish_of
@@ -28,7 +29,7 @@ class TakenBack:
 
 def asked_for(standing: Standing, wish: str) -> Iterator[TakenBack]:
     """Each hint in force that is the one of a number, or that has an item of a wish of the same words."""
-    if wish.isdecimal():
+    if FORM.fullmatch(wish):
         number = int(wish)
         if number in standing.wishes:
             yield TakenBack(number, standing.wishes[number], ())

@@ -73,7 +73,7 @@ def unnumbered(found: Trial, count: int) -> Sequence[str]:
         number = int(match[2]) - first.number
         return f"{match[1]} #{number}" if 0 <= number < count else match[0]
 
-    form = re.compile(rf"\b(easy|remove|{re.escape(first.sender)}) (\d+)\b")
+    form = re.compile(rf"\b(easy|remove|{re.escape(first.sender)}) ([0-9]{{1,9}})\b")
     return [form.sub(place, line) for line in found.lines]
 
 

@@ -5,6 +5,7 @@ from typing import Iterator, Optional, Sequence
 
 from office_tools import bags
 from office_tools.accounts import service_at
+from office_tools.counts import count
 from office_tools.days import day, today
 from office_tools.faults import Fault
 from office_tools.files import read_bytes
@@ -120,7 +121,7 @@ def parser() -> argparse.ArgumentParser:
     words.add_argument("--db", metavar="STORE", help="the store's file, while no office has it open")
     words.add_argument("--today", metavar="DAY", type=day, default=today(),
                        help="the day that is today (by the system's clock, in UTC)")
-    words.add_argument("--days", metavar="N", type=int, default=30,
+    words.add_argument("--days", metavar="N", type=count, default=30,
                        help="how many days back an upload's day may lie (30)")
     words.add_argument("--try", action="store_true", dest="is_tried",
                        help="warns of a hint that the next run would refuse, or that changes nothing in it")
@@ -142,8 +143,6 @@ def main(words: Sequence[str]) -> int:
     url = asked.url or (None if asked.conf else URL)
     if (asked.send or asked.user or asked.is_tried) and not url:
         known.error("--send, --try and --user need --url")
-    if asked.days < 0:
-        known.error("--days needs a number from 0 on")
     service = service_at(url, asked.user) if url else None
     office = ServiceOffice(asked.conf, service) if service else StoreOffice(asked.conf, asked.db)
     texts = [text for path in asked.file for text in texts_of(path)]

@@ -4,6 +4,7 @@ from email.headerregistry import Address
 from typing import Collection, Iterator, Optional, Sequence
 
 from office_tools.accounts import service_at
+from office_tools.counts import number
 from office_tools.faults import Fault, tell
 from office_tools.notify import mails, told
 from office_tools.notify.maintainers import Maintainers, address_of, read_sources
@@ -14,13 +15,6 @@ NAME = "office-notify"
 URL = "http://127.0.0.1:8080"
 SENDMAIL = "/usr/sbin/sendmail -oi -t"
 FROM = "Debian migration office <office@localhost>"
-
-
-def number(word: str) -> int:
-    """The number of a run."""
-    if not word.isdecimal() or int(word) < 1:
-        raise ValueError(word)
-    return int(word)
 
 
 def parser() -> argparse.ArgumentParser:

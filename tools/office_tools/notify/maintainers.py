@@ -11,7 +11,7 @@ from office_tools.faults import Fault, cause_of
 from office_tools.messages import ParagraphFault, paragraphs
 from office_tools.service import Service
 
-UPLOAD = re.compile(r"(?m)^upload (\S+) (\d+) ")
+UPLOAD = re.compile(r"(?m)^upload (\S+) ([0-9]{1,9}) ")
 MAINTAINER = re.compile(r"([^<>]*?)\s*<([^<>\s]+@[^<>\s]+)>")
 
 

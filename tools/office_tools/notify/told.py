@@ -30,5 +30,5 @@ def read(path: str) -> Optional[Told]:
         return Told(int(kept["run"]), set(map(str, kept["done"])))
     except FileNotFoundError:
         return None
-    except (OSError, ValueError, TypeError, KeyError) as fault:
+    except (OSError, ValueError, TypeError, KeyError, OverflowError, RecursionError) as fault:
         raise Fault(f"{path}: {cause_of(fault)}: remove it to begin with the next run", WORDS_ARE_WRONG) from fault

@@ -4,12 +4,13 @@ Each value means what it means there. Keys of things that the office doesn't kno
 autopkgtests, no binaries of the old version. YAML has each text of JSON as it is, so texts are written by that.
 """
 import datetime
+import functools
 import json
 import re
-from typing import Any, Iterator, Mapping, Sequence
+from typing import Any, Iterator, Mapping, Sequence, Union
 
 from office_tools.pages.excuses_json import policies, told_of
-from office_tools.pages.kept_mail import Person
+from office_tools.pages.kept_mail import MOST_KEPT, Person
 from office_tools.pages.outcomes import NOTHING, reason_words, SourceOutcome
 from office_tools.pages.verdicts import verdict
 from office_tools.pages.waits import Waits
@@ -18,24 +19,38 @@ from office_tools.reports import Excuse, Excuses, ReasonKind
 UNPRINTABLE = re.compile("[\x7f-\x9f\ufeff\ufffe\uffff]")  # what JSON has as it is, and YAML hasn't
 
 
-def excuses_yaml(excuses: Excuses, outcomes: Mapping[str, Sequence[SourceOutcome]], people: Mapping[str, Person],
-                 waits: Waits) -> str:
-    """The text of the file."""
-    candidates = {excuse.source for excuse in excuses.excuses if excuse.is_candidate}
-    told = [f"generated-date: {datetime.datetime.combine(excuses.date, datetime.time())}\n",
-            "sources:\n" if excuses.excuses else "sources: []\n"]
-    for excuse in excuses.excuses:
-        others = sorted({wait.other for wait in waits.by_source.get(excuse.source, ()) if wait.other})
-        person = people.get(excuse.source)
-        values = source_yaml(excuse, outcomes.get(excuse.source, NOTHING))
+class ExcusesYaml:
+    """The text of the file, which is made of a run, and again once more is known of what its sources wait for."""
+
+    def __init__(self, excuses: Excuses, outcomes: Mapping[str, Sequence[SourceOutcome]],
+                 people: Mapping[str, Person]) -> None:
+        self.excuses, self.outcomes, self.people = excuses, outcomes, people
+        self.candidates = {excuse.source for excuse in excuses.excuses if excuse.is_candidate}
+        self.items: dict[tuple[str, ...], str] = {}  # by a source and those that it waits for
+
+    def text(self, waits: Waits) -> str:
+        """The text, by what the sources wait for."""
+        told = [f"generated-date: {datetime.datetime.combine(self.excuses.date, datetime.time())}\n",
+                "sources:\n" if self.excuses.excuses else "sources: []\n"]
+        for excuse in self.excuses.excuses:
+            others = sorted({wait.other for wait in waits.by_source.get(excuse.source, ()) if wait.other})
+            key = (excuse.source, *others)
+            if key not in self.items:
+                self.items[key] = "".join(item_lines(self.values(excuse, others)))
+            told.append(self.items[key])
+        return "".join(told)
+
+    def values(self, excuse: Excuse, others: Sequence[str]) -> Mapping[str, Any]:
+        """What the file says of a source that waits for others."""
+        person = self.people.get(excuse.source)
+        values = source_yaml(excuse, self.outcomes.get(excuse.source, NOTHING))
         if person is not None:
             values["maintainer"] = person.maintainer
         if others:
-            dependencies = {"blocked-by": [name for name in others if name not in candidates],
-                            "migrate-after": [name for name in others if name in candidates]}
+            dependencies = {"blocked-by": [name for name in others if name not in self.candidates],
+                            "migrate-after": [name for name in others if name in self.candidates]}
             values["dependencies"] = {key: names for key, names in dependencies.items() if names}
-        told += item_lines(values)
-    return "".join(told)
+        return values
 
 
 def source_yaml(excuse: Excuse, outcomes: Sequence[SourceOutcome]) -> dict[str, Any]:
@@ -69,10 +84,13 @@ def block_lines(values: Mapping[str, Any]) -> Iterator[str]:
         elif isinstance(value, list) and value:
             yield f"{key}:\n"
             yield from (f"- {scalar(part)}\n" for part in value)
+        elif isinstance(value, (list, Mapping)):
+            yield f"{key}: {'[]' if isinstance(value, list) else '{}'}\n"
         else:
             yield f"{key}: {scalar(value)}\n"
 
 
-def scalar(value: Any) -> str:
-    """A value that has no parts, or none in it."""
+@functools.lru_cache(MOST_KEPT, typed=True)
+def scalar(value: Union[str, int, bool]) -> str:
+    """A value that has no parts. The same ones are in many sources."""
     return UNPRINTABLE.sub(lambda sign: f"\\u{ord(sign[0]):04x}", json.dumps(value, ensure_ascii=False))

@@ -1,11 +1,13 @@
 """The page of what changed since the run before, and the feeds."""
 import datetime
+import functools
 from typing import Iterator, Mapping, Sequence
 
 from office_tools.pages import people, views
 from office_tools.pages.atom import atom, Entry, Feed
 from office_tools.pages.changes import Change, Kind, sentence
-from office_tools.pages.sections import cell, Column, line, Section, SectionPage, Table
+from office_tools.pages.rows import Column
+from office_tools.pages.sections import cell, Kept, line, Section, SectionPage, Table
 from office_tools.pages.state import Event
 from office_tools.pages.told import Piece
 
@@ -65,7 +67,7 @@ class Feeds:
                                  f"run/{run.number}.html", "\n".join(parts)))
         return self.feed("feed.xml", "Migration to testing", "index.html", entries)
 
-    def of_people(self, changes: Mapping[int, Sequence[Change]]) -> Iterator[tuple[str, bytes]]:
+    def of_people(self, changes: Mapping[int, Sequence[Change]]) -> Iterator[Kept]:
         """The feed of each person with a source that changed: an entry for each change."""
         by_source: dict[str, list[Change]] = {}
         for run in sorted(changes, reverse=True):
@@ -75,9 +77,16 @@ class Feeds:
         for name, sources in people.by_person(self.facts.people, self.facts.unmoved | by_source.keys()).items():
             found = [change for source, _ in sources for change in by_source.get(source, ())]
             found.sort(key=lambda change: (-change.after.run, change.source))
-            page = people.page_of(name)
-            yield f"people/{page}.xml", self.feed(f"people/{page}.xml", titles[name], f"people/{page}.html", [
-                self.entry(change) for change in found[:MOST_ENTRIES]])
+            path = f"people/{people.page_of(name)}.xml"
+            # What a run changed of a source stays, and so does what it was before.
+            shown = [self.office, titles[name]] + [
+                f"{change.source} {change.after.run}" for change in found[:MOST_ENTRIES]]
+            yield Kept(path, shown, functools.partial(self.of_person, path, titles[name], found[:MOST_ENTRIES]))
+
+    def of_person(self, path: str, title: str, found: Sequence[Change]) -> Sequence[tuple[str, bytes]]:
+        """The feed of a person."""
+        page = path.removesuffix("xml") + "html"
+        return [(path, self.feed(path, title, page, [self.entry(change) for change in found]))]
 
     def entry(self, change: Change) -> Entry:
         """The entry of a change."""

@@ -2,6 +2,7 @@
 import argparse
 import contextlib
 import fcntl
+import gc
 import hashlib
 import math
 import os
@@ -21,6 +22,7 @@ from office_tools.pages.state import State
 WRONG_WORDS = 2
 URL = "http://127.0.0.1:8080"
 SECONDS = 3.0
+COLLECTED = 200_000  # new objects after which unused ones are looked for: hardly any are in circles
 
 
 def seconds_of(text: str) -> float:
@@ -130,6 +132,7 @@ def extras_of(asked: argparse.Namespace) -> Extras:
 
 def make(office: Office, folder: str, kept: str, look: tuple[Patterns, Extras], why_seconds: float) -> None:
     """Fetches what is new into the folder of what is kept, and writes the pages that changed."""
+    gc.set_threshold(COLLECTED)
     os.makedirs(kept, exist_ok=True)
     with alone(kept), contextlib.closing(State(os.path.join(kept, "state.db"))) as state:
         newest = fetch(office, state)

@@ -5,7 +5,8 @@ from typing import Iterator, Mapping, Sequence
 
 from office_tools.pages import plots, views
 from office_tools.pages.outcomes import NOTHING, What
-from office_tools.pages.sections import cell, Column, Drawn, line, Section, SectionPage, Table
+from office_tools.pages.rows import Column
+from office_tools.pages.sections import cell, line, Section, SectionPage, Table
 from office_tools.pages.sentences import old_enough
 from office_tools.pages.told import Line, Links, Piece
 from office_tools.reports import Excuse, ReasonKind
@@ -32,7 +33,7 @@ def runs_section(facts: views.Facts) -> Section:
     labels = [run.date.strftime("%m-%d") for run in runs]
     legend: list[object] = []
     for name, look in CURVES:
-        legend += [Drawn(f"{name} {values[name][-1]}  ", "", plots.picture(name, (12, 12), (
+        legend += [Piece(f"{name} {values[name][-1]}  ", "", plots.picture(name, (12, 12), (
             f'<rect class="{look}" width="12" height="12"/>',), "key"))]
     told = [line(*legend, "in run ", Piece(str(runs[-1].number), f"run/{runs[-1].number}.html"), "."),
             line("The numbers of ", Piece("all runs", "runs.html"), " are in a table.",

@@ -6,6 +6,7 @@ from dataclasses import dataclass
 from typing import Collection, Iterable, Mapping, Optional, Sequence
 
 from office_tools import reports
+from office_tools.counts import FORM
 from office_tools.faults import Fault, tell
 from office_tools.pages.offices import finished_in, NAME, Office
 from office_tools.pages.outcomes import NOTHING, outcome_in, outcomes_of, SourceOutcome, What
@@ -42,9 +43,9 @@ def read_run(kept: KeptRun) -> Newest:
 def fetch(office: Office, state: State) -> Optional[Newest]:
     """Fetches and keeps the reports that aren't kept yet, and returns the newest run; None if no run is finished."""
     for _ in range(TURNS):
-        if not fetch_runs(office, state):
+        newest = fetch_runs(office, state)
+        if newest is None:
             return None
-        newest = read_run(state.run(state.runs()[-1].number))
         if fetch_testing(office, state, newest.number):
             fetch_told(office, state, newest.number)
             fetch_hints(office, state)
@@ -53,26 +54,30 @@ def fetch(office: Office, state: State) -> Optional[Newest]:
     raise Fault(f"a run was finished between two questions, {TURNS} times in a row")
 
 
-def fetch_runs(office: Office, state: State) -> bool:
-    """Keeps each run that the office has and that isn't kept; says whether there is one."""
+def fetch_runs(office: Office, state: State) -> Optional[Newest]:
+    """Keeps each run that the office has and that isn't kept; gives the newest one, if there is one."""
     told = {run.number: run for run in office.runs()}
     if not told:
-        return False
+        return None
     first = min(told)
     other = next((run.number for run in state.runs() if run.number >= first and told.get(run.number) != run), None)
     if other is not None:
         tell(NAME, f"run {other} isn't the one that was kept: it and all later ones are fetched again")
         state.drop_from(other)
-    last: Optional[dict[str, Event]] = None
-    for number in sorted(set(told) - {run.number for run in state.runs()}):
-        if last is None:
-            last = dict(state.last_events())
-        last |= fetch_run(office, state, told[number], last)
-    return True
+    kept = {run.number for run in state.runs()}
+    last: dict[str, Event] = {}
+    newest: Optional[Newest] = None
+    for number in sorted(set(told) - kept):
+        last = last or dict(state.last_events())
+        newest, events = fetch_run(office, state, told[number], last)
+        last |= events
+    greatest = max(kept | set(told))
+    return newest if newest is not None and newest.number == greatest else read_run(state.run(greatest))
 
 
-def fetch_run(office: Office, state: State, run: reports.Run, last: Mapping[str, Event]) -> Mapping[str, Event]:
-    """Keeps a run, and gives its events. `last` are the last events before it."""
+def fetch_run(office: Office, state: State, run: reports.Run,
+              last: Mapping[str, Event]) -> tuple[Newest, Mapping[str, Event]]:
+    """Keeps a run, and gives it with its events. `last` are the last events before it."""
     now = datetime.datetime.now(datetime.timezone.utc).strftime("%Y-%m-%dT%H:%M:%SZ")
     kept = KeptRun(run, now, office.excuses(run.number), office.update(run.number))
     read = read_run(kept)
@@ -80,7 +85,7 @@ def fetch_run(office: Office, state: State, run: reports.Run, last: Mapping[str,
         raise Fault(f"the office returned the reports of another run instead of run {run.number}")
     events = events_of(read, last)
     state.add(kept, events, {change.hint for change in read.update.changes if change.hint is not None})
-    return events
+    return read, events
 
 
 def events_of(read: Newest, last: Mapping[str, Event]) -> Mapping[str, Event]:
@@ -253,6 +258,6 @@ def hints_named(lines: Iterable[str]) -> Iterable[int]:
     """The numbers of the hints that the lines of an answer name as messages."""
     for line in lines:
         words = line.split(" ")
-        if len(words) > 3 and words[-3] == "by" and words[-1].isdigit() and line.startswith(
+        if len(words) > 3 and words[-3] == "by" and FORM.fullmatch(words[-1]) and line.startswith(
                 ("blocked ", "removal asked ", "old enough ")):
             yield int(words[-1])

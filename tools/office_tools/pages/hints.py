@@ -1,17 +1,22 @@
 """The hints in force as the pages show them: the state of each, what runs did with it, and which may be taken back."""
 import collections
+import itertools
 from dataclasses import dataclass
-from typing import Mapping, Optional, Sequence
+from typing import Iterable, Mapping, Optional, Sequence
 
 from office_tools import messages, reports
+from office_tools.counts import FORM
 from office_tools.messages import Label
 from office_tools.pages.fetching import NEXT_HINT, PROPOSED
 from office_tools.pages.sentences import refused_because
 from office_tools.pages.state import SentHint, State
-from office_tools.pages.told import Links, Piece
+from office_tools.pages.told import Links, Piece, shortened
 from office_tools.reports import Change, HintItem, ItemStanding, Outcome, Update
 
-MOST_ITEMS = 40  # items of one hint that are shown
+MOST_ITEMS = 20  # items of one hint that are shown
+MOST_NOTED = 500  # characters of a hint's comment that are shown
+MOST_COPIED = 50_000  # characters of messages that a page shows; a file has all of them
+A_PAGE = 100  # hints of a page
 STALE_RUNS = 3  # a hint that so many runs in a row refused may be taken back
 REFUSED = (Outcome.UNINSTALLABLE, Outcome.NO_CANDIDATE)
 
@@ -54,7 +59,7 @@ class ShownHint:
     is_covered: bool
     items: Sequence[ShownItem]
     more: Mapping[str, int]
-    sent: SentHint
+    note: str
     refusal: Optional[Refusal]
     stale: str
 
@@ -65,6 +70,23 @@ class Copy:
 
     title: str
     text: str
+
+
+def pages_of(numbers: Iterable[int]) -> Mapping[int, str]:
+    """The page of each hint in force: they are cut into pages of equal numbers of hints."""
+    return {number: f"hints-{place // A_PAGE + 1}.html" if place >= A_PAGE else "hints.html"
+            for place, number in enumerate(sorted(numbers))}
+
+
+def first_copies(copies: Sequence[Copy]) -> Sequence[Copy]:
+    """As many of these texts as a page shows."""
+    sizes = itertools.accumulate(len(copy.text) for copy in copies)
+    return [copy for copy, size in zip(copies, sizes) if size <= MOST_COPIED]
+
+
+def bag_of(copies: Sequence[Copy]) -> bytes:
+    """The messages as a bag, which tools mail."""
+    return b"".join(b"mail %d\n%s" % (len(text), text) for text in (copy.text.encode() for copy in copies))
 
 
 def refused_in(update: Update) -> Mapping[int, Change]:
@@ -112,7 +134,8 @@ def shown_hints(items: Sequence[HintItem], sent: Mapping[int, SentHint], refusal
     for item in items:
         by_number.setdefault(item.number, []).append(item)
     return [ShownHint(number, of[0].words, of[0].is_covered, [shown_item(item, links) for item in of[:MOST_ITEMS]],
-                      collections.Counter(map(state_of, of[MOST_ITEMS:])), sent.get(number, SentHint()),
+                      collections.Counter(map(state_of, of[MOST_ITEMS:])),
+                      shortened(sent.get(number, SentHint()).note, MOST_NOTED),
                       refusals.get(number), stale_because(of, refusals.get(number)))
             for number, of in sorted(by_number.items())]
 
@@ -133,7 +156,7 @@ def next_label(state: State) -> Optional[Label]:
     """The sender of hints and its next number, if they are known."""
     told = state.told(NEXT_HINT)
     sender, _, number = told[1].partition(" ") if told else ("", "", "")
-    return Label(sender, int(number)) if number.isdigit() else None
+    return Label(sender, int(number)) if FORM.fullmatch(number) else None
 
 
 def proposed_copies(lines: Sequence[str], label: Optional[Label]) -> Sequence[Copy]:

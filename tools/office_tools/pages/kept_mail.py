@@ -9,7 +9,7 @@ import hashlib
 import re
 import time
 from dataclasses import dataclass
-from typing import Collection, Iterable, Iterator, Mapping, Sequence, Union
+from typing import Collection, Iterator, Mapping, Sequence, Union
 
 from office_tools.pages.offices import Office
 from office_tools.pages.state import MAIL_TABLES, State
@@ -17,9 +17,11 @@ from office_tools.pages.state import MAIL_TABLES, State
 AT_ONCE = 2000  # messages whose contents are kept at once
 ALL = ""  # no sender's name: behind which run all mail was read
 MOST_WORDS = 500  # names in one question to the database
+MOST_KEPT = 1 << 14  # values of fields of which it is kept what they say
 
 BETWEEN = re.compile(r"\n(?:[ \t\r]*\n)+")
-FIELD = re.compile(r"^([A-Za-z-]+):[ \t\r]*((?:.*\n?)(?:[ \t].*\n?)*)", re.M)
+FIELD = re.compile(r"^(Kind|Source|Maintainer|Uploaders|Package|Version|Architecture|Pre-Depends|Depends|Provides):"
+                   r"[ \t\r]*((?:.*\n?)(?:[ \t].*\n?)*)", re.M | re.I)
 SOURCE = re.compile(r"(\S+?)\s*\(\s*(\S+?)\s*\)|(\S+)")
 NAME = re.compile(r"\s*([a-z0-9][a-z0-9+.-]+)")
 
@@ -52,16 +54,18 @@ def names_in(clause: str) -> tuple[str, ...]:
     return tuple(name[1] for name in found if name)
 
 
-def clause_names(clauses: str) -> Iterator[tuple[str, ...]]:
+@functools.lru_cache(MOST_KEPT)
+def clause_names(clauses: str) -> Sequence[tuple[str, ...]]:
     """The names of each clause of a value of Depends."""
-    return (names_in(clause) for clause in clauses.split(",") if clause.strip())
+    return tuple(names_in(clause) for clause in clauses.split(",") if clause.strip())
 
 
 def fields_of(paragraph: str) -> Mapping[str, str]:
-    """The fields of a paragraph by their names in lower case."""
+    """The fields of a paragraph that are read, by their names in lower case."""
     return {name.lower(): " ".join(value.split()) for name, value in FIELD.findall(paragraph)}
 
 
+@functools.lru_cache(MOST_KEPT)
 def relation_of(clauses: str) -> int:
     """The number under which clauses are kept, made of themselves."""
     return int.from_bytes(hashlib.blake2b(clauses.encode(), digest_size=8).digest(), "big") >> 1
@@ -160,7 +164,7 @@ class KeptMail:
     def people(self) -> Mapping[str, Person]:
         """Who maintains each source whose upload says so."""
         with self.state.faults():
-            return {source: Person(maintainer, tuple(people_in(uploaders))) for source, maintainer, uploaders
+            return {source: Person(maintainer, people_in(uploaders)) for source, maintainer, uploaders
                     in self.state.database.execute("SELECT source, maintainer, uploaders FROM person")}
 
 
@@ -182,9 +186,11 @@ def marks(words: Sequence[str]) -> str:
     return ", ".join("?" * len(words))
 
 
-def people_in(value: str) -> Iterable[str]:
+@functools.lru_cache(MOST_KEPT)
+def people_in(value: str) -> Sequence[str]:
     """The people of a value of Uploaders, which may have a comma within a quoted name."""
-    return filter(None, (name.strip() for name in re.split(r',(?=(?:[^"]*"[^"]*")*[^"]*$)', value)))
+    parts = re.split(r',(?=(?:[^"]*"[^"]*")*[^"]*$)', value) if '"' in value else value.split(",")
+    return tuple(filter(None, map(str.strip, parts)))
 
 
 def read_mail(office: Office, state: State, newest: int, until: float) -> None:
@@ -217,5 +223,6 @@ def read_of(office: Office, mail: KeptMail, sender: tuple[str, int], numbers: tu
         texts = []
         if time.monotonic() >= until:
             return number == numbers[1]
-    mail.keep(texts)
+    if texts:
+        mail.keep(texts)
     return True

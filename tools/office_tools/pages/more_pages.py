@@ -3,13 +3,13 @@ from dataclasses import dataclass, field
 from typing import Iterator, Mapping
 
 from office_tools.pages import views
-from office_tools.pages.britney_yaml import excuses_yaml
+from office_tools.pages.britney_yaml import ExcusesYaml
 from office_tools.pages.change_pages import change_pages, Feeds, RUNS
 from office_tools.pages.changes import changes_of
 from office_tools.pages.day_pages import day_pages, missing_pages
 from office_tools.pages.kept_mail import Person
-from office_tools.pages.people_pages import people_pages
-from office_tools.pages.sections import SectionPage
+from office_tools.pages.people_pages import PeoplePages
+from office_tools.pages.sections import Kept, SectionPage
 from office_tools.pages.state import State
 from office_tools.pages.transition_pages import transition_pages
 from office_tools.pages.wait_pages import wait_pages
@@ -33,29 +33,33 @@ class More:
     def __init__(self, facts: views.Facts, state: State, extras: Extras) -> None:
         self.facts, self.state = facts, state
         self.feeds = Feeds(facts, extras.address)
+        self.yaml = ExcusesYaml(facts.newest.excuses, facts.outcomes, facts.people)
         first = [run.number for run in facts.runs[1:]][-RUNS:]
         self.changes = changes_of(state.events_from(first[0]), first[0]) if first else {}
 
     def pages(self) -> Iterator[SectionPage]:
-        """All pages."""
-        yield from self.answered_pages()
+        """The pages that no answer about a source changes."""
         yield from transition_pages(self.facts, self.state)
         yield from day_pages(self.facts)
         yield from missing_pages(self.facts)
         yield from change_pages(self.facts, self.changes)
 
-    def answered_pages(self) -> Iterator[SectionPage]:
-        """The pages that answers about sources change."""
-        yield from wait_pages(self.facts)
-        yield from people_pages(self.facts, self.changes)
-
     def files(self) -> Iterator[tuple[str, bytes]]:
-        """All files beside pages: the feeds of all and of people, and excuses.yaml."""
+        """The feed of all."""
         yield "feed.xml", self.feeds.of_all(self.changes)
-        yield from self.feeds.of_people(self.changes)
-        yield from self.answered_files()
 
-    def answered_files(self) -> Iterator[tuple[str, bytes]]:
+    def feeds_of_people(self) -> Iterator[Kept]:
+        """The feeds of people."""
+        return self.feeds.of_people(self.changes)
+
+    def answered_pages(self, facts: views.Facts) -> Iterator[SectionPage]:
+        """The pages that answers about sources change, but for those of people."""
+        yield from wait_pages(facts)
+
+    def people(self, facts: views.Facts) -> PeoplePages:
+        """The pages of people, which answers change, too."""
+        return PeoplePages(facts, self.changes)
+
+    def answered_files(self, facts: views.Facts) -> Iterator[tuple[str, bytes]]:
         """The files that answers about sources change."""
-        yield "excuses.yaml", excuses_yaml(self.facts.newest.excuses, self.facts.outcomes, self.facts.people,
-                                           self.facts.waits).encode()
+        yield "excuses.yaml", self.yaml.text(facts.waits).encode()

@@ -6,8 +6,7 @@ as the count of characters that it shares with the previous name, as one digit o
 a source are in its line, separated by blanks. The name before the first one is the source's, and a package of the
 source's own name is left out.
 """
-from dataclasses import dataclass
-from typing import Iterable, Mapping, Sequence
+from typing import Iterable, Mapping, NamedTuple, Sequence
 
 DIGITS = "0123456789abcdefghijklmnopqrstuvwxyz"
 LIBRARY = "lib"
@@ -15,8 +14,7 @@ INDEX: Mapping[str, str] = {"names.js": "officeNames", "packages.js": "officePac
 """The files of the index, and the names by which the script of the pages knows their texts."""
 
 
-@dataclass(frozen=True)
-class Name:
+class Name(NamedTuple):
     """A name of a source or of a package, and the source whose page shows it."""
 
     name: str
@@ -44,8 +42,11 @@ def by_beginning(names: Sequence[Name]) -> Mapping[str, Sequence[Name]]:
 
 def shortened_by(before: str, name: str) -> str:
     """A name as the index has it behind another one."""
-    most = min(len(before), len(name), len(DIGITS) - 1)
-    shared = next((place for place in range(most) if before[place] != name[place]), most)
+    shared = 0
+    for one, other in zip(before[:len(DIGITS) - 1], name):
+        if one != other:
+            break
+        shared += 1
     return DIGITS[shared] + name[shared:]
 
 

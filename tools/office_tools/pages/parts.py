@@ -1,10 +1,9 @@
 """Lists that are too long for one page, cut into parts."""
 from dataclasses import dataclass
-from typing import Callable, Iterator, Sequence, TypeVar
+from typing import Iterator, NamedTuple, Sequence
 
 MOST_ROWS = 5000  # rows of one page
-LARGEST = 400_000  # characters of the rows of one page: so no page has more than half a megabyte
-Of = TypeVar("Of")
+LARGEST = 330_000  # characters of the rows of one page: with what stands before them it has half a megabyte at most
 
 
 @dataclass(frozen=True)
@@ -16,17 +15,11 @@ class Part:
     is_here: bool
 
 
-@dataclass(frozen=True)
-class RowText:
+class RowText(NamedTuple):
     """A row of a list: the name by which the list is ordered, and its HTML."""
 
     name: str
     text: str
-
-
-def row_texts(rows: Sequence[Of], named: Callable[[Of], str], made: Callable[[Of], str]) -> Sequence[RowText]:
-    """The rows of a list as HTML."""
-    return [RowText(named(row), made(row)) for row in rows]
 
 
 def cut(rows: Sequence[RowText]) -> Iterator[Sequence[RowText]]:

@@ -1,11 +1,12 @@
 """Who maintains which source: by uploads that say so, and by a file."""
+import functools
 import hashlib
 import re
 from typing import Iterable, Mapping, Sequence
 
 from office_tools.faults import Fault
 from office_tools.files import read_bytes
-from office_tools.pages.kept_mail import BETWEEN, people_in, Person
+from office_tools.pages.kept_mail import BETWEEN, MOST_KEPT, people_in, Person
 
 FIELD = re.compile(r"^(Package|Source|Maintainer|Uploaders):[ \t\r]*((?:.*\n?)(?:[ \t].*\n?)*)", re.M | re.I)
 SAFE = re.compile(r"[^a-z0-9.+-]")
@@ -42,15 +43,17 @@ def in_paragraphs(text: str) -> Iterable[tuple[str, Person]]:
         fields = {name.lower(): " ".join(value.split()) for name, value in FIELD.findall(paragraph)}
         source, maintainer = fields.get("package") or fields.get("source", ""), fields.get("maintainer", "")
         if source and maintainer:
-            yield source, Person(maintainer, tuple(people_in(fields.get("uploaders", ""))))
+            yield source, Person(maintainer, people_in(fields.get("uploaders", "")))
 
 
+@functools.lru_cache(MOST_KEPT)
 def mail_of(name: str) -> str:
     """The mail address of a person, in lower case, or the whole name if it has none."""
     found = MAIL.search(name)
     return (found[1] if found else name).strip().lower()
 
 
+@functools.lru_cache(MOST_KEPT)
 def page_of(name: str) -> str:
     """The name of a page, made of the address: two people have two. Its characters are of `a-z0-9.+-_`."""
     found = SAFE.sub(lambda sign: f"_{ord(sign[0]):x}_" if sign[0] != "@" else "_at_", mail_of(name))

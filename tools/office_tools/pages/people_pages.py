@@ -1,16 +1,19 @@
 """The pages of people: a list of them, and a page and a feed of each whose sources don't move or changed of late."""
 import collections
-from typing import Iterator, Mapping, Sequence
+import functools
+from typing import Callable, Iterable, Iterator, Mapping, Sequence
 
 from office_tools.pages import people, views
 from office_tools.pages.changes import Change, Kind, sentence
 from office_tools.pages.outcomes import NOTHING, What
-from office_tools.pages.sections import cell, Column, line, Section, SectionPage, Table
+from office_tools.pages.rows import Column
+from office_tools.pages.sections import cell, Kept, line, Section, SectionPage, Table
 from office_tools.pages.told import Links, Piece
 from office_tools.pages.verdicts import TITLES, word_of
 from office_tools.pages.outcomes import reason_words
 
-WORDS = ("waits", "young", "blocked", "rejected", "refused")
+MEANINGS = {**TITLES, "refused": "a candidate for which a hint was refused"}
+WORDS = tuple(MEANINGS)
 
 
 def unmoved(facts: views.Facts) -> Mapping[str, str]:
@@ -23,17 +26,40 @@ def unmoved(facts: views.Facts) -> Mapping[str, str]:
     return found
 
 
-def people_pages(facts: views.Facts, changes: Mapping[int, Sequence[Change]]) -> Iterator[SectionPage]:
+class PeoplePages:
     """The list of people, and the page of each of them."""
-    verdicts = unmoved(facts)
-    changed = {change.source for some in changes.values() for change in some}
-    found = people.by_person(facts.people, {*verdicts, *changed})
-    titles = people.titles(facts.people)
-    yield list_page(facts, found, titles, verdicts)
-    newest = {change.source: change for change in changes.get(facts.newest.number, ())}
-    links = facts.links("../source/")
-    for name, sources in found.items():
-        yield one_page(facts, (name, titles[name]), sources, (verdicts, newest), links)
+
+    def __init__(self, facts: views.Facts, changes: Mapping[int, Sequence[Change]]) -> None:
+        self.facts, self.verdicts = facts, unmoved(facts)
+        changed = {change.source for some in changes.values() for change in some}
+        self.found = people.by_person(facts.people, {*self.verdicts, *changed})
+        self.titles = people.titles(facts.people)
+        self.newest = {change.source: change for change in changes.get(facts.newest.number, ())
+                       if change.kind in (Kind.STUCK, Kind.FREE)}
+        self.links = facts.links("../source/")
+
+    def all(self) -> SectionPage:
+        """The list of people."""
+        return list_page(self.facts, self.found, self.titles, self.verdicts)
+
+    def each(self, digests: Mapping[str, str], written: Callable[[SectionPage], Iterable[tuple[str, bytes]]]
+             ) -> Iterator[Kept]:
+        """The page of each of them. `digests` are those of the sources' pages, which show all that it shows of each."""
+        for name, sources in self.found.items():
+            shown = [self.titles[name]]
+            for source, is_maintainer in sources:
+                if source in self.verdicts:
+                    shown += [source, str(is_maintainer), digests[f"source/{source}.html"]]
+                if source in self.newest:
+                    shown += [source, repr(self.newest[source])]
+            yield Kept(f"people/{people.page_of(name)}.html", shown,
+                       functools.partial(self.written, name, written))
+
+    def written(self, name: str, written: Callable[[SectionPage], Iterable[tuple[str, bytes]]]
+                ) -> Iterable[tuple[str, bytes]]:
+        """The files of a person's page."""
+        return written(one_page(self.facts, (name, self.titles[name]), self.found[name],
+                                (self.verdicts, self.newest), self.links))
 
 
 def list_page(facts: views.Facts, found: Mapping[str, Sequence[tuple[str, bool]]], titles: Mapping[str, str],
@@ -49,7 +75,7 @@ def list_page(facts: views.Facts, found: Mapping[str, Sequence[tuple[str, bool]]
              for _, _, name, counts in sorted(rows, key=lambda row: row[:3])]
     unknown = sum(source not in facts.people for source in verdicts)
     told = [line("Those with the most sources that wait or are rejected come first. ",
-                 "; ".join(f"{word}: {title}" for word, title in TITLES.items()), ".")]
+                 "; ".join(f"{word}: {title}" for word, title in MEANINGS.items()), ".")]
     if unknown:
         told.append(line(f"Of {unknown} of {len(verdicts)} sources that don't move nobody said who maintains them."))
     return SectionPage("people", "Maintainers and teams", told, (Section(
@@ -70,14 +96,14 @@ def one_page(facts: views.Facts, person: tuple[str, str], sources: Sequence[tupl
         if name in verdicts:
             excuse, outcomes = facts.excuses[name], facts.outcomes.get(name, NOTHING)
             rows.append((cell(Piece(name, links.source(name)), "" if is_maintainer else " (uploader)"),
-                         cell(excuse.testing or "-"), cell(excuse.unstable), cell(verdicts[name]),
+                         cell(excuse.testing or "-"), cell(excuse.unstable),
+                         cell(Piece(verdicts[name], is_verdict=True)),
                          views.told_of(facts, excuse, outcomes, links),
                          views.wait_lines(facts, facts.waits.by_source.get(name, ()), links, lambda wait: wait.other)))
     items = [line(Piece(name, links.source(name)), f" is {change.kind.value}: {sentence(change.after)}")
-             for name, change in sorted(newest.items()) if change.kind in (Kind.STUCK, Kind.FREE)
-             and name in {source for source, _ in sources}]
+             for name, change in ((source, newest[source]) for source, _ in sources if source in newest)]
     sections = (
-        Section("changes", f"Newly stuck and newly free in run {facts.newest.number}",
+        Section("changes", "Newly stuck and newly free since the run before",
                 () if items else (line("None."),), items=items),
         Section("sources", "Sources that don't move", () if rows else (line("None."),), table=(
             Table("Sources that don't move, and why", "excuses", columns, rows),) if rows else ()))

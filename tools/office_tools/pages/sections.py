@@ -1,28 +1,12 @@
 """Pages of sections: each has sentences, a picture or a table. One template prints all of them."""
 from dataclasses import dataclass, field, replace
-from typing import Any, Iterator, Mapping, Sequence
+from typing import Any, Callable, Iterable, Iterator, Mapping, Sequence
 
 import jinja2
 
 from office_tools.pages.parts import parts_of, RowText
+from office_tools.pages.rows import Cell, Column, table_row
 from office_tools.pages.told import Line, Piece
-
-Cell = Sequence[Line]
-
-
-@dataclass(frozen=True)
-class Drawn(Piece):
-    """A piece with a small picture before it, as SVG."""
-
-    drawn: str = ""
-
-
-@dataclass(frozen=True)
-class Column:
-    """A column of a table: its title, and whether it has numbers."""
-
-    title: str
-    is_number: bool = False
 
 
 @dataclass(frozen=True)
@@ -59,6 +43,16 @@ class SectionPage:
     extra: Mapping[str, Any] = field(default_factory=dict)
 
 
+@dataclass(frozen=True)
+class Kept:
+    """Files that are made only if what they show changed: the path of the first one, texts by which that is known, and
+    what makes them."""
+
+    path: str
+    shown: Sequence[str]
+    made: Callable[[], Iterable[tuple[str, bytes]]]
+
+
 def line(*parts: object) -> Line:
     """A line of these parts: a piece as it is, and the text of anything else."""
     return Line(tuple(part if isinstance(part, Piece) else Piece(str(part)) for part in parts))
@@ -72,10 +66,9 @@ def cell(*parts: object) -> Cell:
 def written(templates: jinja2.Environment, page: SectionPage) -> Iterator[tuple[str, bytes]]:
     """The files of a page. All rows but those of its last table are on its first one."""
     template = templates.get_template("sections.html")
-    row: Any = templates.get_template("tables.html").module
     tables = [table for section in page.sections for table in section.table]
     last = tables[-1] if tables else None
-    texts = [RowText("".join(piece.text for piece in cells[0][0].pieces), str(row.table_row(last.columns, cells)))
+    texts = [RowText("".join(piece.text for piece in cells[0][0].pieces), table_row(last.columns, cells))
              for cells in last.rows] if last else []
     folder, _, name = page.name.rpartition("/")
     for link, parts, shown in parts_of(name, texts):

@@ -6,16 +6,18 @@ ones, and a call that is ended in the middle leaves whole ones.
 import contextlib
 import ctypes
 import dataclasses
+import functools
 import hashlib
 import os
 import re
 import shutil
 from dataclasses import dataclass
-from typing import Any, Collection, Iterable, Iterator, Mapping, Optional, Sequence
+from typing import Any, Callable, Collection, Iterable, Iterator, Mapping, Optional, Sequence
 
 import jinja2
+from markupsafe import Markup
 
-from office_tools.pages import hints, mending, names, verdicts, views
+from office_tools.pages import hints, mending, names, rows, verdicts, views
 from office_tools.pages.excuses_json import excuses_json
 from office_tools.pages.fetching import Newest, read_run
 from office_tools.pages.change_pages import Feeds
@@ -23,16 +25,19 @@ from office_tools.pages.day_pages import glance
 from office_tools.pages.kept_mail import KeptMail
 from office_tools.pages.more_pages import Extras, More
 from office_tools.pages.outcomes import counted, reason_words
-from office_tools.pages.parts import parts_of, row_texts
+from office_tools.pages.parts import Part, parts_of, RowText
 from office_tools.pages.patterns import Patterns
-from office_tools.pages.sections import SectionPage, written
+from office_tools.pages.sections import Kept, SectionPage, written
 from office_tools.pages.sentences import LIST_TITLES, REASON_TITLES
 from office_tools.pages.state import State
 from office_tools.pages.told import Line, shortened
 from office_tools.reports import Outcome, Word
 
 NEWEST = 20  # runs on the first page
+IN_WAITS = "waits "  # before the digest of a page that says what waits for what
+HINTS = 200  # hints on the page of a run
 OFFENDERS = 15  # what has to be mended on the first page
+MANY = ("source", "run", "people")  # the folders of pages that are many
 HERE = os.path.dirname(os.path.realpath(__file__))
 
 
@@ -54,43 +59,46 @@ class Hint:
     outcome: Line
 
 
-@dataclass(frozen=True)
-class InTesting:
-    """A source in testing: its version, and its packages."""
-
-    name: str
-    version: str
-    binaries: Sequence[str]
-
-
-@dataclass(frozen=True)
-class Moved:
-    """A source that moved or waits in a run: its version before and behind."""
-
-    name: str
-    before: str
-    version: str
-    word: str
-    told: str
-
-
 class Site:
     """The folder of the pages."""
 
     def __init__(self, folder: str, state: State, patterns: Patterns, extras: Extras = Extras()) -> None:
         self.folder, self.state, self.patterns, self.extras = folder, state, patterns, extras
-        self.templates = jinja2.Environment(
-            loader=jinja2.FileSystemLoader(os.path.join(HERE, "templates")), autoescape=True, trim_blocks=True,
-            lstrip_blocks=True, auto_reload=False, keep_trailing_newline=True, undefined=jinja2.StrictUndefined)
-        self.rows: Any = self.templates.get_template("rows.html").module
         self.look = digest_of([repr(self.patterns), self.extras.address, *map(repr, own_files())])
         self.facts: Optional[views.Facts] = None
-        self.digests = state.digests()
         self.digests_now: dict[str, str] = {}
         self.beside = os.path.join(folder, ".new")
         shutil.rmtree(self.beside, ignore_errors=True)
         self.written: list[str] = []
         self.folders: set[str] = set()
+        self.more: Optional[More] = None
+
+    @functools.cached_property
+    def templates(self) -> jinja2.Environment:
+        """The templates, which the folder of what is kept has compiled."""
+        found = jinja2.Environment(
+            bytecode_cache=jinja2.FileSystemBytecodeCache(os.path.dirname(os.path.abspath(self.state.path))),
+            loader=jinja2.FileSystemLoader(os.path.join(HERE, "templates")), autoescape=True, trim_blocks=True,
+            lstrip_blocks=True, auto_reload=False, keep_trailing_newline=True, undefined=jinja2.StrictUndefined)
+        made: Mapping[str, Callable[..., str]] = {
+            "link": rows.piece_text, "pieces": rows.line_text, "told": rows.told_text, "verdict": rows.verdict,
+            "table_row": rows.table_row}
+        found.globals |= {name: rows.shown(function) for name, function in made.items()}
+        # The menu is the same for all pages of a folder.
+        menu = found.get_template("menu.html")
+        found.globals["menus"] = {up: Markup(menu.render(up=up)) for up in ("", "../")}
+        return found
+
+    @functools.cached_property
+    def digests(self) -> Mapping[str, str]:
+        """Of each page that was written a digest of what it was made of."""
+        return self.state.digests()
+
+    @functools.cached_property
+    def there(self) -> set[str]:
+        """The files that stand in the folders of pages that are many."""
+        return {f"{folder}/{name}" for folder in MANY if os.path.isdir(os.path.join(self.folder, folder))
+                for name in os.listdir(os.path.join(self.folder, folder))}
 
     def build(self, newest: Newest) -> None:
         """Writes all pages that changed, and removes those without a reason."""
@@ -106,21 +114,38 @@ class Site:
         self.write_names(facts)
         self.write_hints(facts)
         self.put("excuses.json", excuses_json(newest.excuses, newest.update, newest.kept.fetched).encode())
-        more = More(facts, self.state, self.extras)
+        more = self.more_of(facts)
         self.write_more(more.pages(), more.files())
-        self.write_lists(facts)
+        self.write_kept(more.feeds_of_people())
+        self.write_answered(facts)
         self.move_all()
 
     def build_answers(self, newest: Newest, names: Collection[str]) -> None:
         """Writes the pages that answers about these sources change, behind `build`."""
-        facts = dataclasses.replace(self.facts_of(newest), whys=self.state.whys(), hints=self.state.hints(),
-                                    proposals=self.state.proposals())
+        facts = dataclasses.replace(self.facts_of(newest), standings={}, whys=self.state.whys(),
+                                    hints=self.state.hints(), proposals=self.state.proposals())
         self.digests_now = dict(self.digests)
-        self.write_sources(facts, facts.waits.touched.intersection(facts.names).union(names))
-        more = More(facts, self.state, self.extras)
-        self.write_more(more.answered_pages(), more.answered_files())
-        self.write_lists(facts)
+        # An answer also changes the pages of sources that one waits for by it, or waited for before.
+        before = {path[len("source/"):-len(".html")] for path, digest in self.digests.items()
+                  if digest.startswith(IN_WAITS)}
+        self.write_sources(facts, facts.waits.touched.union(before).intersection(facts.names).union(names))
+        self.write_answered(facts)
         self.move_all()
+
+    def write_answered(self, facts: views.Facts) -> None:
+        """Writes what answers about sources change, but for the sources' pages."""
+        more = self.more_of(facts)
+        self.write_more(more.answered_pages(facts), more.answered_files(facts))
+        people = more.people(facts)
+        self.write_more([people.all()], ())
+        self.write_kept(people.each(self.digests_now, functools.partial(written, self.templates)))
+        self.write_lists(facts)
+
+    def more_of(self, facts: views.Facts) -> More:
+        """What is made once of what is kept, and not changed by answers."""
+        if self.more is None:
+            self.more = More(facts, self.state, self.extras)
+        return self.more
 
     def facts_of(self, newest: Newest) -> views.Facts:
         """All that is kept, read once."""
@@ -147,8 +172,8 @@ class Site:
         self.written.append(path)
 
     def is_there(self, path: str, digest: str) -> bool:
-        """Whether a page is there that is made of what the digest says."""
-        return self.digests.get(path) == digest and os.path.exists(os.path.join(self.folder, path))
+        """Whether a page of a folder is there that is made of what the digest says."""
+        return self.digests.get(path) == digest and path in self.there
 
     def move_all(self) -> None:
         """Moves what was written into its place, one file after the other, the first page last, and removes the rest.
@@ -156,9 +181,10 @@ class Site:
         All of it is on the disk before: so no failure of power leaves an empty page, and the file system needn't write
         each file out at its move.
         """
+        changed = {path for path, digest in self.digests_now.items() if self.digests.get(path) != digest}
         if self.written:
-            # From here on a later call knows them as pages that it may remove.
-            self.state.keep_digests({path: "" for path in self.written})
+            # From here on a later call knows them as pages that it may remove, and none as what it was before.
+            self.state.keep_digests({path: "" for path in changed.union(self.written)})
             sync(self.folder)
         for path in self.written:
             self.move(path)
@@ -166,9 +192,10 @@ class Site:
         for path in gone:
             with contextlib.suppress(FileNotFoundError):
                 os.unlink(os.path.join(self.folder, path))
-        changed = {path for path, digest in self.digests_now.items() if self.digests.get(path) != digest}
         self.state.keep_digests({path: self.digests_now[path] for path in changed.union(self.written)}, gone)
         self.state.keep_built(self.look + self.extras.digest)
+        self.there.update(self.written)
+        self.there.difference_update(gone)
         self.digests, self.written, self.folders = self.digests_now, [], set()
         shutil.rmtree(self.beside, ignore_errors=True)
 
@@ -187,17 +214,21 @@ class Site:
                 self.put(name, file.read())
 
     def write_sources(self, facts: views.Facts, names: Collection[str]) -> None:
-        """A page of each of these sources."""
+        """A page of each of these sources. One that stays as it is isn't made, but for what tells that it does."""
         links, feeds = facts.links(""), Feeds(facts, self.extras.address)
         for name in sorted(names):
-            source = views.source_of(facts, name, links)
-            path, digest = f"source/{name}.html", digest_of([self.look, repr(source)])
-            if source.has_feed:
+            source = None if facts.is_quiet(name) else views.source_of(facts, name, links)
+            mark = IN_WAITS if name in facts.waits.touched else ""
+            path, digest = f"source/{name}.html", mark + digest_of([
+                self.look, *(views.quiet_texts(facts, name) if source is None else ("", repr(source)))])
+            if source.has_feed if source else views.has_feed(facts, name):
                 self.digests_now.setdefault(f"source/{name}.xml", "")
             if not self.is_there(path, digest):
+                source = source or views.source_of(facts, name, links)
                 events = self.state.events(name)
                 history = views.history_of(facts, events)
-                self.put(path, self.page("source_more.html", {"source": source, "history": history, "up": "../"}))
+                self.put(path, self.page("source.html", {
+                    "source": source, "history": history, "earlier": len(events) - len(history), "up": "../"}))
                 if source.has_feed:
                     self.put(f"source/{name}.xml", feeds.of_source(name, events))
             self.digests_now[path] = digest
@@ -220,27 +251,30 @@ class Site:
             read = facts.newest if run == facts.newest.kept.run else read_run(self.state.run(run.number))
             self.write_run(facts, read, {"before": before, "after": after})
             self.digests_now[path] = digest
-        self.put("runs.html", self.page("runs.html", {"runs": facts.runs[::-1], "up": ""}))
+        for link, parts, shown in parts_of("runs", [
+                RowText(f"run {run.number}", rows.run_row(run)) for run in facts.runs[::-1]]):
+            self.put(link, self.page("runs.html", {"rows": shown, "list": parts, "up": ""}))
 
     def write_run(self, facts: views.Facts, read: Newest, values: Mapping[str, Any]) -> None:
         """The page of a run; if it has many, they are on pages after it."""
         run = read.kept.run
         counts = counted(map(reason_words, read.excuses.excuses))
-        values = {**values, "run": run, "hints": hints_of(facts, read), "up": "../",
+        asked = hints_of(facts, read)
+        values = {**values, "run": run, "hints": asked[:HINTS], "more": len(asked[HINTS:]), "up": "../",
                   "counts": [(word, REASON_TITLES[word], count) for word, count in counts.items()]}
-        rows = row_texts(moved_in(read), lambda row: row.name, self.rows.moved)
-        for link, parts, shown in parts_of(str(run.number), rows):
+        for link, parts, shown in parts_of(str(run.number), [
+                RowText(row.name, rows.moved_row(row)) for row in moved_in(read)]):
             self.put(f"run/{link}", self.page("run.html", {
                 **values, "rows": shown, "list": parts, "is_first": parts[0].is_here}))
 
     def write_testing(self, facts: views.Facts) -> None:
         """What is in testing."""
         sources = facts.testing.sources if facts.testing else {}
-        rows = row_texts([InTesting(name, version, facts.binaries.get(name, ())) for name, version in sources.items()],
-                         lambda row: row.name, self.rows.standing)
-        for link, parts, shown in parts_of("testing", rows):
+        for link, parts, shown in parts_of("testing", [
+                RowText(name, rows.testing_row(name, version, facts.binaries.get(name, ())))
+                for name, version in sources.items()]):
             self.put(link, self.page("testing.html", {
-                "run": facts.newest.kept.run, "rows": shown, "list": parts, "number": len(rows), "up": "",
+                "run": facts.newest.kept.run, "rows": shown, "list": parts, "number": len(sources), "up": "",
                 "is_known": facts.testing is not None}))
 
     def write_more(self, pages: Iterable[SectionPage], files: Iterable[tuple[str, bytes]]) -> None:
@@ -251,36 +285,76 @@ class Site:
         for path, data in files:
             self.put(path, data)
 
+    def write_kept(self, files: Iterable[Kept]) -> None:
+        """Files that are made only if what they show changed. All of one are kept under the same digest."""
+        paths: dict[str, list[str]] = {}
+        for path, digest in self.digests.items():
+            if path.startswith("people/"):
+                paths.setdefault(digest, []).append(path)
+        for kept in files:
+            digest = digest_of([self.look, kept.path, *kept.shown])
+            before = paths.get(digest, ())
+            if kept.path in before and self.there.issuperset(before):
+                self.digests_now.update(dict.fromkeys(before, digest))
+                continue
+            for path, data in kept.made():
+                self.put(path, data)
+                self.digests_now[path] = digest
+
     def write_hints(self, facts: views.Facts) -> None:
         """The hints in force, the proposed ones, and those that may be taken back."""
         shown = hints.shown_hints(facts.standing, facts.hints, facts.refusals, facts.links("source/"))
-        proposed, label = hints.proposed_lines(self.state, facts.newest.number), hints.next_label(self.state)
-        stale = [hint for hint in shown if hint.stale]
-        self.put("hints.html", self.page("hints.html", {
-            "run": facts.newest.kept.run, "hints": shown, "label": label, "is_asked": proposed is not None,
-            "proposed": hints.proposed_copies(proposed or (), label), "lines": proposed,
-            "stale": hints.unhint_copies(stale, label), "up": ""}))
+        lines, label = hints.proposed_lines(self.state, facts.newest.number), hints.next_label(self.state)
+        copies = {"proposed": hints.proposed_copies(lines or (), label),
+                  "stale": hints.unhint_copies([hint for hint in shown if hint.stale], label)}
+        values: dict[str, Any] = {"run": facts.newest.kept.run, "label": label, "is_asked": lines is not None,
+                                  "number": len(shown), "up": ""}
+        for word, some in copies.items():
+            first = hints.first_copies(some)
+            values |= {word: first, f"{word}_in_all": len(some)}
+            if label and some:
+                self.put(f"hints-{word}.txt", hints.bag_of(some))
+        values["lines"] = (lines or ())[:len(values["proposed"])]
+        for link, parts, some_hints in paged(shown, facts.hint_pages):
+            self.put(link, self.page("hints.html", {
+                **values, "hints": some_hints, "list": parts, "is_first": parts[0].is_here}))
 
     def write_names(self, facts: views.Facts) -> None:
-        """All names of sources and packages: lists by their beginning, and what the search looks through."""
-        found = names.names_of(facts.names, facts.packages)
-        for path, data in names.index_files(facts.names, facts.packages).items():
+        """All names of sources and packages: lists by their beginning, and what the search looks through.
+
+        Most runs change none of them.
+        """
+        digest = digest_of([self.look, *sorted(facts.names), "", *map(" ".join, sorted(facts.packages.items()))])
+        paths = [path for path, before in self.digests.items() if before == digest]
+        if not paths or not all(os.path.exists(os.path.join(self.folder, path)) for path in paths):
+            paths = list(self.put_all(self.name_files(facts)))
+        self.digests_now.update(dict.fromkeys(paths, digest))
+
+    def put_all(self, files: Iterable[tuple[str, bytes]]) -> Iterator[str]:
+        """Writes files, and gives their paths."""
+        for path, data in files:
             self.put(path, data)
+            yield path
+
+    def name_files(self, facts: views.Facts) -> Iterator[tuple[str, bytes]]:
+        """The pages of names, and the search's index."""
+        yield from names.index_files(facts.names, facts.packages).items()
+        found = names.names_of(facts.names, facts.packages)
         lists = names.by_beginning(found)
         letters = {letter: f"names-{letter}.html" for letter in lists}
         values = {"letters": letters.items(), "number": len(found), "up": ""}
-        self.put("names.html", self.page("names.html", {**values, "here": "", "rows": (), "list": ()}))
+        yield "names.html", self.page("names.html", {**values, "here": "", "rows": (), "list": ()})
         for letter, some in lists.items():
-            rows = row_texts(some, lambda row: row.name, self.rows.name)
-            for link, parts, shown in parts_of(f"names-{letter}", rows):
-                self.put(link, self.page("names.html", {**values, "here": letter, "rows": shown, "list": parts}))
+            for link, parts, shown in parts_of(f"names-{letter}", [
+                    RowText(one.name, text) for one, text in zip(some, rows.name_items(some))]):
+                yield link, self.page("names.html", {**values, "here": letter, "rows": shown, "list": parts})
 
     def write_lists(self, facts: views.Facts) -> None:
         """The sources that don't move, all of them and by each reason, outcome and verdict, and last the first page."""
-        rows = views.rows_of(facts)
-        texts = {row.name: row for row in row_texts(rows, lambda row: row.name, self.rows.excuse)}
-        some = {word: [row for row in rows if word in row.words] for word in LIST_TITLES}
-        some[""] = [row for row in rows if verdicts.GONE not in row.words]
+        unmoved = views.rows_of(facts)
+        texts = {row.name: RowText(row.name, rows.excuse_row(row)) for row in unmoved}
+        some = {word: [row for row in unmoved if word in row.words] for word in LIST_TITLES}
+        some[""] = [row for row in unmoved if verdicts.GONE not in row.words]
         counts = {word: Count(list_link(word), LIST_TITLES.get(word, "all"), len(some[word]))
                   for word in ("", *LIST_TITLES)}
         for word, of_word in some.items():
@@ -297,14 +371,14 @@ class Site:
         links = facts.links("source/")
         run, found = facts.newest.kept.run, mending.mending_of(facts, links)
         is_asked = found.ranked or found.grouped
-        self.put("index.html", self.page("front_more.html", {
+        self.put("index.html", self.page("front.html", {
             "glance": glance(facts),
             "run": run, "counts": counts, "moved": run.excuses - counts[""].number - counts[verdicts.GONE].number,
             "fetched": facts.newest.kept.fetched, "refused": facts.refusals, "reasons": REASON_TITLES,
             "verdicts": {word: (counts[verdicts.LISTS[word]], title) for word, title in verdicts.TITLES.items()},
             "mending": found, "most": OFFENDERS,
             "offenders": [] if is_asked else views.offenders_of(facts, links)[:OFFENDERS],
-            "runs": facts.runs[:-NEWEST - 1:-1], "up": ""}))
+            "rows": list(map(rows.run_row, facts.runs[:-NEWEST - 1:-1])), "up": ""}))
 
 
 def sync(folder: str) -> None:
@@ -315,6 +389,17 @@ def sync(folder: str) -> None:
             raise OSError(ctypes.get_errno(), os.strerror(ctypes.get_errno()), folder)
     finally:
         os.close(number)
+
+
+def paged(shown: Sequence[hints.ShownHint], pages: Mapping[int, str]) -> Iterator[
+        tuple[str, Sequence[Part], Sequence[hints.ShownHint]]]:
+    """The pages of hints in force, of which there is one at least: each with all parts and with its hints."""
+    by_page: dict[str, list[hints.ShownHint]] = {"hints.html": []}
+    for hint in shown:
+        by_page.setdefault(pages[hint.number], []).append(hint)
+    for link, some in by_page.items():
+        yield link, [Part(other, f"{of[0].number} to {of[-1].number}" if of else "", other == link)
+                     for other, of in by_page.items()], some
 
 
 def list_link(word: str) -> str:
@@ -336,7 +421,7 @@ def hints_of(facts: views.Facts, read: Newest) -> Sequence[Hint]:
     return found
 
 
-def moved_in(read: Newest) -> Sequence[Moved]:
+def moved_in(read: Newest) -> Sequence[rows.Moved]:
     """The sources that moved in a run, by name, and behind them those that wait."""
     before = {excuse.source: excuse.testing or "" for excuse in read.excuses.excuses}
     found = []
@@ -344,7 +429,7 @@ def moved_in(read: Newest) -> Sequence[Moved]:
         if change.outcome in (Outcome.ACCEPTED, Outcome.WAITS) and change.word is not Word.REMOVE:
             word = "wait" if change.word is Word.WAIT else "accept"
             told = views.moved_sentence(change)
-            found += [Moved(item.source, before.get(item.source, ""), item.version, word, told)
+            found += [rows.Moved(item.source, before.get(item.source, ""), item.version, word, told)
                       for item in change.items]
     return sorted(found, key=lambda row: (row.word, row.name))
 

@@ -9,7 +9,7 @@ import json
 import sqlite3
 import zlib
 from dataclasses import dataclass
-from typing import Iterable, Iterator, Mapping, Optional, Sequence
+from typing import Iterable, Iterator, Mapping, NamedTuple, Optional, Sequence
 
 from office_tools.faults import Fault
 from office_tools.reports import Run
@@ -47,8 +47,7 @@ MAIL_TABLES = ("mail_read", "paragraph", "relation", "need", "person")
 """What is read of the kept mail."""
 
 
-@dataclass(frozen=True)
-class Event:
+class Event(NamedTuple):
     """From which run on a source stands as told: its versions, its reasons, and what the run did with it as JSON.
 
     A version or the reasons may be empty: a source without an excuse has none.
@@ -207,7 +206,7 @@ class State:
     def last_events(self) -> Mapping[str, Event]:
         """The last event of each source."""
         with self.faults():
-            return {source: Event(*parts) for source, *parts in self.database.execute("SELECT * FROM last")}
+            return {parts[0]: Event._make(parts[1:]) for parts in self.database.execute("SELECT * FROM last")}
 
     def events(self, source: str) -> Sequence[Event]:
         """The events of a source, the last one first."""

@@ -9,10 +9,13 @@ from office_tools.reports import Change
 
 @dataclass(frozen=True)
 class Piece:
-    """A part of a line: its text, and where it leads; empty where it leads nowhere."""
+    """A part of a line: its text, where it leads, if it does, a small picture before it as SVG, if it has one, and
+    whether it is the word of a verdict."""
 
     text: str
     link: str = ""
+    drawn: str = ""
+    is_verdict: bool = False
 
 
 @dataclass(frozen=True)

@@ -5,13 +5,15 @@ from typing import Iterator, Sequence
 from office_tools.pages import plots, views
 from office_tools.pages.kept_mail import KeptMail
 from office_tools.pages.outcomes import NOTHING, What
-from office_tools.pages.sections import Cell, cell, Column, Drawn, line, Section, SectionPage, Table
+from office_tools.pages.rows import Cell, Column
+from office_tools.pages.sections import cell, line, Section, SectionPage, Table
 from office_tools.pages.state import State
 from office_tools.pages.told import Line, Links, Piece
 from office_tools.pages.transitions import (GONE, MISSING, NEITHER, NEW, OLD, Reader, suite_of_testing,
                                             suite_of_unstable, Transition, User)
 
-MOST_NAMES = 200  # sources of a level that are named; the table has all
+MOST_NAMES = 200  # sources of a level that are named, and of all levels; the table has all
+MOST_IN_ALL = 600
 WORDS = {OLD: "to rebuild", NEW: "rebuilt", NEITHER: "no need", MISSING: "not built", GONE: "gone from unstable"}
 
 
@@ -61,7 +63,7 @@ def progress(one: Transition) -> Piece:
     """A bar with its numbers."""
     number, done, moved = len(one.users), one.done, one.moved
     told = f"{done} of {number}"
-    return Drawn(told, "", plots.bar(f"{told} done, {moved} of them in testing", (
+    return Piece(told, "", plots.bar(f"{told} done, {moved} of them in testing", (
         ("bar-moved", moved), ("bar-done", done - moved), ("bar-left", number - done))))
 
 
@@ -96,12 +98,15 @@ def architecture_section(one: Transition) -> Section:
 def left_section(facts: views.Facts, one: Transition, links: Links) -> Section:
     """What is left, level by level: a level can be rebuilt once those before it are."""
     items: list[Line] = []
+    shown = 0
     for level in sorted({user.level for user in one.users}):
         left = [user for user in one.users if user.level == level and not user.is_done]
         pieces: list[object] = [f"Level {level}: "]
-        for place, user in enumerate(left[:MOST_NAMES]):
+        most = min(MOST_NAMES, MOST_IN_ALL - shown)
+        shown += len(left[:most])
+        for place, user in enumerate(left[:most]):
             pieces += [", " if place else "", Piece(user.name, links.source(user.name)), f" ({left_of(user)})"]
-        pieces += [f" and {len(left) - MOST_NAMES} more"] if len(left) > MOST_NAMES else []
+        pieces += [f" and {len(left) - most} more"] if len(left) > most else []
         items += [line(*pieces)] if left else []
     waiting = [user for user in one.users if user.is_done and user.name in facts.excuses and not user.is_moved]
     told = [] if items else [line("Nothing has to be rebuilt.")]

@@ -4,6 +4,7 @@ Rows of testing and unstable are the office's. What a row needs is read from its
 its source version is that of its source in unstable; the rows of a source that isn't built yet aren't.
 """
 import collections
+import functools
 import re
 from dataclasses import dataclass
 from typing import Collection, Iterable, Mapping, Optional, Sequence
@@ -13,6 +14,7 @@ from office_tools.reports import Testing
 
 Key = tuple[str, str]  # an architecture and a package
 DIGITS = re.compile(r"[0-9.]+|t64$")
+REBUILD = re.compile(r"\+b\d+$")
 OLD, NEW, NEITHER, MISSING, GONE = "old", "new", "neither", "missing", "gone"
 
 
@@ -24,11 +26,22 @@ class Suite:
     rows: Mapping[Key, tuple[str, str]]
 
     def of_sources(self, names: Collection[str]) -> Mapping[str, Mapping[Key, str]]:
-        """The rows of these sources, with their versions."""
-        found: dict[str, dict[Key, str]] = collections.defaultdict(dict)
+        """The rows of some sources, with their versions."""
+        found: dict[str, dict[Key, str]] = {name: {} for name in names}
         for key, (version, source) in self.rows.items():
-            if source in names:
+            if source in found:
                 found[source][key] = version
+        return {name: of_source for name, of_source in found.items() if of_source}
+
+    @functools.cached_property
+    def by_source(self) -> Mapping[str, Mapping[Key, str]]:
+        """The rows of each source, with their versions."""
+        found: dict[str, dict[Key, str]] = {}
+        for key, (version, source) in self.rows.items():
+            if source in found:
+                found[source][key] = version
+            else:
+                found[source] = {key: version}
         return found
 
 
@@ -101,7 +114,8 @@ def stem(name: str) -> str:
 
 def suite_of_testing(testing: Testing) -> Suite:
     """Testing, as it was read."""
-    return Suite(testing.sources, {(row.architecture, row.package): (row.version, row.source) for row in testing.rows})
+    return Suite(testing.sources, {(architecture, package): (version, source)
+                                   for architecture, package, version, source in testing.rows})
 
 
 def suite_of_unstable(told: str) -> Suite:
@@ -121,13 +135,13 @@ class Reader:
 
     def __init__(self, testing: Suite, unstable: Suite, mail: KeptMail) -> None:
         self.testing, self.unstable, self.mail = testing, unstable, mail
+        self.known: dict[str, Mapping[str, bool]] = {}
 
     def transitions(self, names: Collection[str]) -> Sequence[Transition]:
         """The transitions of these sources, those with the most users first."""
-        testing, unstable = (suite.of_sources(names) for suite in (self.testing, self.unstable))
+        testing, unstable = self.testing.of_sources(names), self.unstable.by_source
         changed = [name for name in names if name in testing and name in unstable
-                   and any(unstable[name].get(key) in (None, version) for key, version in testing[name].items())
-                   and any(testing[name].get(key) != version for key, version in unstable[name].items())]
+                   and is_changed(testing[name], unstable[name], self.unstable.sources[name])]
         builds = self.mail.builds_of({package for name in changed for _, package in unstable[name]})
         found = [self.transition(name, testing[name], self.current(name, unstable[name], builds)) for name in changed]
         return sorted((one for one in found if one is not None), key=lambda one: (-len(one.users), one.source))
@@ -163,13 +177,15 @@ class Reader:
         one."""
         in_testing: dict[str, list[Build]] = collections.defaultdict(list)
         in_unstable: dict[str, list[Build]] = collections.defaultdict(list)
-        for build in self.mail.needing({*old, *new}):
-            row = (build.version, build.source)
-            if build.source == source or not needs(build, {*old, *new}):
+        both = {*old, *new}
+        for build in self.mail.needing(both):
+            key, row = (build.architecture, build.package), (build.version, build.source)
+            is_in = self.testing.rows.get(key) == row, self.unstable.rows.get(key) == row
+            if build.source == source or not any(is_in) or not needs(build, both):
                 continue
-            if self.testing.rows.get((build.architecture, build.package)) == row:
+            if is_in[0]:
                 in_testing[build.source].append(build)
-            if self.unstable.rows.get((build.architecture, build.package)) == row:
+            if is_in[1]:
                 in_unstable[build.source].append(build)
         names = {*in_testing, *in_unstable}
         if not any(needs(build, old) for builds in in_testing.values() for build in builds):
@@ -183,10 +199,13 @@ class Reader:
 
     def built(self, names: Collection[str]) -> Mapping[str, Mapping[str, bool]]:
         """Of each of these sources the architectures on which unstable has rows of it, and whether one is current."""
-        rows = self.unstable.of_sources(names)
+        todo = [name for name in names if name not in self.known]
+        rows = {name: self.unstable.by_source.get(name, {}) for name in todo}
         builds = self.mail.builds_of({package for of_source in rows.values() for _, package in of_source})
-        return {name: {architecture: architecture in {key[0] for key in self.current(name, rows[name], builds)}
-                       for architecture, _ in rows[name]} for name in rows if name in self.unstable.sources}
+        for name in todo:
+            current = {key[0] for key in self.current(name, rows[name], builds)} if rows[name] else set()
+            self.known[name] = {architecture: architecture in current for architecture, _ in rows[name]}
+        return {name: self.known[name] for name in names if self.known[name] and name in self.unstable.sources}
 
     def states(self, name: str, builds: Sequence[Build], built: Mapping[str, bool],
                names: tuple[Collection[str], Collection[str]]) -> Mapping[str, str]:
@@ -204,6 +223,12 @@ class Reader:
             else:
                 found[architecture] = NEW if needed else NEITHER
         return found
+
+
+def is_changed(before: Mapping[Key, str], after: Mapping[Key, str], version: str) -> bool:
+    """Whether on one architecture some rows of a source are gone or of another version than it is, and some are new."""
+    old = {key[0] for key in before if REBUILD.sub("", after.get(key, "")) != version}
+    return bool(old) and any(key[0] in old and before.get(key) != version for key, version in after.items())
 
 
 def needs(build: Build, names: Collection[str]) -> bool:

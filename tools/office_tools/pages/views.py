@@ -8,7 +8,7 @@ from typing import Callable, Mapping, Optional, Sequence
 
 from office_tools import reports
 from office_tools.pages.fetching import HINTS, PROPOSED, hints_named, Newest, sources_in, without_age
-from office_tools.pages.hints import Refusal, refusals_of
+from office_tools.pages.hints import pages_of, Refusal, refusals_of
 from office_tools.pages.kept_mail import Person
 from office_tools.pages.outcomes import NOTHING, outcome_in, outcomes_of, reason_words, SourceOutcome, What
 from office_tools.pages.patterns import Patterns
@@ -16,8 +16,8 @@ from office_tools.pages.people import page_of
 from office_tools.pages.sentences import breaks, old_enough, outcome_sentence, reason_sentence, refused_because
 from office_tools.pages.state import Event, Proposal, SentHint, State, Why
 from office_tools.pages.told import Line, linked, lines_of, Links, Piece, shortened
-from office_tools.pages.verdicts import word_of, words_of
-from office_tools.pages.waits import Wait, Waits, sources_of, waits_of
+from office_tools.pages.verdicts import OUTCOME_WORDS, word_of, words_of
+from office_tools.pages.waits import Wait, Waits, waits_of
 from office_tools.reports import Excuse, Reason, ReasonKind
 
 HINT_LINES: Mapping[ReasonKind, str] = {
@@ -30,6 +30,8 @@ ASKING: Mapping[str, ReasonKind] = {
 """The reason that a hint of these words gives."""
 
 MOST_WAITING = 100  # sources on the page of one that they wait for
+MOST_LINES = 600  # lines of an answer on a page
+MOST_EVENTS = 400  # events of a source on its page
 NO_GROUP = "No hint: the office found no group that frees it."
 NOT_ASKED = "Not asked yet: a later call asks."
 
@@ -50,12 +52,12 @@ class Standing:
 class Source:
     """What the page of a source shows.
 
-    `unstable` and `age` are empty where it has no excuse, or moved in the newest run, and `verdict` where no report of
-    the newest run names it. `told` is what keeps it out, and what the newest run did with it if that was no move.
-    `lines` are what the office answered about it, the same since run `since`. `ways` lead out of the pages. `last` is
-    its last event. `waits` are the sources that it waits for, and `waited` the first of the `waiting` ones that wait
-    for it. `people` are its maintainer and uploaders. It has a feed unless nothing happened to it since the first run.
-    What is told here stays the same from run to run as long as the source stands the same.
+    `unstable` and `age` are empty where it has no excuse, or moved in the newest run, and `verdict` where it has no
+    excuse and neither moved nor was removed. `told` is what keeps it out, and what the newest run did with it if that
+    was no move. `lines` are what the office answered about it, the same since run `since`. `ways` lead out of the
+    pages. `last` is its last event. `waits` are the sources that it waits for, and `waited` the first of the `waiting`
+    ones that wait for it. `people` are its maintainer and uploaders. It has a feed unless nothing happened to it since
+    the first run. What is told here stays the same from run to run as long as the source stands the same.
     """
 
     name: str
@@ -94,7 +96,7 @@ class Row:
 
 @dataclass(frozen=True)
 class Facts:
-    """All that is kept, read, and what is counted of it once.
+    """All that is kept, read, and what is counted of it once. `standings` are those of sources that were asked for.
 
     `standing` are the items of the hints in force, and `refusals` the hints that the newest run refused. `proposed` are
     the proposed hints by source, if the office was asked for them.
@@ -116,6 +118,7 @@ class Facts:
     binaries: Mapping[str, Sequence[str]]
     packages: Mapping[str, str]
     people: Mapping[str, Person] = field(default_factory=dict)
+    standings: dict[str, str] = field(default_factory=dict)
 
     @property
     def date(self) -> datetime.date:
@@ -132,6 +135,11 @@ class Facts:
     def in_force(self) -> frozenset[int]:
         """The numbers of the hints in force."""
         return frozenset(item.number for item in self.standing)
+
+    @functools.cached_property
+    def hint_pages(self) -> Mapping[int, str]:
+        """The page of each hint in force."""
+        return pages_of(self.in_force)
 
     @functools.cached_property
     def dates(self) -> Mapping[int, str]:
@@ -155,13 +163,24 @@ class Facts:
                 waiting[name] = (why.told if why else None, offender.package, self.packages.get(offender.package, ""))
         return waits_of(waiting)
 
+    @functools.cached_property
+    def told_of_now(self) -> frozenset[str]:
+        """The sources of which the newest run tells more than that they moved, or whose page names other sources."""
+        told = (name for name, outcomes in self.outcomes.items()
+                if len(outcomes) > 1 or outcomes[-1].what is not What.ACCEPT)
+        return self.unmoved.union(told, self.waits.touched)
+
+    def is_quiet(self, name: str) -> bool:
+        """Whether the page of a source shows only what it shows from run to run: where it is, and its past."""
+        return name not in self.told_of_now
+
     def links(self, folder: str) -> Links:
         """Where names lead. `folder` is the way to the folder of the sources' pages, with a slash at its end."""
         above = folder.removesuffix("source/") if folder else "../"
         return Links(lambda name: f"{folder}{name}.html" if name in self.names else "",
                      lambda name: f"{folder}{self.packages[name]}.html" if name in self.packages else "",
                      self.patterns.bug, self.hint_texts,
-                     lambda number: f"{above}hints.html#hint-{number}")
+                     lambda number: f"{above}{self.hint_pages[number]}#hint-{number}")
 
     @functools.cached_property
     def hint_texts(self) -> Mapping[int, str]:
@@ -198,11 +217,15 @@ def facts_of(state: State, newest: Newest, patterns: Patterns) -> Facts:
 
 def binaries_of(rows: Sequence[reports.Row]) -> Mapping[str, Sequence[str]]:
     """The binary packages of each source: each package and version once, with its architectures."""
-    found: dict[str, dict[tuple[str, str], list[str]]] = {}
-    for row in rows:
-        found.setdefault(row.source, {}).setdefault((row.package, row.version), []).append(row.architecture)
-    return {source: [f"{package} {version} ({', '.join(archs)})" for (package, version), archs in sorted(of.items())]
-            for source, of in found.items()}
+    found: dict[str, dict[tuple[str, str], str]] = {}
+    for architecture, package, version, source in rows:
+        of_source = found.get(source)
+        if of_source is None:
+            of_source = found[source] = {}
+        key = package, version
+        of_source[key] = f"{of_source[key]}, {architecture}" if key in of_source else architecture
+    return {source: [f"{package} {version} ({archs})" for (package, version), archs in sorted(of_source.items())]
+            for source, of_source in found.items()}
 
 
 def why_of(facts: Facts, excuse: Excuse) -> Optional[Why]:
@@ -313,20 +336,36 @@ def source_of(facts: Facts, name: str, links: Links) -> Source:
         name, testing_version(facts, name), excuse.unstable if excuse else "",
         age_sentence(excuse, facts.date) if excuse else "", verdict_of(facts, name),
         () if has_moved else told_of(facts, excuse, outcomes, links),
-        lines_of(name, why.told, links) if why else (),
+        cut(lines_of(name, why.told, links), f"office-ask why {name}") if why else (),
         why.since if why else None,
         proposal_lines(facts, excuse), facts.binaries.get(name, ()), ways_out(facts, name, excuse),
         facts.last.get(name),
         wait_lines(facts, facts.waits.by_source.get(name, ()), links, lambda wait: wait.other),
         wait_lines(facts, facts.waits.by_other.get(name, ()), links, lambda wait: wait.source)[:MOST_WAITING],
-        len(sources_of(facts.waits.by_other.get(name, ()))), people_of(facts, name), has_feed(facts, name))
+        len(facts.waits.waiting.get(name, ())), people_of(facts, name), has_feed(facts, name))
+
+
+def quiet_texts(facts: Facts, name: str) -> Sequence[str]:
+    """All that the page of a quiet source shows, by which it is known to be as it was."""
+    last, person = facts.last.get(name), facts.people.get(name)
+    return (name, testing_version(facts, name), *facts.binaries.get(name, ()), "",
+            *((str(last.run), *last.standing) if last else ()), "",
+            *((person.maintainer, *person.uploaders) if person else ()))
+
+
+def cut(lines: Sequence[Line], command: str) -> Sequence[Line]:
+    """Lines of an answer, the first ones alone where they are many, with the command that prints all of them."""
+    more = len(lines) - MOST_LINES
+    return lines if more <= 0 else [*lines[:MOST_LINES], Line((Piece(f".. and {more} more lines: {command}"),))]
 
 
 def verdict_of(facts: Facts, name: str) -> str:
-    """The word for how a source stands; empty where no report of the newest run names it."""
+    """The word for how a source stands. One that moved or was removed stands so until unstable has something newer."""
     excuse, what = facts.excuses.get(name), facts.outcomes.get(name, NOTHING)[-1].what
     if excuse is None and what is What.NONE:
-        return ""
+        last = facts.last.get(name)
+        before = outcome_in(last.outcome).what if last else What.NONE
+        return OUTCOME_WORDS[before] if before in (What.ACCEPT, What.REMOVED) else ""
     return word_of(reason_words(excuse) if excuse else (), what)
 
 
@@ -356,12 +395,25 @@ def wait_lines(facts: Facts, waits: Sequence[Wait], links: Links, named: Callabl
     found: dict[str, list[str]] = {}
     for wait in waits:
         found.setdefault(named(wait), []).append(wait.why)
-    return [Line((Piece(name, links.source(name)), Piece(f": {'; '.join(whys)} ({standing_of(facts, name)})"))
+    return [Line((Piece(name, links.source(name)), Piece(f": {'; '.join(whys)}{standing_behind(facts, name, whys)}"))
                  if name else (Piece("; ".join(whys)),)) for name, whys in sorted(found.items())]
+
+
+def standing_behind(facts: Facts, name: str, whys: Sequence[str]) -> str:
+    """How it stands with a source in brackets, unless the last reason tells that."""
+    standing = standing_of(facts, name)
+    return "" if whys[-1].endswith(f" {standing}") else f" ({standing})"
 
 
 def standing_of(facts: Facts, name: str) -> str:
     """How it stands with a source, in words that stay from run to run as long as that does."""
+    if name not in facts.standings:
+        facts.standings[name] = standing_now(facts, name)
+    return facts.standings[name]
+
+
+def standing_now(facts: Facts, name: str) -> str:
+    """The same, made."""
     excuse = facts.excuses.get(name)
     what = facts.outcomes.get(name, NOTHING)[-1].what
     if what is What.ACCEPT:
@@ -394,7 +446,8 @@ def age_sentence(excuse: Excuse, date: datetime.date) -> str:
 def history_of(facts: Facts, events: Sequence[Event]) -> Sequence[Standing]:
     """The state of a source from run to run, the newest first."""
     return [Standing(event.run, facts.dates.get(event.run, ""), event.testing, event.unstable,
-                     event_pieces(event, facts), outcome_in(event.outcome).what is What.ACCEPT) for event in events]
+                     event_pieces(event, facts), outcome_in(event.outcome).what is What.ACCEPT)
+            for event in events[:MOST_EVENTS]]
 
 
 def event_pieces(event: Event, facts: Facts) -> Sequence[Piece]:
@@ -425,7 +478,8 @@ def proposal_lines(facts: Facts, excuse: Optional[Excuse]) -> Sequence[str]:
     proposal = proposal_of(facts, excuse)
     if proposal is None:
         return (NOT_ASKED,)
-    return tuple(map(shortened, proposal.told.splitlines())) or (NO_GROUP,)
+    told = [Line((Piece(shortened(line)),)) for line in proposal.told.splitlines()]
+    return tuple(line.pieces[0].text for line in cut(told, f"office-ask propose {excuse.source}")) or (NO_GROUP,)
 
 
 def offenders_of(facts: Facts, links: Links) -> Sequence[tuple[int, Piece, str]]:

@@ -3,9 +3,9 @@ from typing import Iterator, Sequence
 
 from office_tools.pages import views
 from office_tools.pages.outcomes import What
-from office_tools.pages.sections import Cell, cell, Column, line, Section, SectionPage, Table
+from office_tools.pages.rows import Cell, Column
+from office_tools.pages.sections import cell, line, Section, SectionPage, Table
 from office_tools.pages.told import Links, Piece
-from office_tools.pages.waits import sources_of
 
 FIRST = 50  # sources that others wait for, as the list of them shows
 MOST_WHYS = 3  # reasons in a row of it
@@ -50,7 +50,7 @@ def first_of(facts: views.Facts, links: Links) -> Section:
 
 def waiting_cell(facts: views.Facts, name: str, links: Links) -> Cell:
     """How many sources wait for one, with a link to their list."""
-    number = len(sources_of(facts.waits.by_other.get(name, ())))
+    number = len(facts.waits.waiting.get(name, ()))
     link = links.source(name)
     return cell(Piece(str(number), f"{link}#waited" if number and link else ""))
 

@@ -5,6 +5,7 @@ The office decides why a source can't move, and shows it by numbered lines (`GET
 be mended, or the source whose package in unstable would meet the clause.
 """
 import collections
+import functools
 import re
 from dataclasses import dataclass
 from typing import Iterator, Mapping, Optional, Sequence
@@ -50,12 +51,17 @@ class Waits:
         """The sources that wait or are waited for."""
         return {*self.by_source, *self.by_other}
 
+    @functools.cached_property
+    def waiting(self) -> Mapping[str, Sequence[str]]:
+        """The sources that wait for each one, by name, each once."""
+        return {name: sorted({wait.source for wait in waits}) for name, waits in self.by_other.items()}
+
     def ranked(self) -> Sequence[tuple[str, int, int]]:
         """The sources that others wait for, the most first: how many wait for it, and how many in the end.
 
         A source waits for another in the end if it waits for one that does. This is counted for the first ones alone.
         """
-        first = sorted(((name, len(sources_of(waits))) for name, waits in self.by_other.items()),
+        first = sorted(((name, len(sources)) for name, sources in self.waiting.items()),
                        key=lambda item: (-item[1], item[0]))
         counted = [(name, number, len(self.in_the_end(name)) if place < MOST_COUNTED else number)
                    for place, (name, number) in enumerate(first)]
@@ -66,15 +72,10 @@ class Waits:
         found: set[str] = set()
         left = [name]
         while left:
-            new = set(sources_of(self.by_other.get(left.pop(), ()))) - found
+            new = set(self.waiting.get(left.pop(), ())) - found
             found |= new
             left += new
         return found - {name}
-
-
-def sources_of(waits: Sequence[Wait]) -> Sequence[str]:
-    """The sources that wait, by name, each once."""
-    return sorted({wait.source for wait in waits})
 
 
 def ends_of(told: str) -> Iterator[End]:

@@ -1,13 +1,16 @@
 """office-mend --undo: the words of this form, and what it does."""
 import argparse
+import contextlib
 import functools
 import os
 import sys
 import urllib.parse
-from typing import Sequence
+from typing import Iterator, Sequence
 
-from office_tools import faults, program
+from office_tools import bags, faults, program
 from office_tools.faults import Fault
+from office_tools.feed.mailbox import BAG
+from office_tools.files import read_bytes
 from office_tools.service import Service
 from office_tools.undo.exchange import Locked, discarded, exchange, state_of
 from office_tools.undo.outcome import check, differences, replayed, summary
@@ -16,15 +19,41 @@ from office_tools.undo.selection import Letter, chosen, read, without
 NAME = "office-mend"
 URL = "http://127.0.0.1:8080"
 STAYS = 1
+DAY = "/var/lib/office-day"
+"""What the unit of office-day remembers: all mail, and a copy of the store."""
+PAGES = "/var/lib/office-pages/.state"
+"""What the unit of office-pages remembers."""
 
 tell = functools.partial(faults.tell, NAME)
 
 
-def caches_of(asked: argparse.Namespace) -> Sequence[str]:
-    """The folders and files that are moved away: those that are named, and what office-feed keeps for the service."""
+def caches_of(asked: argparse.Namespace, letters: Sequence[Letter]) -> Sequence[str]:
+    """The folders and files that are moved away: those that are named, and what the tools keep for this office, as
+    they are installed and as they are called by this user.
+    """
+    found = [path for path in usual(asked.url, letters) if os.path.exists(path)]
+    named = [path for path in asked.cache if os.path.exists(path)]
+    return [*found, *(path for path in named if not any(map(functools.partial(os.path.samefile, path), found)))]
+
+
+def usual(url: str, letters: Sequence[Letter]) -> Iterator[str]:
+    """Where office-feed, office-day and office-pages keep what they remember of this office."""
     folder = os.environ.get("XDG_CACHE_HOME") or os.path.expanduser("~/.cache")
-    feed = os.path.join(folder, "office-feed", urllib.parse.quote(Service(asked.url).url, ""))
-    return [path for path in (feed, *asked.cache) if os.path.exists(path)]
+    place = urllib.parse.quote(Service(url).url, "")
+    yield os.path.join(folder, "office-feed", place)
+    for day in (DAY, os.path.join(folder, "office-day", place)):
+        feed = os.path.join(day, "feed")
+        if day != DAY or not is_of_another(os.path.join(feed, BAG), letters):
+            yield from (feed, os.path.join(day, "look"))
+    yield PAGES
+
+
+def is_of_another(bag: str, letters: Sequence[Letter]) -> bool:
+    """Whether a bag of all mail is another office's, so that its first message isn't this one's."""
+    with contextlib.suppress(Fault):
+        first = next(bags.messages_in(read_bytes(bag)), None)
+        return first is not None and all(letter.text != first for letter in letters)
+    return False
 
 
 def is_wanted(is_asked: bool) -> bool:
@@ -64,7 +93,7 @@ def main(asked: argparse.Namespace) -> int:
         print(f"undone {len(gone)}, {summary(before, after)}")
         if not is_wanted(asked.yes):
             return STAYS
-        caches = caches_of(asked)
+        caches = caches_of(asked, letters)
         with Locked(store, state) as locked:
             kept = exchange(locked, new, caches)
         for path in (store, *caches):
@@ -79,8 +108,8 @@ def add_words(words: argparse.ArgumentParser) -> None:
     words.add_argument("--conf", metavar="SETUP", help="with --undo: the office's setup")
     words.add_argument("--db", metavar="STORE", help="with --undo: its store, which no program has open")
     words.add_argument("--url", metavar="URL", default=URL,
-                       help=f"with --undo: the service, whose cache of office-feed is moved away ({URL})")
+                       help=f"with --undo: the service, whose caches are moved away ({URL})")
     words.add_argument("--cache", metavar="PATH", action="append", default=[],
-                       help="with --undo: another cache that is moved away: of office-feed, the folder .state of "
-                            "office-pages, or the folder of office-mirror --state; may be repeated")
+                       help="with --undo: another cache that is moved away than those of the installed units and of "
+                            "this user, such as the folder of office-mirror --state; may be repeated")
     words.add_argument("--yes", action="store_true", help="with --undo: exchange the stores, and don't ask")

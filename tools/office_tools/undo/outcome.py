@@ -43,7 +43,7 @@ def take(outcome: Outcome, lines: Sequence[str]) -> None:
     part: list[str] = []
     for place, line in enumerate(lines):
         is_excuse = place + 1 < len(lines) and lines[place + 1].startswith(" age ")
-        head = None if is_excuse else re.fullmatch(r"(excuses|update|testing) (\d+)(?: (\S+))?", line)
+        head = None if is_excuse else re.fullmatch(r"(excuses|update|testing) ([0-9]{1,9})(?: (\S+))?", line)
         if head is None:
             if line.startswith(" ") and part:
                 part[-1] += line if part[-1].endswith(":") else f",{line}"
