@@ -16,7 +16,7 @@ class Day:
     """A day: `gone` are sources, `less` binary packages, on an architecture or on all, that leave unstable.
 
     `words` are further ones of office-feed. Its run leaves something to be sent, where it isn't settled: sources that
-    have to leave testing next, or hints that are done.
+    have to leave testing next, or hints that are done. `status` is that of office-feed: 1 if it uses its last spare.
     """
 
     title: str
@@ -28,6 +28,7 @@ class Day:
     mail: Sequence[Letter] = ()
     is_settled: bool = True
     words: Sequence[str] = ()
+    status: int = 0
 
 
 def upload(source: str, version: str, day: str) -> Letter:
@@ -97,7 +98,7 @@ DAYS: Sequence[Day] = (
               ("again1", "build", row("lone", "0.3-1+b1", "amd64", "lone (0.3-1+b1)"),
                row("lone", "0.3-1", "arm64", "lone (0.3-1+b1)"))]),
     Day("a rebuild that the feed tells by itself", "2025-03-19", ["accept lone 0.3-1+b2", DUO_WAITS], [LONE_TWICE],
-        words=["--rebuilds"]),
+        words=["--rebuilds"], status=1),
     Day("an old library stays beside the new one", "2025-03-20",
         ["accept smooth-libfoo2 2.0-1", "accept libfoo 3.0-1", "accept app1 1.2-1", DUO_WAITS], MARCH_20,
         mail=[upload("smooth-libfoo2", "2.0-1", "2025-03-20"),

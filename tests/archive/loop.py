@@ -65,7 +65,7 @@ def live(stage: Stage, number: int, day: Day) -> None:
     stage.line = stage.archive.ready()
     for letter in day.mail:
         stage.office.post(*letter)
-    stage.feed(day.day, *day.words)
+    stage.feed(day.day, *day.words, status=day.status)
     expect(f"update {number}", list(day.update), list(stage.office.update(number)))
     if not day.is_settled:
         return

@@ -26,18 +26,19 @@ class Failed(Exception):
     """What isn't as it is due."""
 
 
-def run(*words: str, may_fail: bool = False, given: str = "", **more: str) -> "subprocess.CompletedProcess[str]":
-    """Runs a command, which has to end with status 0 where nothing else is said."""
+def run(*words: str, may_fail: bool = False, status: int = 0, given: str = "",
+        **more: str) -> "subprocess.CompletedProcess[str]":
+    """Runs a command, which has to end with this status unless it may fail."""
     ran = subprocess.run(words, input=given, capture_output=True, text=True, check=False,
                          env={**os.environ, **more}, timeout=1800)
-    if ran.returncode and not may_fail:
+    if ran.returncode != status and not may_fail:
         raise Failed(f"{' '.join(words)}: status {ran.returncode}\n{ran.stdout}{ran.stderr}")
     return ran
 
 
-def command(name: str, *words: str, may_fail: bool = False) -> "subprocess.CompletedProcess[str]":
+def command(name: str, *words: str, may_fail: bool = False, status: int = 0) -> "subprocess.CompletedProcess[str]":
     """Runs a command under test. The environment's COMMANDS names another folder of them."""
-    return run(os.path.join(os.environ.get("COMMANDS", COMMANDS), name), *words, may_fail=may_fail)
+    return run(os.path.join(os.environ.get("COMMANDS", COMMANDS), name), *words, may_fail=may_fail, status=status)
 
 
 class Office:
@@ -388,9 +389,9 @@ class Stage:
                 "--changes", os.path.join(self.folder, "changes"), *more,
                 *(word for line in lines for word in ("--apt", line))]
 
-    def feed(self, day: str, *more: str) -> str:
-        """Feeds the office, and gives what the command prints."""
-        return command("office-feed", *self.feed_words(day, *more)).stdout
+    def feed(self, day: str, *more: str, status: int = 0) -> str:
+        """Feeds the office, and gives what the command prints. It ends with this status."""
+        return command("office-feed", *self.feed_words(day, *more), status=status).stdout
 
     def apply_words(self) -> Sequence[str]:
         """The words of office-apply."""
