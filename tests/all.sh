@@ -56,6 +56,12 @@ try docs sh "$here/docs.sh" "$office"
 try tenth_day /usr/bin/python3 "$here/tenth_day/run.py" "$office"
 try tools env OFFICE="$office" /usr/bin/python3 -m unittest discover -s "$here/../tools/tests"
 try garbled /usr/bin/python3 "$here/archive/garbled.py" "$office"
+plan=$here/../crates/office_plan/out/office_plan
+if [ -x "$plan" ]; then
+    try plans /usr/bin/python3 "$here/archive/plans.py" "$plan"
+else
+    echo "not tried: plans: office-plan isn't built"
+fi
 if [ -d "$here/../crates/deb_version/out/rlib" ]; then
     try edits python3 "$here/edits/trials.py"
 else
