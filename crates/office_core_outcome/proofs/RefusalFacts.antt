@@ -24,7 +24,7 @@ use Rattle.office_core_outcome.specs.Proposal.{decisions_by}
 use Rattle.office_core_outcome.specs.RuleSteps.{IsRuled}
 use Rattle.office_core_outcome.specs.Trial.{decided, judged_by}
 use Rattle.office_core_outcome.specs.RefusalSteps.{IsToldWhere}
-use Rattle.office_core_outcome.specs.WhyRefused.{AreReasons, AreToldOf, IsToldOf, Judged, refused_line}
+use Rattle.office_core_outcome.specs.WhyRefused.{AreFirstTold, AreReasons, AreToldOf, IsToldOf, Judged, refused_line}
 
 -- the first of the decisions that are left
 pub next_decision : (ds : List Decision) (i : ℕ) (d : Decision) → i < length ds → d ≡ get_or ds i d → drop i ds ≡ d ∷ drop (i + 1) ds
@@ -115,10 +115,10 @@ module _ (setup : Lists) (behind : ℕ) (date : Date) (s : Covered) (t : Suite) 
   pub told_in : (ds : List Decision) (text : Text) → AreToldOf (judged_over sender behind archs f es t) ds text → AreToldOf (judged_by setup behind date s t) ds text
   told_in ds text told = subst (λ (j : Judged). AreToldOf j ds text) judged_is told
 
-  -- and what is told of all that it decides are its reasons
-  pub reasons_by : (ds : List Decision) (text : Text) → ds ≡ decisions_by setup date s t → AreToldOf (judged_over sender behind archs f es t) ds text → AreReasons (judged_by setup behind date s t) text
+  -- and what is told of the first of all that it decides are its reasons
+  pub reasons_by : (ds : List Decision) (text : Text) → ds ≡ decisions_by setup date s t → AreFirstTold (judged_over sender behind archs f es t) ds text → AreReasons (judged_by setup behind date s t) text
   unfolding judged_by
-  reasons_by ds text is told = subst (λ (l : List Decision). AreToldOf (judged_by setup behind date s t) l text) is (told_in ds text told)
+  reasons_by ds text is told = subst (λ (l : List Decision). AreFirstTold (judged_by setup behind date s t) l text) is (subst (λ (j : Judged). AreFirstTold j ds text) judged_is told)
 
 module _ (setup : Lists) (date : Date) (s : Covered) (t new : Suite) (r : Ruled) (is : IsRuled setup date s t r new) where
   -- what is decided by its excuses is what the run decides

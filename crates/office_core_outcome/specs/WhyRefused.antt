@@ -1,7 +1,7 @@
 -- Why a run refuses hints, in lines (Debian Developer's Reference 5.13.2.3; removals as britney2's `remove`). That they
 -- are printed, and in which form, is decided by this office.
-use Rattle.std.specs.Prelude.{◌≡◌, ◌⊎◌, ℕ, Bool, true, false, ◌==◌, ◌&&◌, not, nat_lt, if◌then◌else◌, List, [], ◌∷◌, ◌++◌, codes, decimal, map, filter, find, Option, None}
-use Rattle.std.specs.List.{flat_map}
+use Rattle.std.specs.Prelude.{◌≡◌, ◌⊎◌, ◌≤◌, ◌<◌, ℕ, Bool, true, false, ◌==◌, ◌&&◌, not, nat_lt, if◌then◌else◌, List, [], ◌∷◌, ◌++◌, codes, decimal, drop, length, map, filter, find, take, Option, None}
+use Rattle.std.specs.List.{count_by, flat_map}
 use Rattle.std.specs.Option.{option_map_or}
 use Rattle.std.specs.Str.{bytes_eq}
 use Rattle.testing_rules_items.specs.Words.{Text, is_same_version}
@@ -153,6 +153,32 @@ abbrev pub AreToldOf : Judged → List Decision → Text → Type 0
 AreToldOf j [] text = text ≡ []
 AreToldOf j (d ∷ ds) text = IsJoined (IsToldOf j d) (AreToldOf j ds) text
 
--- the reasons of a run: the text on all that it decides
+-- a group or a removal that is refused, by a hint on which the run reports
+abbrev pub is_reported : ℕ → Decision → Bool
+is_reported behind d = elim d [
+  | RemoveDone n name v ↦ false
+  | RemoveRefused n name v o ↦ nat_lt behind n
+  | EasyDone n items ↦ false
+  | EasyNotCandidate n name v ↦ false
+  | EasyRefused n o ↦ nat_lt behind n
+  | Accept name v ↦ false
+  | Wait name v o ↦ false
+]
+
+-- the line on how many more are refused, if there are any
+abbrev pub more_line : ℕ → Text
+more_line more = if more == 0 then [] else codes "and " ++ decimal more ++ codes " more are refused" ++ 10 ∷ []
+
+-- The text on decisions up to the third that is reported on, and then how many more there are: each takes about as long
+-- to explain as a run to decide.
+pub record AreFirstTold (j : Judged) (decisions : List Decision) (text : Text) : Type 0 where
+  pub end : ℕ
+  pub few : count_by (is_reported j.behind) (take end decisions) ≤ 3
+  pub all : count_by (is_reported j.behind) (take end decisions) < 3 → end ≡ length decisions
+  pub lines : Text
+  pub told : AreToldOf j (take end decisions) lines
+  pub is : text ≡ lines ++ more_line (count_by (is_reported j.behind) (drop end decisions))
+
+-- the reasons of a run: the text on the first of what it decides
 abbrev pub AreReasons : Judged → Text → Type 0
-AreReasons j text = AreToldOf j (update_by j.archs j.sources j.rows j.hints j.unhints j.excuses j.testing).decisions text
+AreReasons j text = AreFirstTold j (update_by j.archs j.sources j.rows j.hints j.unhints j.excuses j.testing).decisions text

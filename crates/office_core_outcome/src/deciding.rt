@@ -12,7 +12,7 @@ ghost use Rattle.office_core_outcome.specs.Hints.{with_letters};
 ghost use Rattle.office_core_outcome.specs.Trial.{decided, judged_by};
 ghost use Rattle.office_core_outcome.specs.WhyRefused.{AreReasons};
 
-use crate::refusing::{Judging, told_of_all};
+use crate::refusing::{Judging, told_of_first};
 use crate::rules::{Ruled, judge_run, reports};
 use crate::settling::keep_suites;
 use crate::{RunOutcome, run_beside};
@@ -154,7 +154,7 @@ fn reasons_of(
         testing,
     };
     let decisions = ruled.update.as_slice();
-    told_of_all(alloc, &judging, decisions)
+    told_of_first(alloc, &judging, decisions)
 }
 
 /// What a run decides, as texts, given the testing that it leaves.

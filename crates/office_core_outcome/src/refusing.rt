@@ -1,9 +1,10 @@
 //! Why a run refuses hints, in lines.
 
-ghost use Rattle.std.specs.Prelude.{◌≡◌, ◌++◌, [], IfOk, filter, nat_lt};
+ghost use Rattle.std.specs.Prelude.{◌≡◌, ◌≤◌, ◌<◌, ◌++◌, [], IfOk, drop, filter, length, nat_lt, take};
+ghost use Rattle.std.specs.List.{count_by};
 ghost use Rattle.office_core_outcome.specs.HintTold.{is_of_hint};
 ghost use Rattle.office_core_outcome.specs.RefusalSteps.{IsToldWhere, judged_in};
-ghost use Rattle.office_core_outcome.specs.WhyRefused.{AreGroupLines, AreRemovalLines, AreToldOf, IsRefusalWhere, IsToldOf, group_at, refused_line, turn_of_group, turn_of_item};
+ghost use Rattle.office_core_outcome.specs.WhyRefused.{AreFirstTold, AreGroupLines, AreRemovalLines, AreToldOf, IsRefusalWhere, IsToldOf, group_at, is_reported, more_line, refused_line, turn_of_group, turn_of_item};
 
 use crate::refused_items::{group_left, grouped_at, items_before, removed_at};
 use deb_control::{NoMemory, Text};
@@ -15,6 +16,9 @@ use testing_rules_model::{Decision, Excuse, Offender};
 use testing_rules_moves::{at_group, at_removal};
 use testing_rules_refusals::{group_refusal, removal_refusal};
 use testing_rules_suites::Testing;
+
+/// How many refusals are explained.
+const MOST_EXPLAINED: usize = 3;
 
 /// A run whose hints are judged: its facts, its excuses, and the testing before it. It reports on the hints of the
 /// sender of this name, after this number.
@@ -202,7 +206,7 @@ fn told_of(alloc: Global, judging: &Judging<'_>, decision: &Decision) -> Result<
 }
 
 /// The text on decisions, one after another.
-pub(crate) fn told_of_all(
+fn told_of_all(
     alloc: Global,
     judging: &Judging<'_>,
     decisions: &[Decision],
@@ -215,6 +219,78 @@ pub(crate) fn told_of_all(
         text.push_str(told.as_str())?;
     }
     Ok(Text::from_string(text))
+}
+
+/// Whether a decision is reported on: a group or a removal is refused, by a hint after the known number.
+fn is_reported(behind: u32, decision: &Decision) -> bool
+    ensures { result ≡ is_reported behind decision.now }
+{
+    match decision {
+        Decision::RemoveRefused { hint, .. } | Decision::EasyRefused { hint, .. } => behind < *hint,
+        Decision::RemoveDone { .. }
+        | Decision::EasyDone { .. }
+        | Decision::EasyNotCandidate { .. }
+        | Decision::Accept { .. }
+        | Decision::Wait { .. } => false,
+    }
+}
+
+/// The place after the third decision that is reported on, or the end if there are fewer.
+fn explained_end(behind: u32, decisions: &[Decision]) -> usize
+    ensures within { result ≤ length decisions.now }
+    ensures few { count_by (is_reported behind) (take result decisions.now) ≤ 3 }
+    ensures all { count_by (is_reported behind) (take result decisions.now) < 3 → result ≡ length decisions.now }
+{
+    let mut count = 0;
+    let mut end = 0;
+    'decisions: for decision in decisions {
+        if count == MOST_EXPLAINED {
+            return end;
+        }
+        if is_reported(behind, decision) {
+            count += 1;
+        }
+        end += 1;
+    }
+    end
+}
+
+/// How many decisions are reported on.
+fn reported_count(behind: u32, decisions: &[Decision]) -> usize
+    ensures { result ≡ count_by (is_reported behind) decisions.now }
+{
+    let mut count = 0;
+    'decisions: for decision in decisions {
+        if is_reported(behind, decision) {
+            count += 1;
+        }
+    }
+    count
+}
+
+/// Lines, and then how many more are refused, if there are any.
+fn with_more(alloc: Global, lines: Text, more: usize) -> Result<Text, NoMemory>
+    ensures { IfOk result (λ text. text ≡ lines ++ more_line more) }
+{
+    if more == 0 {
+        return Ok(lines);
+    }
+    let text = format!(in alloc; "{}and {more} more are refused\n", lines.as_str());
+    drop(lines);
+    Ok(Text::from_string(text?))
+}
+
+/// The text on decisions up to the third that is reported on, and then how many more there are.
+pub(crate) fn told_of_first(
+    alloc: Global,
+    judging: &Judging<'_>,
+    decisions: &[Decision],
+) -> Result<Text, NoMemory>
+    ensures { IfOk result (AreFirstTold (judged_in judging.now) decisions.now) }
+{
+    let end = explained_end(judging.behind, decisions);
+    let lines = told_of_all(alloc, judging, &decisions[..end])?;
+    with_more(alloc, lines, reported_count(judging.behind, &decisions[end..]))
 }
 
 /// The decision is on the hint with this number.

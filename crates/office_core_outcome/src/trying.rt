@@ -4,7 +4,7 @@
 ghost use Rattle.std.specs.Prelude.{is_ok, ◌≡◌, ◌≤◌, ◌<◌, ℕ, List, Some, IfOk, IfSome, length, slice_index};
 ghost use Rattle.testing_rules_laws.specs.Covered.{Covered};
 ghost use Rattle.testing_rules_laws.specs.StandsFor.{StandsFor};
-ghost use Rattle.office_mail.specs.Runs.{cover_of, later, orders_to};
+ghost use Rattle.office_mail.specs.Runs.{cover_of, orders_to};
 ghost use Rattle.office_core_orders.specs.Counted.{Counted};
 ghost use Rattle.office_core_facts.specs.Known.{AreKnown};
 ghost use Rattle.office_core_facts.specs.Outcome.{outcome};
@@ -35,13 +35,6 @@ use std::alloc::Global;
 use testing_rules_laws::Facts;
 use testing_rules_reports::{Decided, TrialReport, tried_text};
 
-/// The later of two days.
-fn later(a: Date, b: Date) -> Date
-    ensures { result ≡ later a b }
-{
-    if a < b { b } else { a }
-}
-
 /// The date of a trial: the later of the last run's date and a given day.
 pub(crate) fn trial_date(last: Option<Date>, day: Option<Date>) -> Option<Date>
     ensures { result ≡ trial_date last day }
@@ -49,7 +42,13 @@ pub(crate) fn trial_date(last: Option<Date>, day: Option<Date>) -> Option<Date>
     match (last, day) {
         (None, day) => day,
         (Some(last), None) => Some(last),
-        (Some(last), Some(day)) => Some(later(last, day)),
+        (Some(last), Some(day)) => {
+            if last < day {
+                Some(day)
+            } else {
+                Some(last)
+            }
+        }
     }
 }
 

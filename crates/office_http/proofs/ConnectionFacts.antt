@@ -5,7 +5,7 @@ use Rattle.office_mail.specs.Read.{read}
 use Rattle.office_mail.proofs.KeptFacts.{kept_from-Within}
 use Rattle.office_core_orders.specs.declared.faults.StoreFault.{StoreFault}
 use Rattle.office_http_requests.specs.declared.request.Action.{Action}
-use Rattle.office_http_requests.specs.declared.request.Action.TheVariants.{Deliver, DeliverOf, Look, Settle, Try, TryOn}
+use Rattle.office_http_requests.specs.declared.request.Action.TheVariants.{Breaks, Deliver, DeliverOf, Look, Settle, Try, TryOn}
 use Rattle.office_http.specs.declared.serve.ServeFault.{ServeFault}
 use Rattle.office_http.specs.declared.serve.ServeFault.TheVariants.{Read, Write}
 use Rattle.office_http.specs.declared.serve.Served.{Served}
@@ -26,6 +26,7 @@ within_by s Look body fault = λ p h. refl
 within_by s Settle body fault = λ p h. refl
 within_by s Try body fault = λ p h. refl
 within_by s (TryOn day) body fault = λ p h. refl
+within_by s Breaks body fault = λ p h. refl
 
 grows_does : (before after : OfficeState) (post : Option (Action × List ℕ)) (fault : Option StoreFault) (ready : ℕ) (rose : Type 0) → Does before after post fault ready rose → Grows before after
 grows_does before after None fault ready rose h = grows_same before after h

@@ -1,4 +1,5 @@
 pub mod BoundFacts
+pub mod BreakFacts
 pub mod CutFacts
 pub mod AnswerFacts
 pub mod CountFacts

@@ -31,7 +31,7 @@ use Rattle.office_http_requests.specs.declared.reply.Refusal.TheVariants as refu
 use Rattle.office_http_requests.specs.declared.reply.Answer.{Answer}
 use Rattle.office_http_requests.specs.declared.reply.Answer.TheVariants.{Refused, Delivered, Status, Told, Letter, BadHint}
 use Rattle.office_http_requests.specs.declared.request.Action.{Action}
-use Rattle.office_http_requests.specs.declared.request.Action.TheVariants.{Deliver, DeliverOf, Look, Settle, Try, TryOn}
+use Rattle.office_http_requests.specs.declared.request.Action.TheVariants.{Breaks, Deliver, DeliverOf, Look, Settle, Try, TryOn}
 use Rattle.office_http_requests.specs.declared.request.Page.{Page}
 use Rattle.office_http_requests.specs.declared.request.Page.TheVariants as page
 use Rattle.office_http_requests.specs.declared.request.Posted.{Posted}
@@ -56,20 +56,22 @@ use Rattle.office_core_facts.specs.State.{AnswersDelivery, answer_to, reports_at
 use Rattle.office_core_orders.specs.Written.{AppendsFront}
 use Rattle.office_core_outcome.specs.declared.proposal.Proposal.{Proposal}
 use Rattle.office_core_outcome.specs.declared.Trial.TheVariants.{NoDate}
+use Rattle.office_core_outcome.specs.declared.TrialOptions.{TrialOptions}
+use Rattle.office_http.specs.Trials.{request_terms, terms_on}
 use Rattle.office_http.specs.Serve.{mail_counts, unbroken_of, page_answer, is_of_other, unless_other, if_known, proposal_answer, refusal_for, report_answer, why_answer, letter_answer, delivery_answer, by_fault, posted_body, post_answer, answer_of, waits_of, continued, kept_by, settles, Does, Exchange, Found, IsFoundByPost, IsFoundFor, IsProposedFor, IsUnread, IsServed, Moves, Replied, RepliedFront, Serves, IsAwaited, StopsBefore, StopsServe}
 use Rattle.office_core_why.specs.Hints.{IsHintsText}
 use Rattle.office_core_why.specs.UnstableText.{IsUnstableText}
 use Rattle.office_core_why.specs.Why.{IsWhy}
 use Rattle.office_core_why.specs.declared.WhyText.{WhyText}
 use Rattle.office_http.specs.ShortTexts.{is_told_whole, short_answer, short_page}
-use Rattle.office_http.specs.ServeSteps.{answer_or, whole_page, part_answer, status_answer, text_answer, Tells, TellsAwaited, TellsProposal, TellsShort, Runs, Answers, ServesHead, ServesFront, StopsRequest}
+use Rattle.office_http.specs.ServeSteps.{answer_or, whole_page, part_answer, status_answer, text_answer, Tells, TellsAwaited, TellsBreaks, TellsProposal, TellsShort, Runs, Answers, ServesHead, ServesFront, StopsRequest}
 use Rattle.office_core_replay.proofs.ReplayFacts.{Leaves, reply_by-mark, delivery_counted, kept_after}
 use Rattle.office_core_replay.proofs.RiseFacts.{delivery_weaker, text_weaker}
 use Rattle.office_core_replay.specs.DeliverySteps.{Settles}
 
 -- where nothing is found that the answer tells
 abbrev pub nothing : Found
-nothing = record { ready = 0; awaited = Order; why = None; trial = NoDate; seen = []; proposal = None }
+nothing = record { ready = 0; awaited = Order; why = None; trial = NoDate; seen = []; proposal = None; breaks = None }
 
 abbrev ready_runs : ℕ → Found
 ready_runs n = record nothing { ready = n }
@@ -143,18 +145,27 @@ told_unstable rose s (Err fault.NoMemory) h err = told_missed rose s page.Unstab
 told_unstable rose s (Err fault.Store) h err = told_missed rose s page.Unstable fault.Store (err refl)
 
 -- hints that are proposed, for no source or for one
-told_proposed : (rose : Type 0) (s : OfficeState) (p : Page) (sources : List (List ℕ)) (r : Result Answer StoreFault) → ((proposal : Option Proposal) → IsProposedFor s sources proposal → IsFoundFor s (record nothing { proposal = proposal }) p)
-    → ((proposal : Option Proposal) → whole_page s (record nothing { proposal = proposal }) p ≡ proposal_answer proposal) → IfOk r (TellsProposal s sources) → (r ≡ Err fault.Store → rose) → Tells s p (answer_or r) rose
-told_proposed rose s p sources (Ok answer) found answers h err =
+told_proposed : (rose : Type 0) (s : OfficeState) (p : Page) (terms : TrialOptions) (sources : List (List ℕ)) (r : Result Answer StoreFault) → ((proposal : Option Proposal) → IsProposedFor s terms sources proposal → IsFoundFor s (record nothing { proposal = proposal }) p)
+    → ((proposal : Option Proposal) → whole_page s (record nothing { proposal = proposal }) p ≡ proposal_answer proposal) → IfOk r (TellsProposal s terms sources) → (r ≡ Err fault.Store → rose) → Tells s p (answer_or r) rose
+told_proposed rose s p terms sources (Ok answer) found answers h err =
     record { fault = None; by_store = tt; found = record nothing { proposal = h.proposal }; is = λ e. found h.proposal h.proposed; answer_is = h.answer_is ∙ sym (answers h.proposal) }
-told_proposed rose s p sources (Err fault.NoMemory) found answers h err = told_missed rose s p fault.NoMemory tt
-told_proposed rose s p sources (Err fault.Store) found answers h err = told_missed rose s p fault.Store (err refl)
+told_proposed rose s p terms sources (Err fault.NoMemory) found answers h err = told_missed rose s p fault.NoMemory tt
+told_proposed rose s p terms sources (Err fault.Store) found answers h err = told_missed rose s p fault.Store (err refl)
 
-pub told_propose : (rose : Type 0) (s : OfficeState) (r : Result Answer StoreFault) → IfOk r (TellsProposal s []) → (r ≡ Err fault.Store → rose) → Tells s page.Propose (answer_or r) rose
-told_propose rose s r h err = told_proposed rose s page.Propose [] r (λ proposal is. is) (λ proposal. refl) h err
+pub told_propose : (rose : Type 0) (s : OfficeState) (r : Result Answer StoreFault) → IfOk r (TellsProposal s request_terms []) → (r ≡ Err fault.Store → rose) → Tells s page.Propose (answer_or r) rose
+told_propose rose s r h err = told_proposed rose s page.Propose request_terms [] r (λ proposal is. is) (λ proposal. refl) h err
 
-pub told_propose_for : (rose : Type 0) (s : OfficeState) (source : List ℕ) (r : Result Answer StoreFault) → IfOk r (TellsProposal s (source ∷ [])) → (r ≡ Err fault.Store → rose) → Tells s (page.ProposeFor source) (answer_or r) rose
-told_propose_for rose s source r h err = told_proposed rose s (page.ProposeFor source) (source ∷ []) r (λ proposal is. is) (λ proposal. refl) h err
+pub told_propose_on : (rose : Type 0) (s : OfficeState) (day : Date) (r : Result Answer StoreFault) → IfOk r (TellsProposal s (terms_on day) []) → (r ≡ Err fault.Store → rose) → Tells s (page.ProposeOn day) (answer_or r) rose
+told_propose_on rose s day r h err = told_proposed rose s (page.ProposeOn day) (terms_on day) [] r (λ proposal is. is) (λ proposal. refl) h err
+
+pub told_propose_for : (rose : Type 0) (s : OfficeState) (source : List ℕ) (r : Result Answer StoreFault) → IfOk r (TellsProposal s request_terms (source ∷ [])) → (r ≡ Err fault.Store → rose) → Tells s (page.ProposeFor source) (answer_or r) rose
+told_propose_for rose s source r h err = told_proposed rose s (page.ProposeFor source) request_terms (source ∷ []) r (λ proposal is. is) (λ proposal. refl) h err
+
+-- what the move of a source breaks
+pub told_breaks : (rose : Type 0) (s : OfficeState) (source : List ℕ) (r : Result Answer StoreFault) → IfOk r (TellsBreaks s source) → (r ≡ Err fault.Store → rose) → Tells s (page.Breaks source) (answer_or r) rose
+told_breaks rose s source (Ok answer) h err = record { fault = None; by_store = tt; found = record nothing { breaks = h.told }; is = λ e. h.is; answer_is = h.answer_is }
+told_breaks rose s source (Err fault.NoMemory) h err = told_missed rose s (page.Breaks source) fault.NoMemory tt
+told_breaks rose s source (Err fault.Store) h err = told_missed rose s (page.Breaks source) fault.Store (err refl)
 
 -- a page's answer, by what the page tells
 pub page_is : (s : OfficeState) (found : Found) (p : Page) → page_answer s found p ≡ short_page p (whole_page s found p)
@@ -172,7 +183,9 @@ page_is s found (page.Order day) = refl
 page_is s found page.Hints = refl
 page_is s found page.Unstable = refl
 page_is s found page.Propose = refl
+page_is s found (page.ProposeOn day) = refl
 page_is s found (page.ProposeFor source) = refl
+page_is s found (page.Breaks source) = refl
 
 short_if : (p : Page) (b : Bool) (answer : Answer) → is_told_whole p ≡ b → (if b then answer else short_answer answer) ≡ short_page p answer
 short_if p b answer e = ap (λ (c : Bool). if c then answer else short_answer answer) (sym e)
@@ -450,6 +463,7 @@ does_nothing rose s (Some (DeliverOf sender, body)) f ready by = still_moves ros
 does_nothing rose s (Some (Look, body)) f ready by = still_moves rose s s Look body (Some f) ready refl refl (λ e. absurd (cc (e))) refl
 does_nothing rose s (Some (Try, body)) f ready by = still_moves rose s s Try body (Some f) ready refl refl (λ e. absurd (cc (e))) refl
 does_nothing rose s (Some (TryOn day, body)) f ready by = still_moves rose s s (TryOn day) body (Some f) ready refl refl (λ e. absurd (cc (e))) refl
+does_nothing rose s (Some (Breaks, body)) f ready by = still_moves rose s s Breaks body (Some f) ready refl refl (λ e. absurd (cc (e))) refl
 
 pub short_answers : (rose : Type 0) (s : OfficeState) (l0 l1 w0 w1 : Option (List ℕ)) (front : List ℕ) (asked : Asked) (more : List ℕ) (goes_on : Bool) → Consumes l0 l1 more → (length more ≡ 0) ⊎ (length (front ++ more) ≤ body_size asked) → Appends w0 w1 (continued goes_on) → (goes_on ≡ true → waits_of asked ≡ true) → Answers s s l0 l1 w0 w1 front asked (Refused refusal.NoMemory) rose
 short_answers rose s l0 l1 w0 w1 front asked more goes_on took few wrote waited = record {

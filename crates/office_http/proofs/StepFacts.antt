@@ -11,7 +11,7 @@ use Rattle.office_core_facts.specs.State.{IsOffice, IsSound, state_of}
 use Rattle.office_core_orders.specs.declared.faults.StoreFault.{StoreFault}
 use Rattle.office_core_orders.specs.declared.faults.StoreFault.TheVariants.{NoMemory, Store}
 use Rattle.office_http_requests.specs.declared.request.Action.{Action}
-use Rattle.office_http_requests.specs.declared.request.Action.TheVariants.{Deliver, DeliverOf, Look, Settle, Try, TryOn}
+use Rattle.office_http_requests.specs.declared.request.Action.TheVariants.{Breaks, Deliver, DeliverOf, Look, Settle, Try, TryOn}
 use Rattle.office_http_requests.specs.declared.request.Asked.{Asked}
 use Rattle.office_http_requests.specs.declared.request.Asked.TheVariants.{Post}
 use Rattle.office_http_requests.specs.declared.request.Posted.{Posted}
@@ -42,6 +42,8 @@ kept_by-is s Try body None = sym (kept_from-nil s.setup s.kept)
 kept_by-is s Try body (Some f) = sym (kept_from-nil s.setup s.kept)
 kept_by-is s (TryOn day) body None = sym (kept_from-nil s.setup s.kept)
 kept_by-is s (TryOn day) body (Some f) = sym (kept_from-nil s.setup s.kept)
+kept_by-is s Breaks body None = sym (kept_from-nil s.setup s.kept)
+kept_by-is s Breaks body (Some f) = sym (kept_from-nil s.setup s.kept)
 
 state_leads : {K : Type 0} (keeper : Ghosts K) (old new : K) (texts : List (List ℕ)) → keeper.setup new ≡ keeper.setup old → (keeper.content new).kept ≡ kept_from (keeper.setup old) (keeper.content old).kept texts → length (keeper.content old).reports ≤ length (keeper.content new).reports → IsSound keeper old → IsSound keeper new
     → Leads (keeper.setup old) (keeper.content old) (coming texts (length (keeper.content new).reports - length (keeper.content old).reports) Looked) (keeper.content new)

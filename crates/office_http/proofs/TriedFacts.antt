@@ -10,7 +10,7 @@ use Rattle.office_http_requests.specs.declared.reply.Refusal.TheVariants as refu
 use Rattle.office_http_requests.specs.declared.reply.Answer.{Answer}
 use Rattle.office_http_requests.specs.declared.reply.Answer.TheVariants.{Refused, Delivered}
 use Rattle.office_http_requests.specs.declared.request.Action.{Action}
-use Rattle.office_http_requests.specs.declared.request.Action.TheVariants.{Deliver, DeliverOf, Look, Settle, Try, TryOn}
+use Rattle.office_http_requests.specs.declared.request.Action.TheVariants.{Breaks, Deliver, DeliverOf, Look, Settle, Try, TryOn}
 use Rattle.office_core_replay.specs.Losses.{TextCounted}
 use Rattle.office_core_facts.specs.OfficeState.{OfficeState}
 use Rattle.office_core_outcome.specs.Trial.{IsTrial}
@@ -33,6 +33,7 @@ trial_moves rose before after Deliver terms body f ready by same = absurd (cc (b
 trial_moves rose before after (DeliverOf sender) terms body f ready by same = absurd (cc (by))
 trial_moves rose before after Look terms body f ready by same = absurd (cc (by))
 trial_moves rose before after Settle terms body f ready by same = absurd (cc (by))
+trial_moves rose before after Breaks terms body f ready by same = absurd (cc (by))
 
 trial_said : (s : OfficeState) (found : Found) (action : Action) (terms : TrialOptions) (body : List ℕ) → terms_of action ≡ Some terms → tried_answer s.setup body found.trial ≡ action_answer s found action body
 trial_said s found Try terms body by = refl
@@ -41,6 +42,7 @@ trial_said s found Deliver terms body by = absurd (cc (by))
 trial_said s found (DeliverOf sender) terms body by = absurd (cc (by))
 trial_said s found Look terms body by = absurd (cc (by))
 trial_said s found Settle terms body by = absurd (cc (by))
+trial_said s found Breaks terms body by = absurd (cc (by))
 
 trial_found : (s : OfficeState) (found : Found) (action : Action) (terms : TrialOptions) (body : List ℕ) → terms_of action ≡ Some terms → (has_many_hints body ≡ false → is_utf8 body ≡ true → IsTrial s.setup s.kept s.finished terms (hints_in body) found.trial) → IsFoundBy s found action body
 trial_found s found Try terms body by is = λ m g. subst (λ (t : TrialOptions). IsTrial s.setup s.kept s.finished t (hints_in body) found.trial) (sym (some_same _ terms by)) (is m g)
@@ -49,6 +51,7 @@ trial_found s found Deliver terms body by is = absurd (cc (by))
 trial_found s found (DeliverOf sender) terms body by is = absurd (cc (by))
 trial_found s found Look terms body by is = absurd (cc (by))
 trial_found s found Settle terms body by is = absurd (cc (by))
+trial_found s found Breaks terms body by is = absurd (cc (by))
 
 tried_missed : (rose : Type 0) (before after : OfficeState) (action : Action) (terms : TrialOptions) (body : List ℕ) (f : StoreFault) → terms_of action ≡ Some terms → TextCounted rose (Some f) → after ≡ before → Runs before after action body (Refused (refusal_for f)) rose
 tried_missed rose before after action terms body f by counted same = record { fault = Some f; by_store = counted; found = nothing; is = λ e. absurd (cc (e)); answer_is = refl; moves = trial_moves rose before after action terms body (Some f) 0 by same }

@@ -1,3 +1,4 @@
+pub mod Breaks
 pub mod Life
 pub mod ShortTexts
 pub mod Serve

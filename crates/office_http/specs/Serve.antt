@@ -2,6 +2,7 @@
 use Rattle.std.specs.Prelude.{◌≡◌, ⊤, ◌⊎◌, ◌≤◌, ◌<◌, ◌+◌, ℕ, Bool, true, false, not, ◌&&◌, List, [], ◌∷◌, ◌++◌, ◌==◌, length, map, take, nat_le, if◌then◌else◌, Option, Some, None, Result, Ok, Err, is_ok}
 use Rattle.std.specs.Option.{option_map}
 use Rattle.std.specs.FinMap.{get}
+use Rattle.jiff_core.specs.declared.civil.date.Date.{Date}
 use Rattle.std.specs.List.{range_with_len}
 use Rattle.std.specs.Str.{is_utf8}
 use Rattle.std.specs.Io.KnownBytes.{Appends, Consumes, IsAtEnd}
@@ -27,14 +28,17 @@ use Rattle.office_http_requests.specs.declared.reply.Refusal.TheVariants as refu
 use Rattle.office_http_requests.specs.declared.reply.Answer.{Answer}
 use Rattle.office_http_requests.specs.declared.reply.Answer.TheVariants.{Refused, Delivered, Status, Told, Letter}
 use Rattle.office_http_requests.specs.declared.request.Action.{Action}
-use Rattle.office_http_requests.specs.declared.request.Action.TheVariants.{Deliver, DeliverOf, Look, Settle, Try, TryOn}
+use Rattle.office_http_requests.specs.declared.request.Action.TheVariants.{Breaks, Deliver, DeliverOf, Look, Settle, Try, TryOn}
 use Rattle.office_http_requests.specs.declared.request.Page.{Page}
 use Rattle.office_http_requests.specs.declared.request.Page.TheVariants as page
+use Rattle.office_http_requests.specs.declared.request.Posted.{Posted}
 use Rattle.office_http_requests.specs.declared.request.Asked.{Asked}
 use Rattle.office_http_requests.specs.declared.request.Asked.TheVariants as asks
 use Rattle.office_http.specs.declared.serve.ServeFault.{ServeFault}
 use Rattle.office_http.specs.declared.serve.ServeFault.TheVariants.{Read, Write}
+use Rattle.office_core_breaks.specs.declared.BreaksText.{BreaksText}
 use Rattle.office_core_outcome.specs.declared.Trial.{Trial}
+use Rattle.office_core_outcome.specs.declared.TrialOptions.{TrialOptions}
 use Rattle.office_core_outcome.specs.Trial.{IsTrial, trial_date}
 use Rattle.office_core_outcome.specs.Proposal.{IsProposed, proposal_text}
 use Rattle.office_core_outcome.specs.declared.proposal.Proposal.{Proposal}
@@ -53,6 +57,7 @@ use Rattle.office_core_facts.specs.Seen.{IsSeen}
 use Rattle.office_core_facts.specs.State.{answer_to, reports_at}
 use Rattle.office_core_orders.specs.Waiting.{Awaits}
 use Rattle.office_core_orders.specs.Written.{AppendsFront}
+use Rattle.office_http.specs.Breaks.{IsBreaksBy, body_answer, breaks_answer}
 use Rattle.office_http.specs.ShortTexts.{short_page}
 use Rattle.office_http.specs.Trials.{has_many_hints, hints_in, request_terms, terms_on, tried_answer}
 use Rattle.office_core_why.specs.Hints.{hints_text}
@@ -126,8 +131,8 @@ abbrev pub mail_counts : Lists → Kept → List MailCount
 mail_counts setup kept = map (mail_count kept) (range_with_len 0 (length setup.senders))
 
 -- What is found of an office in addition to its state, as far as a request asks for it: how many runs are ready, and
--- what the next one waits for. Also the texts on a source and on a trial of hints, what all mail without a gap says,
--- and which hints are proposed.
+-- what the next one waits for. Also the texts on a source, on a trial of hints and on what a change breaks, what all
+-- mail without a gap says, and which hints are proposed.
 pub record Found : Type 0 where
   pub ready : ℕ
   pub awaited : Awaited
@@ -135,15 +140,16 @@ pub record Found : Type 0 where
   pub trial : Trial
   pub seen : Covered
   pub proposal : Option Proposal
+  pub breaks : Option BreaksText
 
 -- what is proposed; there is no proposal if no run is finished
 abbrev pub proposal_answer : Option Proposal → Answer
 proposal_answer None = Refused refusal.NoRun
 proposal_answer (Some proposal) = Told (proposal_text proposal.hints.items proposal.stuck.items)
 
-abbrev pub IsProposedFor : OfficeState → List (List ℕ) → Option Proposal → Type 0
-IsProposedFor s sources None = trial_date (latest_day (orders_to s.setup s.kept s.finished)) request_terms.day ≡ None
-IsProposedFor s sources (Some proposal) = IsProposed s.setup s.kept s.finished request_terms sources proposal
+abbrev pub IsProposedFor : OfficeState → TrialOptions → List (List ℕ) → Option Proposal → Type 0
+IsProposedFor s terms sources None = trial_date (latest_day (orders_to s.setup s.kept s.finished)) terms.day ≡ None
+IsProposedFor s terms sources (Some proposal) = IsProposed s.setup s.kept s.finished terms sources proposal
 
 -- the text of a page that was added to the first four
 abbrev pub added_page : OfficeState → Found → Page → Answer
@@ -157,7 +163,9 @@ added_page s found (page.Order day) = Told (order_text s.setup (unbroken_of s.ke
 added_page s found page.Hints = Told (hints_text s.setup s.finished (cover s.setup s.kept s.finished) found.seen (testing_after s.setup s.kept s.finished))
 added_page s found page.Unstable = Told (unstable_text s.setup.archs s.finished found.seen)
 added_page s found page.Propose = proposal_answer found.proposal
+added_page s found (page.ProposeOn day) = proposal_answer found.proposal
 added_page s found (page.ProposeFor source) = proposal_answer found.proposal
+added_page s found (page.Breaks source) = breaks_answer s.setup source found.breaks
 added_page s found _ = Refused refusal.NoRoute
 
 -- the text of a page, given what is found: the first four, and those that were added
@@ -168,13 +176,14 @@ page_answer s found (page.Excuses run) = report_answer (Ok (option_map (λ repor
 page_answer s found (page.Update run) = report_answer (Ok (option_map (λ reports. reports.updates) (reports_at s run)))
 page_answer s found added = short_page added (added_page s found added)
 
--- The answer to a POST that was added to the first two: the one due to a delivery, or what the hints would change. A
--- text that is only looked at is answered as if it were delivered.
+-- The answer to a POST that was added to the first two: the one due to a delivery, what the hints would change, or what a
+-- change breaks. A text that is only looked at is answered as if it were delivered.
 abbrev pub added_action : OfficeState → Found → Action → List ℕ → Answer
 added_action s found (DeliverOf sender) body = unless_other (is_of_other sender (read s.setup body)) (delivery_answer (answer_to s.setup s.kept body))
 added_action s found Look body = delivery_answer (answer_to s.setup s.kept body)
 added_action s found Try body = tried_answer s.setup body found.trial
 added_action s found (TryOn day) body = tried_answer s.setup body found.trial
+added_action s found Breaks body = body_answer s.setup body found.breaks
 added_action s found _ body = Refused refusal.NoRoute
 
 -- The answer to a POST with this body: the one due to the delivery, the status after the settle, or as added.
@@ -209,8 +218,10 @@ IsFoundForAdded s found page.Waiting = IsReadyCount s.setup s.kept found.ready �
 IsFoundForAdded s found (page.Why source) = IsWhy s.setup s.kept s.finished source found.why
 IsFoundForAdded s found page.Hints = IsSeen s.setup s.kept found.seen
 IsFoundForAdded s found page.Unstable = IsSeen s.setup s.kept found.seen
-IsFoundForAdded s found page.Propose = IsProposedFor s [] found.proposal
-IsFoundForAdded s found (page.ProposeFor source) = IsProposedFor s (source ∷ []) found.proposal
+IsFoundForAdded s found page.Propose = IsProposedFor s request_terms [] found.proposal
+IsFoundForAdded s found (page.ProposeOn day) = IsProposedFor s (terms_on day) [] found.proposal
+IsFoundForAdded s found (page.ProposeFor source) = IsProposedFor s request_terms (source ∷ []) found.proposal
+IsFoundForAdded s found (page.Breaks source) = IsBreaksBy s source found.breaks
 IsFoundForAdded s found _ = ⊤
 
 -- as far as any page shows it
@@ -225,6 +236,7 @@ IsFoundFor s found added = IsFoundForAdded s found added
 abbrev pub IsFoundByAdded : OfficeState → Found → Action → List ℕ → Type 0
 IsFoundByAdded s found Try body = has_many_hints body ≡ false → is_utf8 body ≡ true → IsTrial s.setup s.kept s.finished request_terms (hints_in body) found.trial
 IsFoundByAdded s found (TryOn day) body = has_many_hints body ≡ false → is_utf8 body ≡ true → IsTrial s.setup s.kept s.finished (terms_on day) (hints_in body) found.trial
+IsFoundByAdded s found Breaks body = is_utf8 body ≡ true → IsBreaksBy s body found.breaks
 IsFoundByAdded s found _ body = ⊤
 
 -- as far as the answer to any POST does
@@ -245,7 +257,12 @@ IsFound s found (asks.Post p) rest = IsFoundByPost s found (posted_body (asks.Po
 
 -- a request for proposals
 abbrev pub AsksProposal : Asked → Type 0
-AsksProposal asked = (asked ≡ asks.Tell page.Propose) ⊎ ((source : List ℕ) × (asked ≡ asks.Tell (page.ProposeFor source)))
+AsksProposal asked =
+    (asked ≡ asks.Tell page.Propose) ⊎ ((day : Date) × (asked ≡ asks.Tell (page.ProposeOn day))) ⊎ ((source : List ℕ) × (asked ≡ asks.Tell (page.ProposeFor source)))
+
+-- a request for what a change breaks
+abbrev pub AsksBreaks : Asked → Type 0
+AsksBreaks asked = ((source : List ℕ) × (asked ≡ asks.Tell (page.Breaks source))) ⊎ ((p : Posted) × (asked ≡ asks.Post p) × (p.action ≡ Breaks))
 
 -- whether a client waits for 100 Continue
 abbrev pub waits_of : Asked → Bool

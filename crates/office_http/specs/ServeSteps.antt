@@ -1,12 +1,13 @@
 -- Steps: no contract of a call that users make rests on this file.
 -- The parts of the outcome of one connection: how it is answered, and how it stops.
-use Rattle.std.specs.Prelude.{◌≡◌, ◌⊎◌, ◌≤◌, ◌+◌, ℕ, Bool, true, List, ◌++◌, length, Option, None, Result, Ok, Err}
+use Rattle.std.specs.Prelude.{◌≡◌, ◌⊎◌, ◌≤◌, ◌+◌, ℕ, Bool, true, List, ◌++◌, length, Option, Some, None, Result, Ok, Err}
 use Rattle.std.specs.Io.KnownBytes.{Appends, Consumes}
 use Rattle.office_mail.specs.Runs.{IsReadyCount}
 use Rattle.office_core_orders.specs.declared.faults.Progress.{Progress}
 use Rattle.office_core_orders.specs.declared.faults.StoreFault.{StoreFault}
 use Rattle.office_core_orders.specs.declared.waiting_lines.Awaited.{Awaited}
 use Rattle.office_core_orders.specs.WaitingLines.{waiting_text}
+use Rattle.office_http_requests.specs.declared.reply.Refusal.TheVariants as refusal
 use Rattle.office_http_requests.specs.declared.reply.Answer.{Answer}
 use Rattle.office_http_requests.specs.declared.reply.Answer.TheVariants.{Refused, Status, Told, Letter}
 use Rattle.office_http_requests.specs.declared.request.Action.{Action}
@@ -21,11 +22,16 @@ use Rattle.office_http_requests.specs.Request.{body_room}
 use Rattle.office_core_facts.specs.OfficeState.{OfficeState}
 use Rattle.office_core_orders.specs.Waiting.{Awaits}
 use Rattle.office_core_orders.specs.Written.{AppendsFront}
+use Rattle.office_core_breaks.specs.Told.{IsBreaks}
+use Rattle.office_core_breaks.specs.declared.BreaksText.{BreaksText}
+use Rattle.office_core_breaks.specs.declared.asked.Question.{Question}
 use Rattle.office_core_outcome.specs.declared.Trial.{Trial}
 use Rattle.office_core_outcome.specs.declared.TrialOptions.{TrialOptions}
 use Rattle.office_core_outcome.specs.Trial.{IsTrial}
 use Rattle.office_core_outcome.specs.declared.proposal.Proposal.{Proposal}
 use Rattle.office_http.specs.Serve.{refusal_for, by_fault, added_page, page_answer, action_answer, posted_body, answer_of, proposal_answer, waits_of, continued, Found, IsFound, IsFoundBy, IsFoundFor, IsProposedFor, Moves, Does, IsWhole, IsAwaited, StopsBefore, Exchange}
+use Rattle.office_http.specs.Breaks.{IsBreaksBy, breaks_answer}
+use Rattle.office_http.specs.ShortTexts.{short_answer}
 use Rattle.office_http.specs.Trials.{trial_answer}
 
 -- the answers of the office's calls
@@ -61,10 +67,33 @@ pub record TellsTrial (s : OfficeState) (terms : TrialOptions) (hints : List (Li
   pub answer_is : answer ≡ trial_answer s.setup hints trial
 
 -- the answer to a request for hints that free these sources, or that move groups
-pub record TellsProposal (s : OfficeState) (sources : List (List ℕ)) (answer : Answer) : Type 0 where
+pub record TellsProposal (s : OfficeState) (terms : TrialOptions) (sources : List (List ℕ)) (answer : Answer) : Type 0 where
   pub proposal : Option Proposal
-  pub proposed : IsProposedFor s sources proposal
+  pub proposed : IsProposedFor s terms sources proposal
   pub answer_is : answer ≡ proposal_answer proposal
+
+-- the answer to what is told of a question, none if no run is finished
+abbrev pub told_answer : Option BreaksText → Answer
+told_answer None = Refused refusal.NoRun
+told_answer (Some told) = Told told.text
+
+-- the answer to a question on what a change breaks
+pub record TellsQuestion (s : OfficeState) (question : Question) (answer : Answer) : Type 0 where
+  pub told : Option BreaksText
+  pub is : IsBreaks s.setup s.kept s.finished question told
+  pub answer_is : answer ≡ told_answer told
+
+-- the answer to words that ask it
+pub record TellsBreaks (s : OfficeState) (words : List ℕ) (answer : Answer) : Type 0 where
+  pub told : Option BreaksText
+  pub is : IsBreaksBy s words told
+  pub answer_is : answer ≡ breaks_answer s.setup words told
+
+-- the same, short
+pub record TellsShortBreaks (s : OfficeState) (words : List ℕ) (answer : Answer) : Type 0 where
+  pub told : Option BreaksText
+  pub is : IsBreaksBy s words told
+  pub answer_is : answer ≡ short_answer (breaks_answer s.setup words told)
 
 -- the text of a page, however long it is
 abbrev pub whole_page : OfficeState → Found → Page → Answer

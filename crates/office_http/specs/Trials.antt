@@ -4,12 +4,13 @@ use Rattle.std.specs.List.{count_by}
 use Rattle.std.specs.Str.{is_utf8}
 use Rattle.std.specs.Str.Lines.{lines}
 use Rattle.jiff_core.specs.declared.civil.date.Date.{Date}
+use Rattle.office_mail.specs.declared.message.MailFault.{MailFault}
 use Rattle.office_mail.specs.declared.message.MailFault.TheVariants as mail
 use Rattle.office_mail.specs.Lists.{Lists}
 use Rattle.office_core_orders.specs.declared.faults.DeliverFault.TheVariants.{Mail}
 use Rattle.office_core_orders.specs.Replies.{fault_words, name_at}
 use Rattle.office_http_requests.specs.declared.request.Action.{Action}
-use Rattle.office_http_requests.specs.declared.request.Action.TheVariants.{Deliver, DeliverOf, Look, Settle, Try, TryOn}
+use Rattle.office_http_requests.specs.declared.request.Action.TheVariants.{Breaks, Deliver, DeliverOf, Look, Settle, Try, TryOn}
 use Rattle.office_http_requests.specs.declared.reply.Refusal.TheVariants as refusal
 use Rattle.office_http_requests.specs.declared.reply.Answer.{Answer}
 use Rattle.office_http_requests.specs.declared.reply.Answer.TheVariants.{Refused, Delivered, Told, BadHint}
@@ -37,14 +38,19 @@ terms_of Deliver = None
 terms_of (DeliverOf sender) = None
 terms_of Look = None
 terms_of Settle = None
+terms_of Breaks = None
 
 -- the hints of a body, one in each line; an empty body has an empty one
 abbrev pub hints_in : List ℕ → List (List ℕ)
 hints_in body = if length body == 0 then [] ∷ [] else lines body
 
--- the line on a refused hint
+-- the line on a hint that is refused for this fault
+abbrev pub refused_hint : List ℕ → MailFault → List ℕ
+refused_hint hint fault = codes "'" ++ hint ++ codes "': refused " ++ fault_words (Mail fault) ++ 10 ∷ []
+
+-- the line on a refused hint of these
 abbrev pub refused_line : List (List ℕ) → RefusedHint → List ℕ
-refused_line hints refused = codes "'" ++ slice_index_or hints refused.place [] ++ codes "': refused " ++ fault_words (Mail refused.fault) ++ 10 ∷ []
+refused_line hints refused = refused_hint (slice_index_or hints refused.place []) refused.fault
 
 -- the answer to hints, given the report of their trial
 abbrev pub trial_answer : Lists → List (List ℕ) → Trial → Answer
@@ -65,8 +71,7 @@ begins_easy (c ∷ cs) = c == 101
 abbrev pub is_one_group : List ℕ → Bool
 is_one_group body = begins_easy body && count_by ends_line body == 0
 
--- More hints and items than one request may try, unless it tries one group: a run's refusal of a group, or of each item
--- that is to be removed, is explained, which takes about as long as a run.
+-- More hints and items than one request may try, unless it tries one group: the run tests each item that is to be removed.
 abbrev pub has_many_hints : List ℕ → Bool
 has_many_hints body = not (is_one_group body) && nat_lt 12 (count_by is_mark body)
 

@@ -1,6 +1,7 @@
 //! The office, its replay and its service over HTTP.
 #![tactic(auto)]
 
+mod breaks;
 mod hosts;
 pub mod laws;
 mod proposals;

@@ -5,13 +5,15 @@ ghost use Rattle.office_core_facts.specs.State.{state_of};
 ghost use Rattle.office_core_orders.specs.Counted.{Counted};
 ghost use Rattle.office_http.specs.Serve.{proposal_answer};
 ghost use Rattle.office_http.specs.ServeSteps.{TellsProposal};
+ghost use Rattle.office_http.specs.Trials.{request_terms, terms_on};
 ghost use Rattle.office_http_requests.specs.Reply.{HasPlace};
 
-use crate::trials::request_terms;
+use crate::trials::{request_terms, terms_on};
 use deb_control::{NoMemory, Text};
+use jiff_core::civil::Date;
 use office_core::Office;
 use office_core_orders::StoreFault;
-use office_core_outcome::{Proposal, proposal_text};
+use office_core_outcome::{Proposal, TrialOptions, proposal_text};
 use office_http_requests::{Answer, Refusal};
 use office_mail::Setup;
 use office_store_keeper::Keeper;
@@ -47,14 +49,18 @@ fn answer_proposed(
     Ok(answer?)
 }
 
-/// The answer to a request for hints that free sources, or that move groups if no source is named.
-fn propose<K: Keeper>(office: &mut Office<K>, sources: &[Text]) -> Result<Answer, StoreFault>
+/// The answer to a request for hints on these terms that free sources, or that move groups if no source is named.
+fn propose<K: Keeper>(
+    office: &mut Office<K>,
+    terms: TrialOptions,
+    sources: &[Text],
+) -> Result<Answer, StoreFault>
     ensures asks { Asks K.Keeper office.old office.new }
     ensures place { IfOk result (λ answer. HasPlace (K.setup office.old) answer) }
-    ensures tells { Holds K.Keeper office.old office.new → IfOk result (λ answer. TellsProposal (state_of K.Keeper office.old) sources.now answer) }
+    ensures tells { Holds K.Keeper office.old office.new → IfOk result (λ answer. TellsProposal (state_of K.Keeper office.old) terms sources.now answer) }
     ensures counted { Counted (K.refusals office.old) (K.refusals office.new) result }
 {
-    let proposal = office.propose(request_terms(), sources)?;
+    let proposal = office.propose(terms, sources)?;
     answer_proposed(office.alloc(), office.setup(), proposal)
 }
 
@@ -62,10 +68,23 @@ fn propose<K: Keeper>(office: &mut Office<K>, sources: &[Text]) -> Result<Answer
 pub(crate) fn propose_groups<K: Keeper>(office: &mut Office<K>) -> Result<Answer, StoreFault>
     ensures asks { Asks K.Keeper office.old office.new }
     ensures place { IfOk result (λ answer. HasPlace (K.setup office.old) answer) }
-    ensures tells { Holds K.Keeper office.old office.new → IfOk result (λ answer. TellsProposal (state_of K.Keeper office.old) [] answer) }
+    ensures tells { Holds K.Keeper office.old office.new → IfOk result (λ answer. TellsProposal (state_of K.Keeper office.old) request_terms [] answer) }
     ensures counted { Counted (K.refusals office.old) (K.refusals office.new) result }
 {
-    propose(office, &[])
+    propose(office, request_terms(), &[])
+}
+
+/// The answer to a request for hints that move groups, in a run on this day or later.
+pub(crate) fn propose_on<K: Keeper>(
+    office: &mut Office<K>,
+    day: Date,
+) -> Result<Answer, StoreFault>
+    ensures asks { Asks K.Keeper office.old office.new }
+    ensures place { IfOk result (λ answer. HasPlace (K.setup office.old) answer) }
+    ensures tells { Holds K.Keeper office.old office.new → IfOk result (λ answer. TellsProposal (state_of K.Keeper office.old) (terms_on day) [] answer) }
+    ensures counted { Counted (K.refusals office.old) (K.refusals office.new) result }
+{
+    propose(office, terms_on(day), &[])
 }
 
 /// The answer to a request for hints that free a source.
@@ -75,11 +94,11 @@ pub(crate) fn propose_for<K: Keeper>(
 ) -> Result<Answer, StoreFault>
     ensures asks { Asks K.Keeper office.old office.new }
     ensures place { IfOk result (λ answer. HasPlace (K.setup office.old) answer) }
-    ensures tells { Holds K.Keeper office.old office.new → IfOk result (λ answer. TellsProposal (state_of K.Keeper office.old) (source ∷ []) answer) }
+    ensures tells { Holds K.Keeper office.old office.new → IfOk result (λ answer. TellsProposal (state_of K.Keeper office.old) request_terms (source ∷ []) answer) }
     ensures counted { Counted (K.refusals office.old) (K.refusals office.new) result }
 {
     let sources = [source];
-    let answer = propose(office, &sources);
+    let answer = propose(office, request_terms(), &sources);
     drop(sources);
     answer
 }

@@ -23,7 +23,8 @@ ghost use Rattle.office_core_facts.specs.State.{state_of};
 ghost use Rattle.office_core_orders.specs.Counted.{Counted};
 ghost use Rattle.office_core_orders.specs.Written.{AppendsFront};
 
-use crate::proposals::{propose_for, propose_groups};
+use crate::breaks::{breaks_body, breaks_of};
+use crate::proposals::{propose_for, propose_groups, propose_on};
 use crate::short_texts::{is_told_whole, short_answer};
 use crate::trials::{has_many_hints, request_terms, terms_on, try_body};
 use deb_control::{NoMemory, Text};
@@ -264,7 +265,9 @@ fn tell_whole<K: Keeper>(office: &mut Office<K>, page: Page) -> Answer
         Page::Hints => text_answer(office.hints_text()),
         Page::Unstable => text_answer(office.unstable_text()),
         Page::Propose => answer_or(propose_groups(office)),
+        Page::ProposeOn(day) => answer_or(propose_on(office, day)),
         Page::ProposeFor(source) => answer_or(propose_for(office, source)),
+        Page::Breaks(source) => answer_or(breaks_of(office, source)),
     }
 }
 
@@ -368,6 +371,18 @@ fn try_bytes<K: Keeper>(office: &mut Office<K>, terms: TrialOptions, body: &[u8]
     try_few(office, terms, body)
 }
 
+/// Tells what a change breaks that a body names. A body that isn't UTF-8 is answered as mail that isn't.
+fn break_bytes<K: Keeper>(office: &mut Office<K>, body: &[u8]) -> Answer
+    ensures carries { Preserves K.Keeper office.old office.new }
+    ensures place { HasPlace (K.setup office.old) result }
+    ensures runs { Holds K.Keeper office.old office.new → Runs (state_of K.Keeper office.old) (state_of K.Keeper office.new) Action.Breaks body.now result (StoreRefused K.Keeper office.old office.new) }
+{
+    match str::from_utf8(body) {
+        Ok(text) => answer_or(breaks_body(office, text)),
+        Err(_) => Answer::Delivered(Err(DeliverFault::Mail(MailFault::BadParagraph))),
+    }
+}
+
 /// Does what a POST with this body asks for.
 fn run<K: Keeper>(office: &mut Office<K>, action: Action, body: &[u8]) -> Answer
     ensures carries { Preserves K.Keeper office.old office.new }
@@ -381,6 +396,7 @@ fn run<K: Keeper>(office: &mut Office<K>, action: Action, body: &[u8]) -> Answer
         Action::Settle => settle(office, body),
         Action::Try => try_bytes(office, request_terms(), body),
         Action::TryOn(day) => try_bytes(office, terms_on(day), body),
+        Action::Breaks => break_bytes(office, body),
     }
 }
 

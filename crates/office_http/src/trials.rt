@@ -3,7 +3,7 @@ ghost use Rattle.std.specs.Prelude.{◌≡◌, ◌∷◌, [], IfErr, IfOk, slice
 ghost use Rattle.std.specs.List.{count_by};
 ghost use Rattle.office_core_facts.specs.State.{state_of};
 ghost use Rattle.office_http.specs.ServeSteps.{TellsTrial};
-ghost use Rattle.office_http.specs.Trials.{begins_easy, has_many_hints, hints_in, is_mark, is_one_group, refused_line, request_terms, terms_on, trial_answer};
+ghost use Rattle.office_http.specs.Trials.{begins_easy, has_many_hints, hints_in, is_mark, is_one_group, refused_hint, refused_line, request_terms, terms_on, trial_answer};
 ghost use Rattle.office_core_orders.specs.Counted.{Counted};
 ghost use Rattle.office_core_orders.specs.Replies.{name_at};
 ghost use Rattle.office_http_requests.specs.Reply.{HasPlace};
@@ -21,7 +21,7 @@ use office_core_outcome::{
     RefusedHint, Trial, TrialOptions, TrialReport, release_place, trial_text,
 };
 use office_http_requests::{Answer, Refusal};
-use office_mail::Setup;
+use office_mail::{MailFault, Setup};
 use office_store_keeper::Keeper;
 use std::alloc::{AllocError, Global};
 use testing_rules_reports::lines_of;
@@ -97,14 +97,20 @@ fn hint_at(hints: &[Text], place: usize) -> &str
     }
 }
 
-/// The line on a refused hint.
+/// The line on a hint that is refused for this fault.
+pub(crate) fn refused_hint(alloc: Global, hint: &str, fault: MailFault) -> Result<Text, NoMemory>
+    ensures { IfOk result (λ line. line ≡ refused_hint hint.now fault) }
+{
+    let (cause, field) = fault_words(DeliverFault::Mail(fault));
+    let line = format!(in alloc; "'{hint}': refused {cause}{field}\n")?;
+    Ok(Text::from_string(line))
+}
+
+/// The line on a refused hint of these.
 fn refused_line(alloc: Global, hints: &[Text], refused: RefusedHint) -> Result<Text, NoMemory>
     ensures { IfOk result (λ line. line ≡ refused_line hints.now refused) }
 {
-    let hint = hint_at(hints, refused.place);
-    let (cause, field) = fault_words(DeliverFault::Mail(refused.fault));
-    let line = format!(in alloc; "'{hint}': refused {cause}{field}\n")?;
-    Ok(Text::from_string(line))
+    refused_hint(alloc, hint_at(hints, refused.place), refused.fault)
 }
 
 /// The text of a trial of hints of the release team.

@@ -15,9 +15,10 @@ use Rattle.office_http_requests.specs.declared.reply.Refusal.{Refusal}
 use Rattle.office_http_requests.specs.declared.reply.Refusal.TheVariants.{BadRequest, NoMessage, NoRoute, OnlyGet, OnlyPost, OtherOrigin}
 use Rattle.office_http_requests.specs.declared.request.Framing.{Framing}
 use Rattle.office_http_requests.specs.declared.request.Action.{Action}
-use Rattle.office_http_requests.specs.declared.request.Action.TheVariants.{Deliver, DeliverOf, Look, Settle, Try, TryOn}
+use Rattle.office_http_requests.specs.declared.request.Action.TheVariants.{Breaks, Deliver, DeliverOf, Look, Settle, Try, TryOn}
 use Rattle.office_http_requests.specs.declared.request.Page.{Page}
 use Rattle.office_http_requests.specs.declared.request.Page.TheVariants.{Bag, Letter, Why, Order, ProposeFor}
+use Rattle.office_http_requests.specs.declared.request.Page.TheVariants as page
 use Rattle.office_http_requests.specs.declared.request.Posted.{Posted}
 use Rattle.office_http_requests.specs.declared.request.Asked.{Asked}
 use Rattle.office_http_requests.specs.declared.request.Asked.TheVariants.{Refused, Tell, Post}
@@ -62,9 +63,12 @@ no_numbered ask setup text method each =
     if_none (bytes_eq method (codes "GET")) (ask (sender_place setup (take (slash_at text) text)) (plain_number (drop (slash_at text + 1) text))) OnlyGet
     (each (sender_place setup (take (slash_at text) text)) (plain_number (drop (slash_at text + 1) text)))
 
+no_else : {V : Type 0} (ask : V → Asked) (o : Option V) (other : Asked) → ((v : V) → is_post (ask v) ≡ false) → is_post other ≡ false → is_post (option_map_or ask o other) ≡ false
+no_else ask None other each h = h
+no_else ask (Some v) other each h = each v
+
 no_or : {V : Type 0} (ask : V → Asked) (o : Option V) → ((v : V) → is_post (ask v) ≡ false) → is_post (option_map_or ask o (Refused NoRoute)) ≡ false
-no_or ask None each = refl
-no_or ask (Some v) each = each v
+no_or ask o each = no_else ask o (Refused NoRoute) each refl
 
 no_asked : (setup : Lists) (o : Option Route) (method path : List ℕ) (minor : ℕ) (framing : Framing) → framing.foreign ≡ true → is_post (asked_at setup o method path minor framing) ≡ false
 no_asked setup None method path minor framing h = refl
@@ -88,7 +92,11 @@ no_asked setup (Some route.Order) method path minor framing h = no_or (λ (day :
 no_asked setup (Some route.Hints) method path minor framing h = no_told _ method
 no_asked setup (Some route.Unstable) method path minor framing h = no_told _ method
 no_asked setup (Some route.Propose) method path minor framing h = no_told _ method
-no_asked setup (Some route.ProposeFor) method path minor framing h = no_or (λ (source : List ℕ). tell_asked (ProposeFor source) method) (package_in (drop 9 path)) (λ source. no_told (ProposeFor source) method)
+no_asked setup (Some route.ProposeFor) method path minor framing h =
+    no_else (λ (day : Date). tell_asked (page.ProposeOn day) method) (day_in (drop 9 path)) _ (λ day. no_told (page.ProposeOn day) method)
+    (no_or (λ (source : List ℕ). tell_asked (ProposeFor source) method) (package_in (drop 9 path)) (λ source. no_told (ProposeFor source) method))
+no_asked setup (Some route.Breaks) method path minor framing h = no_post Breaks method minor framing h
+no_asked setup (Some route.BreaksOf) method path minor framing h = no_or (λ (source : List ℕ). tell_asked (page.Breaks source) method) (package_in (drop 8 path)) (λ source. no_told (page.Breaks source) method)
 
 pub foreign_asks : (setup : Lists) (head : RequestHead) (p : Posted) → (framing_of (map name_and_value head.fields)).foreign ≡ true → asked_of setup head ≢ Post p
 unfolding asked_of asked_by

@@ -14,7 +14,7 @@ use Rattle.office_mail.specs.Lists.{Lists}
 use Rattle.office_http_requests.specs.Asked.{asked_at, asked_by, asked_by_table, asked_of, framing_of, is_hosted, path_of, post_asked, tell_asked}
 use Rattle.office_http_requests.specs.Routes.{IsBeside, new_fronts, new_paths, office_routes, six_routes, ten_routes, twelve_routes, route_in, route_of, plain, with_letter, with_name}
 use Rattle.office_http_requests.specs.declared.reply.Refusal.TheVariants.{BadRequest}
-use Rattle.office_http_requests.specs.declared.request.Action.TheVariants.{Look, Try}
+use Rattle.office_http_requests.specs.declared.request.Action.TheVariants.{Breaks, Look, Try}
 use Rattle.office_http_requests.specs.declared.request.Asked.TheVariants.{Refused}
 use Rattle.office_http_requests.specs.declared.request.Page.TheVariants.{Waiting, Runs, Kept, Hints, Unstable, Propose}
 use Rattle.office_http_requests.specs.declared.routes.Route.{Route}
@@ -130,6 +130,12 @@ why_row = with_name (codes "/why/") (codes "/why/{source}") (6, 12) route.Why �
 abbrev bag : RouteOf Route
 bag = (with_letter (codes "/bag/") (codes "/bag/{sender}/{from}") ((6, 12) ∷ (15, 19) ∷ []) route.Bag).1
 
+abbrev breaks_of : List ℕ × RouteOf Route
+breaks_of = with_name (codes "/breaks/") (codes "/breaks/{source}") (9, 15) route.BreaksOf
+
+abbrev breaks_row : RowsOf (RouteOf Route)
+breaks_row = plain (codes "/breaks") route.Breaks ∷ []
+
 abbrev hints_row : RowsOf (RouteOf Route)
 hints_row = plain (codes "/hints") route.Hints ∷ []
 
@@ -205,15 +211,17 @@ twelve_answer path beside =
     let texts = beside.0 in
     let fronts = beside.1 in
     ap (λ (o : Option (RouteOf Route)). option_map (λ (r : RouteOf Route). r.value) o)
-    (without_below (codes "/bag/") (param_token ∷ 47 ∷ param_token ∷ []) path [] (excuses_row ++ (hints_row ++ behind_hints)) bag refl fronts.0
-    ∙ without (codes "/hints") path excuses_row behind_hints (plain (codes "/hints") route.Hints).1 refl texts.0
-    ∙ without (codes "/lint") path to_kept (mail_of ∷ behind_mail_of) (plain (codes "/lint") route.Lint).1 refl texts.1.0
-    ∙ without_below (codes "/mail/") (param_token ∷ []) path to_kept behind_mail_of mail_of.1 refl fronts.1.0
-    ∙ without_below (codes "/order/") (param_token ∷ []) path to_mail behind_order order.1 refl fronts.1.1.0
-    ∙ without_below (codes "/propose/") (param_token ∷ []) path to_mail (propose_row ++ behind_propose) propose_for.1 refl fronts.1.1.1.0
-    ∙ without (codes "/propose") path to_mail behind_propose (plain (codes "/propose") route.Propose).1 refl texts.1.1.0
-    ∙ without_below (codes "/try/") (param_token ∷ []) path rows_before behind_try_on try_on.1 refl fronts.1.1.1.1.0
-    ∙ without (codes "/unstable") path (rows_before ++ try_row) behind_unstable (plain (codes "/unstable") route.Unstable).1 refl texts.1.1.1.0)
+    (without_below (codes "/bag/") (param_token ∷ 47 ∷ param_token ∷ []) path [] (breaks_of ∷ (breaks_row ++ (excuses_row ++ (hints_row ++ behind_hints)))) bag refl fronts.0
+    ∙ without_below (codes "/breaks/") (param_token ∷ []) path [] (breaks_row ++ (excuses_row ++ (hints_row ++ behind_hints))) breaks_of.1 refl fronts.1.0
+    ∙ without (codes "/breaks") path [] (excuses_row ++ (hints_row ++ behind_hints)) (plain (codes "/breaks") route.Breaks).1 refl texts.0
+    ∙ without (codes "/hints") path excuses_row behind_hints (plain (codes "/hints") route.Hints).1 refl texts.1.0
+    ∙ without (codes "/lint") path to_kept (mail_of ∷ behind_mail_of) (plain (codes "/lint") route.Lint).1 refl texts.1.1.0
+    ∙ without_below (codes "/mail/") (param_token ∷ []) path to_kept behind_mail_of mail_of.1 refl fronts.1.1.0
+    ∙ without_below (codes "/order/") (param_token ∷ []) path to_mail behind_order order.1 refl fronts.1.1.1.0
+    ∙ without_below (codes "/propose/") (param_token ∷ []) path to_mail (propose_row ++ behind_propose) propose_for.1 refl fronts.1.1.1.1.0
+    ∙ without (codes "/propose") path to_mail behind_propose (plain (codes "/propose") route.Propose).1 refl texts.1.1.1.0
+    ∙ without_below (codes "/try/") (param_token ∷ []) path rows_before behind_try_on try_on.1 refl fronts.1.1.1.1.1.0
+    ∙ without (codes "/unstable") path (rows_before ++ try_row) behind_unstable (plain (codes "/unstable") route.Unstable).1 refl texts.1.1.1.1.0)
 
 ten_answer : (path : List ℕ) → path ≢ codes "/try" → ((rest : List ℕ) → path ≢ codes "/why/" ++ rest) → route_in twelve_routes path ≡ route_in ten_routes path
 unfolding twelve_routes ten_routes
@@ -298,3 +306,7 @@ propose_told setup head hosted e = told_at setup head (codes "/propose") hosted 
 pub lint_told : (setup : Lists) (head : RequestHead) → is_hosted head ≡ true → path_of head.target ≡ codes "/lint" → asked_of setup head ≡ post_asked Look head.method head.minor (framing_of (map name_and_value head.fields))
 unfolding office_routes matchit_on_literals
 lint_told setup head hosted e = told_at setup head (codes "/lint") hosted e
+
+pub breaks_told : (setup : Lists) (head : RequestHead) → is_hosted head ≡ true → path_of head.target ≡ codes "/breaks" → asked_of setup head ≡ post_asked Breaks head.method head.minor (framing_of (map name_and_value head.fields))
+unfolding office_routes matchit_on_literals
+breaks_told setup head hosted e = told_at setup head (codes "/breaks") hosted e

@@ -18,9 +18,10 @@ use Rattle.office_http_requests.specs.declared.request.Stated.{Stated}
 use Rattle.office_http_requests.specs.declared.request.Stated.TheVariants.{Absent, Bad, TooLong, Exactly}
 use Rattle.office_http_requests.specs.declared.request.Framing.{Framing}
 use Rattle.office_http_requests.specs.declared.request.Action.{Action}
-use Rattle.office_http_requests.specs.declared.request.Action.TheVariants.{Deliver, DeliverOf, Look, Settle, Try, TryOn}
+use Rattle.office_http_requests.specs.declared.request.Action.TheVariants.{Breaks, Deliver, DeliverOf, Look, Settle, Try, TryOn}
 use Rattle.office_http_requests.specs.declared.request.Page.{Page}
 use Rattle.office_http_requests.specs.declared.request.Page.TheVariants.{Status, Testing, Excuses, Update, Waiting, Runs, Kept, Bag, Why, Order, Hints, Unstable, Propose, ProposeFor}
+use Rattle.office_http_requests.specs.declared.request.Page.TheVariants as page
 use Rattle.office_http_requests.specs.declared.request.Asked.{Asked}
 use Rattle.office_http_requests.specs.declared.request.Asked.TheVariants.{Refused, Tell}
 use Rattle.office_http_requests.specs.Asked.{Line, are_digits, number_stated, stated, values_named, framing_of, posted_length, posted_by, post_framed, post_asked, tell_asked, asked_at, asked_by, asked_of, bag_by, letter_by, names_host, numbered_asked, path_of, plain_number, sender_place, slash_at, body_size}
@@ -58,6 +59,7 @@ length_fits (DeliverOf sender) Absent coded waits h = omega arith
 length_fits Look Absent coded waits h = omega arith
 length_fits Try Absent coded waits h = omega arith
 length_fits (TryOn day) Absent coded waits h = omega arith
+length_fits Breaks Absent coded waits h = omega arith
 length_fits action Bad coded waits h = omega arith
 length_fits action TooLong true waits h = omega arith
 length_fits action TooLong false waits h = omega arith
@@ -98,9 +100,12 @@ numbered_fits ask setup text method each =
     (each (sender_place setup (take (slash_at text) text)) (plain_number (drop (slash_at text + 1) text)))
 
 -- what is asked by a part of the path, or nothing
+or_else_fits : {V : Type 0} (ask : V → Asked) (o : Option V) (other : Asked) → ((v : V) → body_size (ask v) ≤ body_room) → body_size other ≤ body_room → body_size (option_map_or ask o other) ≤ body_room
+or_else_fits ask None other each h = h
+or_else_fits ask (Some v) other each h = each v
+
 or_fits : {V : Type 0} (ask : V → Asked) (o : Option V) → ((v : V) → body_size (ask v) ≤ body_room) → body_size (option_map_or ask o (Refused NoRoute)) ≤ body_room
-or_fits ask None each = omega arith
-or_fits ask (Some v) each = each v
+or_fits ask o each = or_else_fits ask o (Refused NoRoute) each (omega arith)
 
 asked_fits : (setup : Lists) (o : Option Route) (method path : List ℕ) (minor : ℕ) (framing : Framing) → stated_size framing.length ≤ body_room → body_size (asked_at setup o method path minor framing) ≤ body_room
 asked_fits setup None method path minor framing h = omega arith
@@ -124,7 +129,11 @@ asked_fits setup (Some route.Order) method path minor framing h = or_fits (λ (d
 asked_fits setup (Some route.Hints) method path minor framing h = tell_fits Hints method
 asked_fits setup (Some route.Unstable) method path minor framing h = tell_fits Unstable method
 asked_fits setup (Some route.Propose) method path minor framing h = tell_fits Propose method
-asked_fits setup (Some route.ProposeFor) method path minor framing h = or_fits (λ (source : List ℕ). tell_asked (ProposeFor source) method) (package_in (drop 9 path)) (λ source. tell_fits (ProposeFor source) method)
+asked_fits setup (Some route.ProposeFor) method path minor framing h =
+    or_else_fits (λ (day : Date). tell_asked (page.ProposeOn day) method) (day_in (drop 9 path)) _ (λ day. tell_fits (page.ProposeOn day) method)
+    (or_fits (λ (source : List ℕ). tell_asked (ProposeFor source) method) (package_in (drop 9 path)) (λ source. tell_fits (ProposeFor source) method))
+asked_fits setup (Some route.Breaks) method path minor framing h = post_fits Breaks method minor framing h
+asked_fits setup (Some route.BreaksOf) method path minor framing h = or_fits (λ (source : List ℕ). tell_asked (page.Breaks source) method) (package_in (drop 8 path)) (λ source. tell_fits (page.Breaks source) method)
 
 -- no body that is read is longer than 65,536 bytes
 pub body_fits : (setup : Lists) (head : RequestHead) → body_size (asked_of setup head) ≤ body_room

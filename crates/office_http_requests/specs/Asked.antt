@@ -26,8 +26,9 @@ use Rattle.office_http_requests.specs.declared.request.Framing.{Framing}
 use Rattle.office_http_requests.specs.declared.request.HostFields.{HostFields}
 use Rattle.office_http_requests.specs.declared.request.HostFields.TheVariants.{NoHost, OneHost, SeveralHosts}
 use Rattle.office_http_requests.specs.declared.request.Action.{Action}
-use Rattle.office_http_requests.specs.declared.request.Action.TheVariants.{Deliver, DeliverOf, Look, Settle, Try, TryOn}
+use Rattle.office_http_requests.specs.declared.request.Action.TheVariants.{Deliver, DeliverOf, Look, Settle, Try, TryOn, Breaks}
 use Rattle.office_http_requests.specs.declared.request.Page.{Page}
+use Rattle.office_http_requests.specs.declared.request.Page.TheVariants as page
 use Rattle.office_http_requests.specs.declared.request.Page.TheVariants.{Status, Testing, Excuses, Update, Waiting, Runs, Kept, Letter, Why, Bag, Order, Hints, Unstable, Propose, ProposeFor}
 use Rattle.office_http_requests.specs.declared.request.Asked.{Asked}
 use Rattle.office_http_requests.specs.declared.request.Asked.TheVariants.{Refused, Tell, Post}
@@ -214,6 +215,10 @@ source_asked tell name method = option_map_or (λ source. tell_asked (tell sourc
 abbrev pub day_asked : (Date → Asked) → List ℕ → Asked
 day_asked ask text = option_map_or ask (day_in text) (Refused NoRoute)
 
+-- what is asked for with the day of a run, or else with the name of a source to free
+abbrev pub proposals_asked : List ℕ → List ℕ → Asked
+proposals_asked text method = option_map_or (λ day. tell_asked (page.ProposeOn day) method) (day_in text) (source_asked ProposeFor text method)
+
 -- On a route added after the first six. After the second slash, a kept text and a part of the kept mail name their
 -- sender, and then a number. Mail of a sender names the sender there, the text on a source the source, and an order and
 -- a trial their day.
@@ -232,7 +237,9 @@ added_asked setup route.Order method path minor framing = day_asked (λ day. tel
 added_asked setup route.Hints method path minor framing = tell_asked Hints method
 added_asked setup route.Unstable method path minor framing = tell_asked Unstable method
 added_asked setup route.Propose method path minor framing = tell_asked Propose method
-added_asked setup route.ProposeFor method path minor framing = source_asked ProposeFor (drop 9 path) method
+added_asked setup route.ProposeFor method path minor framing = proposals_asked (drop 9 path) method
+added_asked setup route.Breaks method path minor framing = post_asked Breaks method minor framing
+added_asked setup route.BreaksOf method path minor framing = source_asked page.Breaks (drop 8 path) method
 added_asked setup _ method path minor framing = Refused NoRoute
 
 -- On the route of the path: the first six, and those added. A report names its run after the second slash.

@@ -5,7 +5,7 @@ use Rattle.matchit.specs.Rows.{RowsOf, param_token}
 use Rattle.matchit.specs.Router.{RouteOf}
 use Rattle.matchit.specs.Seek.{first}
 use Rattle.office_http_requests.specs.declared.routes.Route.{Route}
-use Rattle.office_http_requests.specs.declared.routes.Route.TheVariants.{Mail, MailOf, Lint, Settle, Try, TryOn, Status, Testing, Excuses, Update, Waiting, Runs, Kept, Letter, Bag, Why, Order, Hints, Unstable, Propose, ProposeFor}
+use Rattle.office_http_requests.specs.declared.routes.Route.TheVariants.{Mail, MailOf, Lint, Settle, Try, TryOn, Status, Testing, Excuses, Update, Waiting, Runs, Kept, Letter, Bag, Why, Order, Hints, Unstable, Propose, ProposeFor, Breaks, BreaksOf}
 
 -- a route without parameters
 abbrev pub plain : List ℕ → Route → List ℕ × RouteOf Route
@@ -35,14 +35,14 @@ ten_routes =
     ∷ with_name (codes "/update/") (codes "/update/{run}") (9, 12) Update ∷ plain (codes "/waiting") Waiting ∷ []
 
 -- twelve of the routes, in matchit's order: without those of the mail of one sender, of texts that are only looked at,
--- of parts of the kept mail, of the next order, of a trial on a day, of hints, of unstable and of proposals
+-- of parts of the kept mail, of the next order, of a trial on a day, of hints, of unstable, of proposals and of what breaks
 unfoldable pub twelve_routes : RowsOf (RouteOf Route)
 twelve_routes =
     with_name (codes "/excuses/") (codes "/excuses/{run}") (10, 13) Excuses ∷ with_letter (codes "/kept/") (codes "/kept/{sender}/{number}") ((7, 13) ∷ (16, 22) ∷ []) Letter ∷ plain (codes "/kept") Kept
     ∷ plain (codes "/mail") Mail ∷ plain (codes "/runs") Runs ∷ plain (codes "/settle") Settle ∷ plain (codes "/status") Status ∷ plain (codes "/testing") Testing ∷ plain (codes "/try") Try
     ∷ with_name (codes "/update/") (codes "/update/{run}") (9, 12) Update ∷ plain (codes "/waiting") Waiting ∷ with_name (codes "/why/") (codes "/why/{source}") (6, 12) Why ∷ []
 
--- seventeen of the routes, in matchit's order: without those of hints, of unstable and of proposals
+-- seventeen of the routes, in matchit's order: without those of hints, of unstable, of proposals and of what breaks
 unfoldable pub seventeen_routes : RowsOf (RouteOf Route)
 seventeen_routes =
     with_letter (codes "/bag/") (codes "/bag/{sender}/{from}") ((6, 12) ∷ (15, 19) ∷ []) Bag ∷ with_name (codes "/excuses/") (codes "/excuses/{run}") (10, 13) Excuses
@@ -55,7 +55,8 @@ seventeen_routes =
 -- the table, in matchit's order
 unfoldable pub office_routes : RowsOf (RouteOf Route)
 office_routes =
-    with_letter (codes "/bag/") (codes "/bag/{sender}/{from}") ((6, 12) ∷ (15, 19) ∷ []) Bag ∷ with_name (codes "/excuses/") (codes "/excuses/{run}") (10, 13) Excuses ∷ plain (codes "/hints") Hints
+    with_letter (codes "/bag/") (codes "/bag/{sender}/{from}") ((6, 12) ∷ (15, 19) ∷ []) Bag ∷ with_name (codes "/breaks/") (codes "/breaks/{source}") (9, 15) BreaksOf ∷ plain (codes "/breaks") Breaks
+    ∷ with_name (codes "/excuses/") (codes "/excuses/{run}") (10, 13) Excuses ∷ plain (codes "/hints") Hints
     ∷ with_letter (codes "/kept/") (codes "/kept/{sender}/{number}") ((7, 13) ∷ (16, 22) ∷ []) Letter ∷ plain (codes "/kept") Kept ∷ plain (codes "/lint") Lint
     ∷ with_name (codes "/mail/") (codes "/mail/{sender}") (7, 13) MailOf ∷ plain (codes "/mail") Mail ∷ with_name (codes "/order/") (codes "/order/{day}") (8, 11) Order
     ∷ with_name (codes "/propose/") (codes "/propose/{source}") (10, 16) ProposeFor ∷ plain (codes "/propose") Propose
@@ -69,10 +70,10 @@ IsBeside texts fronts path = AllByRecursion (λ text. path ≢ text) texts × Al
 
 -- the paths of the routes that the twelve are without: these texts, and what begins with those
 abbrev pub new_paths : List (List ℕ)
-new_paths = codes "/hints" ∷ codes "/lint" ∷ codes "/propose" ∷ codes "/unstable" ∷ []
+new_paths = codes "/breaks" ∷ codes "/hints" ∷ codes "/lint" ∷ codes "/propose" ∷ codes "/unstable" ∷ []
 
 abbrev pub new_fronts : List (List ℕ)
-new_fronts = codes "/bag/" ∷ codes "/mail/" ∷ codes "/order/" ∷ codes "/propose/" ∷ codes "/try/" ∷ []
+new_fronts = codes "/bag/" ∷ codes "/breaks/" ∷ codes "/mail/" ∷ codes "/order/" ∷ codes "/propose/" ∷ codes "/try/" ∷ []
 
 -- the route of a path by a table, and by this one
 abbrev pub route_in : RowsOf (RouteOf Route) → List ℕ → Option Route

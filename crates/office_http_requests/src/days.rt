@@ -9,7 +9,7 @@ use jiff_core::civil::Date;
 use office_mail_setup::values::day_in;
 
 /// The day after the beginning of a path (ISO 8601), none for any other text.
-fn day_behind(path: &str, front: usize) -> Option<Date>
+pub(crate) fn day_behind(path: &str, front: usize) -> Option<Date>
     ensures { result ≡ day_in (drop front path.now) }
 {
     match str::from_utf8(behind(path, front)) {

@@ -8,7 +8,7 @@ ghost use Rattle.office_http_requests.specs.Asked.{asked_by_table, asked_of, fra
 ghost use Rattle.office_http_requests.specs.Routes.{IsBeside, new_fronts, new_paths, six_routes, ten_routes, twelve_routes};
 ghost use Rattle.office_http_requests.specs.declared.reply.Refusal.TheVariants.{BadRequest, OnlyPost};
 ghost use Rattle.office_http_requests.specs.declared.request.Action.{Action};
-ghost use Rattle.office_http_requests.specs.declared.request.Action.TheVariants.{Look, Try};
+ghost use Rattle.office_http_requests.specs.declared.request.Action.TheVariants.{Breaks, Look, Try};
 ghost use Rattle.office_http_requests.specs.declared.request.Asked.TheVariants.{Post, Refused};
 ghost use Rattle.office_http_requests.specs.declared.request.Framing.{Framing};
 ghost use Rattle.office_http_requests.specs.declared.request.Page.TheVariants.{Waiting, Runs, Kept, Hints, Unstable, Propose};
@@ -17,8 +17,8 @@ ghost use Rattle.office_http_requests.specs.declared.request.Posted.{Posted};
 /// The routes that came behind the first six leave what the other paths ask for, of heads that name their host as they
 /// should.
 pub fn old_requests_stay()
-    // Those behind the first twelve, which are `/lint`, `/hints`, `/unstable` and `/propose`, and those below `/mail/`, `/bag/`,
-    // `/order/`, `/try/` and `/propose/`, leave what all other paths ask for.
+    // Those behind the first twelve, which are `/lint`, `/hints`, `/unstable`, `/propose` and `/breaks`, and those below
+    // `/mail/`, `/bag/`, `/order/`, `/try/`, `/propose/` and `/breaks/`, leave what all other paths ask for.
     ensures newer { (setup : Lists) (head : RequestHead) → is_hosted head ≡ true → IsBeside new_paths new_fronts (path_of head.target) → asked_of setup head ≡ asked_by_table twelve_routes setup head }
     // So do `/try` and those below `/why/`.
     ensures later { (setup : Lists) (head : RequestHead) → is_hosted head ≡ true → IsBeside new_paths new_fronts (path_of head.target) → path_of head.target ≢ codes "/try" → ((rest : List ℕ) → path_of head.target ≢ codes "/why/" ++ rest) → asked_of setup head ≡ asked_by_table ten_routes setup head }
@@ -33,9 +33,10 @@ pub fn old_requests_stay()
     ensures in_force { (setup : Lists) (head : RequestHead) → is_hosted head ≡ true → path_of head.target ≡ codes "/hints" → asked_of setup head ≡ tell_asked Hints head.method }
     ensures unstable { (setup : Lists) (head : RequestHead) → is_hosted head ≡ true → path_of head.target ≡ codes "/unstable" → asked_of setup head ≡ tell_asked Unstable head.method }
     ensures proposals { (setup : Lists) (head : RequestHead) → is_hosted head ≡ true → path_of head.target ≡ codes "/propose" → asked_of setup head ≡ tell_asked Propose head.method }
-    // There a POST asks for a trial of hints, or how a delivery would be answered.
+    // There a POST asks for a trial of hints, how a delivery would be answered, or what a change breaks.
     ensures hints { (setup : Lists) (head : RequestHead) → is_hosted head ≡ true → path_of head.target ≡ codes "/try" → asked_of setup head ≡ post_asked Try head.method head.minor (framing_of (map name_and_value head.fields)) }
     ensures looks { (setup : Lists) (head : RequestHead) → is_hosted head ≡ true → path_of head.target ≡ codes "/lint" → asked_of setup head ≡ post_asked Look head.method head.minor (framing_of (map name_and_value head.fields)) }
+    ensures breaks { (setup : Lists) (head : RequestHead) → is_hosted head ≡ true → path_of head.target ≡ codes "/breaks" → asked_of setup head ≡ post_asked Breaks head.method head.minor (framing_of (map name_and_value head.fields)) }
     // A head that names no host by HTTP/1.1, or several, is refused.
     ensures hostless { (setup : Lists) (head : RequestHead) → is_hosted head ≡ false → asked_of setup head ≡ Refused BadRequest }
     // And so does the refusal of what a page in a browser posts: without its fields a POST asks for what its body's do.

@@ -13,7 +13,7 @@ use crate::days::{order_asked, try_on_asked};
 use crate::letters::{bag_asked, letter_asked, mail_of_asked};
 use crate::reply::Refusal;
 use crate::routes::{Route, find_route};
-use crate::sources::{propose_asked, why_asked};
+use crate::sources::{breaks_asked, propose_asked, why_asked};
 use deb_control::Text;
 use httparse::spans::{HeaderSpan, RequestSpans};
 use jiff_core::civil::Date;
@@ -70,6 +70,8 @@ pub enum Action {
     Try,
     /// Tries them over all mail without a gap, in a run on this day or later.
     TryOn(Date),
+    /// Tells what the change breaks that the body names.
+    Breaks,
 }
 
 /// A POST: what it is for, how long its body is, and whether the client waits for `100 Continue`.
@@ -107,8 +109,12 @@ pub enum Page {
     Unstable,
     /// Hints that move groups of sources.
     Propose,
+    /// The same in a run on this day or later, over all mail without a gap.
+    ProposeOn(Date),
     /// Hints that free the source with this name, or what shows that none does.
     ProposeFor(Text),
+    /// What the move of the source with this name breaks.
+    Breaks(Text),
 }
 
 /// What a request asks for.
@@ -360,6 +366,7 @@ fn absent_length(action: Action, coded: bool) -> Result<u32, Refusal>
         Action::Look => Err(Refusal::LengthRequired),
         Action::Try => Err(Refusal::LengthRequired),
         Action::TryOn(_) => Err(Refusal::LengthRequired),
+        Action::Breaks => Err(Refusal::LengthRequired),
     }
 }
 
@@ -452,6 +459,8 @@ fn asked_at(
         Route::Unstable => Ok(tell_asked(Page::Unstable, method)),
         Route::Propose => Ok(tell_asked(Page::Propose, method)),
         Route::ProposeFor => propose_asked(alloc, path, method),
+        Route::Breaks => Ok(post_asked(Action::Breaks, method, minor, framing)),
+        Route::BreaksOf => breaks_asked(alloc, path, method),
     }
 }
 

@@ -30,8 +30,12 @@ pub enum Route {
     Hints,
     Unstable,
     Propose,
-    /// Proposals for a source.
+    /// Proposals for a source, or for a day.
     ProposeFor,
+    /// What a change breaks.
+    Breaks,
+    /// What the move of a source breaks.
+    BreaksOf,
 }
 
 /// A table of routes.
@@ -87,7 +91,7 @@ fn insert_parts(router: &mut Router<Route>) -> Result<(), InsertError>
     Ok(())
 }
 
-/// Adds the routes of hints, of unstable and of proposals.
+/// Adds the routes of hints, of unstable, of proposals and of what changes break.
 fn insert_hints(router: &mut Router<Route>) -> Result<(), InsertError>
     requires { router.old ≡ seventeen_routes }
     ensures { OnOk result (router.new ≡ office_routes) }
@@ -96,6 +100,8 @@ fn insert_hints(router: &mut Router<Route>) -> Result<(), InsertError>
     router.insert("/unstable", Route::Unstable)?;
     router.insert("/propose", Route::Propose)?;
     router.insert("/propose/{source}", Route::ProposeFor)?;
+    router.insert("/breaks", Route::Breaks)?;
+    router.insert("/breaks/{source}", Route::BreaksOf)?;
     Ok(())
 }
 

@@ -1,8 +1,9 @@
 //! What a path that names a source asks for.
 ghost use Rattle.std.specs.Prelude.{◌≡◌, IfOk, drop};
 ghost use Rattle.office_mail_setup.specs.Values.{package_in};
-ghost use Rattle.office_http_requests.specs.Asked.{source_asked};
+ghost use Rattle.office_http_requests.specs.Asked.{proposals_asked, source_asked};
 
+use crate::days::day_behind;
 use crate::reply::Refusal;
 use crate::request::{Asked, Page, behind, tell_asked};
 use deb_control::{Text, is_package_name};
@@ -32,12 +33,32 @@ pub fn why_asked(alloc: Global, path: &str, method: &[u8]) -> Result<Asked, Allo
     }
 }
 
+/// What a path that ends with the name of a source to move asks for. It fails only if memory runs out.
+pub fn breaks_asked(alloc: Global, path: &str, method: &[u8]) -> Result<Asked, AllocError>
+    ensures { IfOk result (λ asked. asked ≡ source_asked Page.Breaks (drop 8 path.now) method.now) }
+{
+    match source_behind(alloc, path, 8)? {
+        Some(source) => Ok(tell_asked(Page::Breaks(source), method)),
+        None => Ok(Asked::Refused(Refusal::NoRoute)),
+    }
+}
+
 /// What a path that ends with the name of a source to free asks for. It fails only if memory runs out.
-pub fn propose_asked(alloc: Global, path: &str, method: &[u8]) -> Result<Asked, AllocError>
+fn propose_for_asked(alloc: Global, path: &str, method: &[u8]) -> Result<Asked, AllocError>
     ensures { IfOk result (λ asked. asked ≡ source_asked Page.ProposeFor (drop 9 path.now) method.now) }
 {
     match source_behind(alloc, path, 9)? {
         Some(source) => Ok(tell_asked(Page::ProposeFor(source), method)),
         None => Ok(Asked::Refused(Refusal::NoRoute)),
+    }
+}
+
+/// What a path that ends with a day, or with the name of a source to free, asks for. It fails only if memory runs out.
+pub fn propose_asked(alloc: Global, path: &str, method: &[u8]) -> Result<Asked, AllocError>
+    ensures { IfOk result (λ asked. asked ≡ proposals_asked (drop 9 path.now) method.now) }
+{
+    match day_behind(path, 9) {
+        Some(day) => Ok(tell_asked(Page::ProposeOn(day), method)),
+        None => propose_for_asked(alloc, path, method),
     }
 }

@@ -11,7 +11,7 @@ use Rattle.office_core_orders.specs.Replies.{name_at}
 use Rattle.office_core_facts.specs.Seen.{release}
 use Rattle.office_core_outcome.specs.RuleSteps.{IsRuled}
 use Rattle.office_core_outcome.specs.Trial.{judged_by}
-use Rattle.office_core_outcome.specs.WhyRefused.{AreReasons, AreToldOf}
+use Rattle.office_core_outcome.specs.WhyRefused.{AreFirstTold, AreReasons}
 use Rattle.office_core_outcome.proofs.RefusalFacts.{decisions_are, judged_over, reasons_by}
 use Rattle.office_core_outcome.proofs.deciding.reasons_of.Goals as goal
 
@@ -26,10 +26,10 @@ returns c =
     let es : List Excuse = c.as_slice-excuses.result.now in
     let ds : List Decision = c.as_slice-decisions.result.now in
     let named : sender ≡ name_at setup (release setup) = c.name_at-sender.ensures ∙ ap (name_at setup) c.release_place.ensures in
-    IfOk-weaker c.told_of_all.result
-    (AreToldOf (judged_over sender a.behind archs facts es t) ds)
+    IfOk-weaker c.told_of_first.result
+    (AreFirstTold (judged_over sender a.behind archs facts es t) ds)
     (λ text. (s : Covered) (date : Date) (new : Suite) → StandsFor facts s t → IsRuled setup date s t a.ruled.now new → AreReasons (judged_by setup a.behind date s t) text)
     (λ text told s date new stands is.
     let made : es ≡ excuses_of setup.archs s t date = c.as_slice-excuses.ensures ∙ is.excuses in
     reasons_by setup a.behind date s t facts stands sender archs es named c.archs-archs.ensures.same made ds text (c.as_slice-decisions.ensures ∙ decisions_are setup date s t new a.ruled.now is) told)
-    c.told_of_all.ensures
+    c.told_of_first.ensures

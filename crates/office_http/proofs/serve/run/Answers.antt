@@ -15,3 +15,6 @@ returns-in-Try-clause-runs g c = λ h. rw c.in-Try.is (c.try_bytes.ensures.runs 
 
 pub returns-in-TryOn-clause-runs : goal.returns-in-TryOn-clause-runs
 returns-in-TryOn-clause-runs g c = λ h. rw c.in-TryOn.is (c.try_bytes-in-TryOn.ensures.runs h _ (rw c.terms_on.ensures refl))
+
+pub returns-in-Breaks-clause-runs : goal.returns-in-Breaks-clause-runs
+returns-in-Breaks-clause-runs g c = λ h. rw c.in-Breaks.is (c.break_bytes.ensures.runs h)

@@ -1,7 +1,7 @@
 use Rattle.office_core.specs.Preserves.{StoreRefused}
 use Rattle.office_core_facts.specs.State.{state_of}
 use Rattle.office_core.proofs.CarryFacts.{risen}
-use Rattle.office_http.proofs.ServeFacts.{told_status, told_testing, told_excuses, told_update, told_waiting, told_runs, told_kept, told_letter, told_bag, told_why, told_order, told_hints, told_unstable, told_propose, told_propose_for, place_or, place_status, place_text, place_report, place_letter, place_part, place_why}
+use Rattle.office_http.proofs.ServeFacts.{told_status, told_testing, told_excuses, told_update, told_waiting, told_runs, told_kept, told_letter, told_bag, told_why, told_order, told_hints, told_unstable, told_propose, told_propose_on, told_propose_for, told_breaks, place_or, place_status, place_text, place_report, place_letter, place_part, place_why}
 use Rattle.office_http.proofs.serve.tell_whole.Goals as goal
 
 pub returns-in-Status-clause-place : goal.returns-in-Status-clause-place
@@ -183,3 +183,27 @@ returns-in-ProposeFor-clause-tells g c =
     let r = c.propose_for.result in
     let e = c.propose_for.ensures in
     λ h. rw (c.in-ProposeFor.is, c.answer_or-in-ProposeFor.ensures) (told_propose_for (StoreRefused keeper s0 s1) (state_of keeper s0) c.in-ProposeFor.source r (e.tells h) (risen (keeper.refusals s0) (keeper.refusals s1) r e.counted))
+
+pub returns-in-ProposeOn-clause-place : goal.returns-in-ProposeOn-clause-place
+returns-in-ProposeOn-clause-place g c = rw c.answer_or-in-ProposeOn.ensures (place_or (g.K.Keeper.setup c.args.office.now) c.propose_on.result c.propose_on.ensures.place)
+
+pub returns-in-ProposeOn-clause-tells : goal.returns-in-ProposeOn-clause-tells
+returns-in-ProposeOn-clause-tells g c =
+    let keeper = g.K.Keeper in
+    let s0 = c.args.office.now in
+    let s1 = c.propose_on.new.office in
+    let r = c.propose_on.result in
+    let e = c.propose_on.ensures in
+    λ h. rw (c.in-ProposeOn.is, c.answer_or-in-ProposeOn.ensures) (told_propose_on (StoreRefused keeper s0 s1) (state_of keeper s0) c.in-ProposeOn.day r (e.tells h) (risen (keeper.refusals s0) (keeper.refusals s1) r e.counted))
+
+pub returns-in-Breaks-clause-place : goal.returns-in-Breaks-clause-place
+returns-in-Breaks-clause-place g c = rw c.answer_or-in-Breaks.ensures (place_or (g.K.Keeper.setup c.args.office.now) c.breaks_of.result c.breaks_of.ensures.place)
+
+pub returns-in-Breaks-clause-tells : goal.returns-in-Breaks-clause-tells
+returns-in-Breaks-clause-tells g c =
+    let keeper = g.K.Keeper in
+    let s0 = c.args.office.now in
+    let s1 = c.breaks_of.new.office in
+    let r = c.breaks_of.result in
+    let e = c.breaks_of.ensures in
+    λ h. rw (c.in-Breaks.is, c.answer_or-in-Breaks.ensures) (told_breaks (StoreRefused keeper s0 s1) (state_of keeper s0) c.in-Breaks.source r (e.tells h) (risen (keeper.refusals s0) (keeper.refusals s1) r e.counted))

@@ -1,5 +1,5 @@
 use Rattle.office_http_requests.proofs.ForeignFacts.{unforeign_asks}
-use Rattle.office_http_requests.proofs.RouteFacts.{newer_stay, others_stay, later_stay, waiting_told, runs_told, kept_told, try_told, hints_told, unstable_told, propose_told, lint_told, misaddressed}
+use Rattle.office_http_requests.proofs.RouteFacts.{newer_stay, others_stay, later_stay, waiting_told, runs_told, kept_told, try_told, hints_told, unstable_told, propose_told, lint_told, breaks_told, misaddressed}
 use Rattle.office_http_requests.proofs.laws.old_requests_stay.Goals as goal
 
 pub returns-clause-others : goal.returns-clause-others
@@ -34,6 +34,9 @@ returns-clause-proposals c = propose_told
 
 pub returns-clause-looks : goal.returns-clause-looks
 returns-clause-looks c = lint_told
+
+pub returns-clause-breaks : goal.returns-clause-breaks
+returns-clause-breaks c = breaks_told
 
 pub returns-clause-hostless : goal.returns-clause-hostless
 returns-clause-hostless c = misaddressed

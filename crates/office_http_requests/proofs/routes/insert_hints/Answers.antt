@@ -9,4 +9,6 @@ returns c =
     let b = rw a.1 at c.in_ok-insert-2.ensures in
     let d = rw b.1 at c.in_ok-insert-3.ensures in
     let e = rw d.1 at c.in_ok-insert-4.ensures in
-    e.1
+    let f = rw e.1 at c.in_ok-insert-5.ensures in
+    let g = rw f.1 at c.in_ok-insert-6.ensures in
+    g.1

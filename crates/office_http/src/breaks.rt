@@ -1,0 +1,85 @@
+//! What a request asks that a change would break.
+ghost use Rattle.std.specs.Prelude.{◌≡◌, IfOk};
+ghost use Rattle.office_core.specs.Preserves.{Asks, Holds};
+ghost use Rattle.office_core_facts.specs.State.{state_of};
+ghost use Rattle.office_core_orders.specs.Counted.{Counted};
+ghost use Rattle.office_http.specs.ServeSteps.{TellsBreaks, TellsQuestion, TellsShortBreaks, told_answer};
+ghost use Rattle.office_http_requests.specs.Reply.{HasPlace};
+
+use crate::short_texts::short_answer;
+use crate::trials::refused_hint;
+use deb_control::Text;
+use office_core::Office;
+use office_core_breaks::{BreaksText, Question, question_in};
+use office_core_orders::StoreFault;
+use office_http_requests::{Answer, Refusal};
+use office_mail::MailFault;
+use office_store_keeper::Keeper;
+
+/// The answer to what is told of a question.
+fn told_answer(told: Option<BreaksText>) -> Answer
+    ensures { result ≡ told_answer told }
+{
+    match told {
+        Some(BreaksText { text, is_known: _ }) => Answer::Told(text),
+        None => Answer::Refused(Refusal::NoRun),
+    }
+}
+
+/// The answer to a question on what a change breaks.
+fn answer_question<K: Keeper>(
+    office: &mut Office<K>,
+    question: Question,
+) -> Result<Answer, StoreFault>
+    ensures asks { Asks K.Keeper office.old office.new }
+    ensures place { IfOk result (λ answer. HasPlace (K.setup office.old) answer) }
+    ensures tells { Holds K.Keeper office.old office.new → IfOk result (λ answer. TellsQuestion (state_of K.Keeper office.old) question answer) }
+    ensures counted { Counted (K.refusals office.old) (K.refusals office.new) result }
+{
+    let told = office.breaks_text(&question);
+    drop(question);
+    Ok(told_answer(told?))
+}
+
+/// The answer to words that ask what a change breaks.
+fn breaks_by<K: Keeper>(office: &mut Office<K>, words: &str) -> Result<Answer, StoreFault>
+    ensures asks { Asks K.Keeper office.old office.new }
+    ensures place { IfOk result (λ answer. HasPlace (K.setup office.old) answer) }
+    ensures tells { Holds K.Keeper office.old office.new → IfOk result (λ answer. TellsBreaks (state_of K.Keeper office.old) words.now answer) }
+    ensures counted { Counted (K.refusals office.old) (K.refusals office.new) result }
+{
+    match question_in(office.alloc(), office.setup(), words) {
+        Ok(question) => answer_question(office, question),
+        Err(MailFault::NoMemory) => Err(StoreFault::NoMemory),
+        Err(fault) => Ok(Answer::BadHint(refused_hint(office.alloc(), words, fault)?)),
+    }
+}
+
+/// The answer to a request for what the move of a source breaks.
+pub(crate) fn breaks_of<K: Keeper>(
+    office: &mut Office<K>,
+    source: Text,
+) -> Result<Answer, StoreFault>
+    ensures asks { Asks K.Keeper office.old office.new }
+    ensures place { IfOk result (λ answer. HasPlace (K.setup office.old) answer) }
+    ensures tells { Holds K.Keeper office.old office.new → IfOk result (λ answer. TellsBreaks (state_of K.Keeper office.old) source answer) }
+    ensures counted { Counted (K.refusals office.old) (K.refusals office.new) result }
+{
+    let answer = breaks_by(office, source.as_str());
+    drop(source);
+    answer
+}
+
+/// The short answer to a body that asks what a change breaks.
+pub(crate) fn breaks_body<K: Keeper>(
+    office: &mut Office<K>,
+    body: &str,
+) -> Result<Answer, StoreFault>
+    ensures asks { Asks K.Keeper office.old office.new }
+    ensures place { IfOk result (λ answer. HasPlace (K.setup office.old) answer) }
+    ensures tells { Holds K.Keeper office.old office.new → IfOk result (λ answer. TellsShortBreaks (state_of K.Keeper office.old) body.now answer) }
+    ensures counted { Counted (K.refusals office.old) (K.refusals office.new) result }
+{
+    let answer = breaks_by(office, body)?;
+    short_answer(office.alloc(), answer)
+}
