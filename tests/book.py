@@ -5,8 +5,8 @@ usage: book.py [TOP] [--write | --check]
 
 Which definitions and types the law needs is found by trusted.py. Their texts and comments are those of the files in
 crates/; the chapters and their sentences are in CHAPTERS. A chapter has the files that begin with one of its paths;
-the longest path counts. A file follows those that use it. In a file definitions
-keep their order.
+the longest path counts. A file follows those that use it. In a file definitions keep their order. A line of more than
+120 columns is broken: of a comment between words, of code at a space, where few brackets are open.
   TOP      the top of the repository (the one that this file is in)
   --write  puts the page into docs/BOOK.md; without it the page is printed
   --check  prints a line if docs/BOOK.md is another text; status 1 if it is
@@ -15,6 +15,7 @@ import re
 import sys
 import textwrap
 from collections import defaultdict, namedtuple
+from itertools import groupby
 from pathlib import Path
 sys.dont_write_bytecode = True
 from trusted import FIRST, Definition, Tree, added, close, lines_of
@@ -79,6 +80,13 @@ NOTATION = [
 ]
 
 
+WIDEST, SHORTEST = 120, 30
+# The cost of a break before a word, or after one, and for each open bracket.
+BEFORE = {'→': 0, '↔': 0, 'then': 1, 'else': 1, '|': 1, '&&': 1, '||': 1, '×': 1, '++': 1, '>>=': 1, '∷': 3, '(': 5}
+AFTER = {';': -3, ',': 1, 'in': 1, '=': 2, '↦': 5}
+ANYWHERE, BRACKET = 7, 4
+
+
 def label_of(at):
     """The file of a definition or of a type, from the top."""
     if isinstance(at, Definition):
@@ -89,7 +97,58 @@ def label_of(at):
 
 def wrapped(text):
     """A paragraph in lines of at most 120 columns."""
-    return textwrap.fill(text, 120, break_long_words=False, break_on_hyphens=False)
+    return textwrap.fill(text, WIDEST, break_long_words=False, break_on_hyphens=False)
+
+
+def spaces_in(line):
+    """The place of each space of a line of code outside of quotes, and how many brackets are open there."""
+    depth, is_quoted = 0, False
+    for place, char in enumerate(line):
+        is_quoted ^= char == '"'
+        if not is_quoted:
+            depth += (char in '([{') - (char in ')]}')
+        if char == ' ' and not is_quoted:
+            yield place, depth
+
+
+def break_cost(line, place, depth):
+    """What a break at a space of a line of code costs: the less, the better it reads."""
+    last, first = line[:place].split()[-1], line[place:].split()[0]
+    costs = BEFORE.get(first), BEFORE.get(first[0]), AFTER.get(last), AFTER.get(last[-1])
+    return min((cost for cost in costs if cost is not None), default=ANYWHERE) + BRACKET * depth
+
+
+def folded(line):
+    """A line of code in lines of at most 120 columns, with the same words; all but the first are further in."""
+    lines, further = [], ' ' * (len(line) - len(line.lstrip()) + 4)
+    while len(line) > WIDEST:
+        least = len(line) - len(line.lstrip()) + SHORTEST
+        fitting = [(break_cost(line, place, depth), -place)
+                   for place, depth in spaces_in(line) if least <= place <= WIDEST]
+        if not fitting:
+            break
+        place = -min(fitting)[1]
+        lines.append(line[:place])
+        line = further + line[place + 1:]
+    return lines + [line]
+
+
+def commented(lines, mark):
+    """The lines of a comment, in lines of at most 120 columns if one of them has more."""
+    if all(len(line) <= WIDEST for line in lines):
+        return lines
+    indent = lines[0][:len(lines[0]) - len(lines[0].lstrip())]
+    text = ' '.join(line.strip().removeprefix(mark).strip() for line in lines)
+    return textwrap.wrap(text, WIDEST, initial_indent=f'{indent}{mark} ', subsequent_indent=f'{indent}{mark} ',
+                         break_long_words=False, break_on_hyphens=False)
+
+
+def narrow(text):
+    """Code and its comments in lines of at most 120 columns."""
+    found = []
+    for mark, lines in groupby(text.split('\n'), key=lambda line: (re.match(r' *(///|--|//) ', line) or ['', ''])[1]):
+        found += commented([*lines], mark) if mark else [part for line in lines for part in folded(line)]
+    return '\n'.join(found)
 
 
 def followed(graph, start):
@@ -172,13 +231,13 @@ class Book:
             source = (self.top / label).read_text()
             items = sorted(items, key=lambda at: re.search(rf'\b{at.kind} {at.name}\b', source).start())
             yield wrapped(f'Types of the program. Used by others: {names}.')
-            yield '```rust\n' + '\n\n'.join(self.type_text(at) for at in items) + '\n```'
+            yield '```rust\n' + narrow('\n\n'.join(self.type_text(at) for at in items)) + '\n```'
         else:
             file = items[0].file
             yield wrapped(' '.join(line.removeprefix('--').strip() for line in file.head))
             yield wrapped(f'Used by others: {names}.')
             whole = ['\n'.join(at.lines).strip('\n') for at in file.definitions if at in items]
-            yield '```agda\n' + '\n\n'.join(whole) + '\n```'
+            yield '```agda\n' + narrow('\n\n'.join(whole)) + '\n```'
 
     def law(self):
         """The text of the law."""
@@ -196,11 +255,12 @@ class Book:
         yield wrapped(
             '`tests/book.py --write` makes this page from the files that it names, and `tests/trust.py` compares it with '
             'them. A file comes after those that use it. In a file each definition comes after those that it uses, so '
-            'the last one often says what the file is for. Comments are those of the files.')
+            'the last one often says what the file is for. Comments are those of the files. Only lines of more than 120 '
+            'columns are broken.')
         yield '\n'.join(['| Notation | How to read it |', '|---|---|'] + [f'| {this} | {says} |' for this, says in NOTATION])
         yield '## The headline'
         yield f'It stands in `{LAW}`. `no_content` keeps nothing, and has no finished run.'
-        yield f'```rust\n{self.law()}\n```'
+        yield f'```rust\n{narrow(self.law())}\n```'
 
     def back(self):
         """The names that the toolchain's libraries define."""

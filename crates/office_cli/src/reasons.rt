@@ -324,7 +324,7 @@ fn known_status(is_known: bool) -> u8
 
 /// Prints on standard error that the store isn't what its mail gives, and returns the exit status.
 fn tell_other_mail(rt: &HostRuntime) -> u8 {
-    let _ = eprintln!(rt; "office: the store isn't what its mail gives: office check tells where");
+    let _ = eprintln!(rt; "office: the store isn't what its mail gives: office check shows where");
     ExitStatus::Negative.code()
 }
 

@@ -11,58 +11,62 @@ use std::alloc::{AllocError, Global};
 const ABOUT: &str = "Decides which Debian source packages migrate from unstable to testing.";
 
 const AFTER: &str =
-    "office --version tells the version. Each command has its own help: office compare --help, office replay --help,
-office serve --help, office waiting --help, office report --help, office runs --help, office mail --help,
-office export --help, office check --help, office why --help, office try --help, office lint --help,
-office order --help, office hints --help, office propose --help, office breaks --help.
+    "office --version prints the version. Each command has its own help: office compare --help,
+office replay --help, office serve --help, office waiting --help, office report --help,
+office runs --help, office mail --help, office export --help, office check --help,
+office why --help, office try --help, office lint --help, office order --help,
+office hints --help, office propose --help, office breaks --help.
 
-Exit status: 0 done, or the comparison is true; 1 the comparison is false, an ordered run waits for mail, the run of a
-report isn't finished, the store isn't what its mail gives, unstable doesn't have a source, hints change nothing, a
-message is refused, or no hint moves a group or frees a source; 2 usage, or help was asked for; 3 a version, the setup,
-the bag or a hint was refused, or no day of the next run is known; 4 memory, a file, the store, the socket or the output
-failed.";
+Exit status:
+0  done, or the comparison is true
+1  the comparison is false, an ordered run waits for mail, the run of a report isn't finished, the
+   store isn't what its mail gives, unstable has no such source, the hints change nothing, a message
+   is refused, or no hint moves a group or frees a source
+2  usage, or help was asked for
+3  a version, the setup, the bag or a hint was refused, or no day is known for the next run
+4  memory, a file, the store, the socket or the output failed";
 
 const COMPARE: &str =
     "Compares two versions as Debian Policy 5.6.12 orders them: status 0 true, 1 false";
 
 const AFTER_COMPARE: &str = "Example: office compare 1.0~rc1 lt 1.0
 
-Nothing is printed: the answer is the exit status. A version that begins with a hyphen stands behind --,
-as in office compare -- -1 lt 1.";
+Nothing is printed: the answer is the exit status. A version that begins with a hyphen goes
+after --, as in office compare -- -1 lt 1.";
 
 const OPERATOR: &str =
     "lt, le, eq, ge or gt: whether V1 is less than V2, at most V2, the same version, at least V2, or greater than V2";
 
 const REPLAY: &str =
-    "Delivers the messages of a bag on standard input, finishes the runs that are ready, and prints what came of it";
+    "Delivers the bag on standard input, finishes the ready runs, and prints the result";
 
 const AFTER_REPLAY: &str = "Example: office replay --conf examples/setup.conf < examples/first.bag
 
-A bag has each message behind a line 'mail N', N being its length in bytes. Without --db the mail is kept in
-memory and is gone at the end.";
+In a bag each message follows a line 'mail N', N being its length in bytes. Without --db the mail
+is kept in memory and is gone at the end.";
 
-const SERVE: &str = "Takes mail and tells reports over HTTP on 127.0.0.1";
+const SERVE: &str = "Accepts mail and serves reports over HTTP on 127.0.0.1";
 
 const AFTER_SERVE: &str = "Example: office serve --conf examples/setup.conf --port 8080
          curl --data-binary @MESSAGE http://127.0.0.1:8080/mail
          curl http://127.0.0.1:8080/status
 
-Prints 'listening N' once it takes connections, and serves one after the other. Without --db the mail is kept
-in memory and is gone at the end.";
+Prints 'listening N' once it accepts connections, and serves one after the other. Without --db the
+mail is kept in memory and is gone at the end.";
 
 const HOST: &str =
     "A name of this service, besides 127.0.0.1, [::1] and localhost: other hosts are refused";
 
-const WAITING: &str = "Tells what the first run that isn't ready waits for: its order, or mail";
+const WAITING: &str = "Prints what the first run that isn't ready waits for: its order, or mail";
 
 const AFTER_WAITING: &str = "Example: office waiting --conf examples/setup.conf < examples/first.bag
 
-Without --db the messages of a bag on standard input are delivered first, to an office in memory. With it the
-store in the file is looked at, and standard input isn't read. Status 0: the run's order is awaited; 1: the run is
-ordered, and waits for mail.";
+Without --db it first delivers the messages of a bag on standard input to an office in memory.
+With --db it reads the store in the file, and not standard input. Status 0: the run isn't ordered
+yet; 1: it is ordered, and waits for mail.";
 
 const REPORT: &str =
-    "Tells a report of an earlier run, testing or unstable, from the store in a file";
+    "Prints a report of an earlier run, testing or unstable, from the store in a file";
 
 const AFTER_REPORT: &str =
     "Examples: office report 3 excuses --conf examples/setup.conf --db store.db
@@ -70,141 +74,151 @@ const AFTER_REPORT: &str =
           office report testing --conf examples/setup.conf --db store.db
           office report unstable --conf examples/setup.conf --db store.db
 
-Unstable is what the kept mail gives up to each sender's first gap, and testing what the last run left. No run is
-finished by it. Status 1, and nothing is printed: that run isn't finished.";
+Unstable is what the kept mail gives up to each sender's first gap. Testing is what the last run
+left. No run is finished. If that run isn't finished, nothing is printed, and the status is 1.";
 
 const RUN: &str = "The number of a finished run, from 1 on, or testing, or unstable";
 
-const TOLD: &str = "excuses or update, behind the number of a run";
+const TOLD: &str = "excuses or update, after the number of a run";
 
-const RUNS: &str = "Tells each finished run, from the store in a file";
+const RUNS: &str = "Prints a line for each finished run, from the store in a file";
 
 const AFTER_RUNS: &str = "Example: office runs --conf examples/setup.conf --db store.db
 
-A line for each run: run K DATE excuses E candidates C accept A easy G remove M wait W, which are counts of lines of
-its two reports.";
+Each line is 'run K DATE excuses E candidates C accept A easy G remove M wait W'. E to W are counts
+of lines in the two reports of run K.";
 
-const MAIL: &str = "Tells how much mail of each sender the store in a file keeps";
+const MAIL: &str = "Prints how much mail of each sender the store in a file keeps";
 
 const AFTER_MAIL: &str = "Examples: office mail --conf examples/setup.conf --db store.db
           office mail --conf examples/setup.conf --db store.db --list
 
-A line for each sender: mail SENDER COUNT kept, 1 to U, greatest G, where U is the last number up to which nothing
-is missing, and G the greatest number.";
+Each sender has a line 'mail SENDER COUNT kept, 1 to U, greatest G'. U is the last number up to
+which none is missing, and G is the greatest number.";
 
 const LIST: &str =
-    "Tells each message instead, by sender and number: its kind, and what it is about";
+    "Lists each message instead, by sender and number: its kind, and what it is about";
 
 const EXPORT: &str = "Writes the mail that the store in a file keeps as a bag";
 
 const AFTER_EXPORT: &str =
     "Example: office export --conf examples/setup.conf --db store.db > store.bag
 
-The messages stand by sender and number. An office that replays the bag has the same runs.";
+The messages are ordered by sender and number. An office that replays the bag has the same runs.";
 
 const CHECK: &str =
-    "Makes each run anew from the mail that the store in a file keeps, and tells whether the store is the same";
+    "Repeats each run from the mail in the store, and reports whether the store is the same";
 
 const AFTER_CHECK: &str = "Example: office check --conf examples/setup.conf --db store.db
 
-Prints one line: whole F runs, or the first difference: mail SENDER NUMBER, a kept text that is no message of that
-sender and number; run K mail, where not all that the run covers is kept; run K excuses or run K update, a report
-that differs; testing; facts. Nothing is changed. Status 1: a difference.";
+Prints one line: 'whole F runs', or the first difference. That is 'mail SENDER NUMBER' for a kept
+text that is no message of that sender and number; 'run K mail' if not all that the run covers is
+kept; 'run K excuses' or 'run K update' for a report that differs; 'testing'; or 'facts'. Nothing
+is changed. Status 1: there is a difference.";
 
-const WHY: &str = "Tells why a source stands where the last run left it, or an earlier one";
+const WHY: &str = "Explains why a source is where the last run, or an earlier one, left it";
 
 const AFTER_WHY: &str = "Examples: office why libgreet --conf examples/setup.conf --db store.db
           office why libgreet greeter --run 2 --conf examples/setup.conf < examples/archive.bag
 
-For each source a line why RUN SOURCE, then its excuse, or that it is in testing at unstable's version, or unknown;
-where each reason comes from, and each line of the run's update that names it: that it moves, that it waits and for
-what, or that another one waits for a package of its name; and of a source that waits, what shows that it can't move
-alone. With --hint N a line why RUN SENDER N, each line of the run's update on that hint, or how it stands, and what
-shows why it is refused. An earlier run is made anew, in memory, from the same mail. Status 1: the run isn't finished, or
-unstable doesn't have one of the sources, or the run doesn't cover one of the hints.";
+Prints a line 'why RUN SOURCE' for each source. Then come its excuse, or that it is in testing at
+unstable's version, or unknown; where each reason comes from; and each line of the run's update that
+names it. Such a line says that it moves, that it waits and for what, or that another source waits
+for a package of its name. If the source waits, further lines show why it can't move alone.
+
+With --hint N it prints a line 'why RUN SENDER N', then each line of the run's update on that hint,
+or the hint's state. If the run refuses the hint, further lines show why.
+
+An earlier run is repeated in memory from the same mail. Status 1: the run isn't finished, unstable
+doesn't have one of the sources, or the run doesn't cover one of the hints.";
 
 const SOURCE: &str = "The name of a source";
 
 const HINTED: &str =
-    "The words are numbers of hints, and not sources: tells what the run made of each hint";
+    "The words are numbers of hints instead of sources: prints what the run made of each hint";
 
-const RUN_TOLD: &str = "The number of a finished run; without it the last one";
+const RUN_TOLD: &str = "The number of a finished run; by default the last one";
 
-const TRY: &str = "Tells what the next run would decide with hints that aren't mailed yet";
+const TRY: &str = "Prints what the next run would decide with hints that aren't mailed yet";
 
 const AFTER_TRY: &str =
     "Example: office try 'unblock libgreet/2.0-1' --conf examples/setup.conf --db store.db
 
-Prints a line for each hint with the number that it would have, and then what the next run would say less (-) and
-more (+) of excuses, update and testing than without the hints; and of a hint that the run refuses what shows why.
-Nothing is kept. Status 1: nothing changes; 3: a hint can't be mailed.";
+Prints a line for each hint with the number that it would have. Then come the lines of excuses,
+update and testing that the next run would no longer have (-) and would have in addition (+). If
+the run refuses a hint, further lines show why. Nothing is kept. Status 1: nothing changes; 3: a
+hint can't be mailed.";
 
 const HINT: &str = "A hint, as in the Hint field of a message";
 
-const DAY: &str = "The day of the run, as 2025-03-20; without it that of the last run";
+const DAY: &str = "The day of the run, as 2025-03-20; by default that of the last run";
 
 const ALL: &str =
-    "Covers all mail that is kept without a gap, and not only what the last run covered";
+    "Covers all mail that is kept without a gap, instead of what the last run covered";
 
-const LINT: &str = "Tells which messages of a bag on standard input are refused, and keeps nothing";
+const LINT: &str =
+    "Reports which messages of a bag on standard input are refused, and keeps nothing";
 
 const AFTER_LINT: &str = "Example: office lint --conf examples/setup.conf < examples/first.bag
 
-The bag is replayed in an office in memory, and each refusal is told on standard error, with the place of its message.
-Nothing else is told. Status 0: all messages would be held; 1: one is refused.";
+Replays the bag in an office in memory, and reports each refusal on standard error, with the place
+of its message. Nothing else is printed. Status 0: all messages would be held; 1: one is refused.";
 
 const ORDER: &str =
-    "Tells the next order over all mail that the store in a file keeps without a gap";
+    "Prints the next order over all mail that the store in a file keeps without a gap";
 
 const AFTER_ORDER: &str =
     "Example: office order --day 2025-03-20 --conf examples/setup.conf --db store.db
 
-Prints a message of the sender of orders, which covers of each sender all mail up to its first gap. It can be mailed
-as it stands. Senders of whom nothing is kept aren't named.";
+Prints a message of the sender of orders. It covers all mail of each sender up to the first gap,
+and doesn't name a sender without kept mail. It can be mailed as it is.";
 
 const DATED: &str = "The day of the order, as 2025-03-20";
 
 const HINTS: &str =
-    "Tells the hints in force, by the mail that the store in a file keeps without a gap";
+    "Prints the hints in force, from the mail that the store in a file keeps without a gap";
 
 const AFTER_HINTS: &str = "Example: office hints --conf examples/setup.conf --db store.db
 
-Behind the line hints F, F being the number of finished runs, a line for each item of each hint: SENDER N covered or
-new, the hint, and how it stands: in force; moved, if testing has that version; no source, if unstable has none of that
-name; or the version that unstable has.";
+The first line is 'hints F', F being the number of finished runs. Then each item of each hint has a
+line: SENDER N, 'covered' or 'new', the hint, and the item's state. The state is 'in force'; 'moved'
+if testing has that version; 'no source' if unstable has none of that name; or unstable's version.";
 
 const PROPOSE: &str =
-    "Tells hints that move groups of sources in the next run, or those that free some sources";
+    "Prints hints that move groups of sources in the next run, or hints that free some sources";
 
 const AFTER_PROPOSE: &str = "Examples: office propose --conf examples/setup.conf --db store.db
           office propose libgreet --day 2025-03-20 --all --conf examples/setup.conf --db store.db
 
-Prints easy hints, one in a line, in the order in which they are to be numbered: a run that covers them moves each
-group. With a SOURCE the hints that free it; standard error tells of each source that has none. Nothing is kept.
-Status 1: there is no hint, or one of the sources isn't moved; 3: no run is finished, and no day is named.";
+Prints easy hints, one a line, in the order in which to number them. A run that covers them moves
+each group. With SOURCE, it prints the hints that free that source, and reports on standard error
+each source that has none. Nothing is kept. Status 1: there is no hint, or one of the sources isn't
+moved; 3: no run is finished, and no day is named.";
 
-const BREAKS: &str = "Tells which packages of testing would break if sources moved or went";
+const BREAKS: &str = "Prints which packages of testing would break if sources moved or went";
 
 const AFTER_BREAKS: &str =
     "Examples: office breaks libgreet --conf examples/setup.conf --db store.db
           office breaks 'remove libgreet/1.2-1' --run 1 --conf examples/setup.conf < examples/archive.bag
 
-For each CHANGE a line breaks RUN CHANGE, then for each architecture broken ARCH COUNT and the first hundred packages
-that would no longer be installable, each with what unstable has in its place; and if sources come in, what shows it of
-the first package. Nothing is kept. Status 1: the run isn't finished, or a line unknown tells what can't change; 3: a
-CHANGE is no name of a source, and no hint easy or remove.";
+Prints a line 'breaks RUN CHANGE' for each CHANGE. Then come for each architecture a line
+'broken ARCH COUNT' and the first hundred packages that would no longer be installable, each with
+the package of its name in unstable. If sources come in, further lines show why the first package
+breaks. Nothing is kept. Status 1: the run isn't finished, or a line 'unknown' names what can't
+change; 3: a CHANGE is neither the name of a source nor a hint 'easy' or 'remove'.";
 
 const CHANGE: &str =
     "The name of a source that moves, or a hint: easy NAME/VERSION .. or remove NAME/VERSION ..";
 
-const FREED: &str = "The name of a source that is to move";
+const FREED: &str = "The name of a source that should move";
 
 const SETUP: &str =
     "The file of the setup: the architectures, and the senders of mail with their roles";
 
-const STORE: &str = "The file that keeps mail, reports and testing; it is made where there is none";
+const STORE: &str =
+    "The file that keeps mail, reports and testing; it is created if it doesn't exist";
 
-const LOOKED_AT: &str = "The file of a store that is there";
+const LOOKED_AT: &str = "The file of an existing store";
 
 /// `--conf SETUP`, required.
 fn conf_option<'a>(alloc: Global) -> Arg<'a>

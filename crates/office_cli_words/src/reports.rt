@@ -5,7 +5,7 @@ ghost use Rattle.office_cli_words.specs.Asked.{number_in, report_alone, report_o
 
 /// Why words name no report.
 const NO_REPORT: &str =
-    "no report: name testing or unstable, or the number of a run from 1 on, and excuses or update behind it";
+    "no report: name testing or unstable, or the number of a run from 1 on and then excuses or update";
 
 /// A report of an earlier run, testing, or unstable.
 #[derive(Clone, Copy, Debug, PartialEq, Eq)]

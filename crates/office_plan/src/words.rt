@@ -6,17 +6,21 @@ use clap::{Arg, ArgAction, ArgMatches, Command, Error};
 use std::alloc::{AllocError, Global};
 
 const ABOUT: &str =
-    "Plans what to copy into a published suite and what to remove from it, so that it has what testing has.";
+    "Plans what to copy into a suite and what to remove from it, so that it has what testing has.";
 
 const AFTER: &str =
-    "Each file is a list as dak's control-suite has them: a line NAME VERSION ARCHITECTURE for each binary package, and
-NAME VERSION source for each source. The plan's lines are copy NAME VERSION ARCHITECTURE first, and then
-remove NAME VERSION ARCHITECTURE. Once they are done, the plan is empty.
+    "Each file is a list like those of dak's control-suite: it has a line 'NAME VERSION ARCHITECTURE'
+for each binary package, and 'NAME VERSION source' for each source. In the plan, the lines
+'copy NAME VERSION ARCHITECTURE' precede the lines 'remove NAME VERSION ARCHITECTURE'. Once they
+are done, the plan is empty.
 
-Exit status: 0 the plan is printed; 2 usage, or help was asked for; 3 there is no plan: a list is refused, or lines are
-printed that say why: lacks NAME VERSION ARCHITECTURE for each item that FROM hasn't, lower NAME VERSION ARCHITECTURE
-for each that would go to a lower version, or leaving N if more than --gone would leave the suite; 4 memory, a file or
-the output failed.";
+Exit status:
+0  the plan is printed
+2  usage, or help was asked for
+3  a list is refused, or lines say why there is no plan: 'lacks NAME VERSION ARCHITECTURE' for each
+   item that FROM doesn't have, 'lower NAME VERSION ARCHITECTURE' for each that would go to a lower
+   version, or 'leaving N' if more than --gone allows would leave the suite
+4  memory, a file or the output failed";
 
 const TESTING: &str = "The list of what testing has";
 
