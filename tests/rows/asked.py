@@ -7,8 +7,8 @@ from model import ARCHS, Office, Refused, SENDERS, satisfies, vcmp
 RELEASE, CLOCK = SENDERS.index("rt"), SENDERS.index("clock")
 NEED = re.compile(r"(\d+) (\S+) (\S+) of (\S+) (comes in|in testing), needs (.+): "
                   r"(nothing|\d+(?: and \d+)*?)(?: and (\d+) more)?")
-# How many numbers of lines a line prints.
-TOLD = 12
+# How many numbers of lines a line prints, and how many refusals a trial explains.
+TOLD, MOST_EXPLAINED = 12, 3
 
 
 def unbroken(kept, sender):
@@ -83,7 +83,7 @@ class TriedText(str):
 
     def __eq__(self, told):
         due = [change for change in self.late.refused if change.number > self.behind]
-        return told.startswith(str(self)) and reasons_fault(self.late, due, told[len(self) :]) is None
+        return told.startswith(str(self)) and trial_fault(self.late, due, told[len(self) :]) is None
 
     def __ne__(self, told):
         return not self == told
@@ -236,6 +236,15 @@ def reasons_fault(office, due, text):
         if fault is not None:
             return "%s: %s" % (head, fault)
     return None
+
+
+def trial_fault(office, due, text):
+    """What is wrong with a trial's text on why these changes were refused; None if nothing is. It explains the first three."""
+    more = len(due) - len(due[:MOST_EXPLAINED])
+    end = "and %d more are refused\n" % more if more else ""
+    if not text.endswith(end):
+        return "%r is due at the end of %r" % (end, text)
+    return reasons_fault(office, due[:MOST_EXPLAINED], text[: len(text) - len(end)])
 
 
 def hint_standing(office, number):

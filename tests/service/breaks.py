@@ -1,17 +1,19 @@
 #!/usr/bin/env python3
 """What `office breaks` tells, beside two whole solutions by tests/rows/model.py.
 
-  breaks.py PROGRAM [FIRST-LAST]
+  breaks.py PROGRAM [FIRST-LAST [PORT]]
 
 PROGRAM is the built program, `crates/office/out/office`. For each seed from FIRST to LAST (1-40) it asks over a bag
 what breaks by the move of each source, by groups and by removals that are drawn. The rows have to be exactly those that
 the model has in the one solution and not in the other, in their order, with what unstable has in their place; the lines
-behind them have to show the first one. Exit status 0 where all was as it is due.
+after them have to show the first one. A service at PORT (9731) has to answer the same, for each tenth seed. Exit status
+0 if all was as it is due.
 """
 import os
 import random
 import re
 import sys
+import tempfile
 sys.dont_write_bytecode = True
 HERE = os.path.dirname(os.path.abspath(__file__))
 sys.path[:0] = [HERE, os.path.join(HERE, "..", "rows")]
@@ -20,6 +22,9 @@ from drawn import texts_of, versions_of
 from model import Office
 from rows import mail
 from tries import CONF, Tries
+
+# Words that name no change.
+WRONG = ("block a0", "easy a0", "remove a0", "force a0/1", "No name")
 
 
 def items_of(draw, office, names):
@@ -57,14 +62,33 @@ def try_seed(tries, seed, counts):
         counts["changes"] += 1
         counts["that break rows"] += "\nuninstallable " in part
         counts["rows"] += part.count("\nuninstallable ")
+    if seed % 10 == 0:
+        by_service(tries, seed, bag, dict(zip(changes, parts)))
+
+
+def by_service(tries, seed, bag, parts):
+    """A service answers what the command prints, and refuses the same words."""
+    with tempfile.TemporaryDirectory() as folder:
+        store = os.path.join(folder, "store")
+        tries.run("replay", "--conf", CONF, "--db", store, bag=bag)
+        with tries.serving(1000, "--db", store) as service:
+            for words, part in parts.items():
+                what = "seed %d, the service on %s" % (seed, words)
+                tries.want(what, (200, part), service.ask("POST", "/breaks", words))
+                if "/" not in words:
+                    tries.want(what + ", by its name", (200, part), service.ask("GET", "/breaks/" + words))
+            for words in WRONG:
+                due = "'%s': refused BadValue Hint\n" % words
+                tries.want("the service on %r" % words, (400, due), service.ask("POST", "/breaks", words))
+            service.process.terminate()
 
 
 def main():
     """Tries the seeds, and refused words."""
-    tries, counts = Tries(sys.argv, 0), {"changes": 0, "that break rows": 0, "rows": 0}
+    tries, counts = Tries(sys.argv, 9731), {"changes": 0, "that break rows": 0, "rows": 0}
     for seed in tries.seeds("1-40"):
         try_seed(tries, seed, counts)
-    for words in ("block a0", "easy a0", "remove a0", "force a0/1", "No name"):
+    for words in WRONG:
         told, status = tries.call("breaks", words, "--conf", CONF, bag=mail(texts_of(1)))
         tries.want(words, ("", 3), (told, status))
     print(", ".join("%d %s" % (count, what) for what, count in counts.items()))

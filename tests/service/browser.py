@@ -36,6 +36,7 @@ UNKNOWN = ["evil.example", "office.example.evil", "evil.office.example", "office
            "localhost.evil.example", "::1", "[::1", "[::1]x", "office.exampl", "bb"]
 # The paths that a POST takes, each with a body.
 POSTS = [("/mail", HINT % 1), ("/mail/rt", HINT % 1), ("/lint", HINT % 1), ("/settle", ""), ("/try", "block-all source\n"),
+         ("/breaks", "greeter"),
          ("/try/2025-03-20", "block-all source\n")]
 faults = []
 tried = 0

@@ -65,13 +65,13 @@ ODD += [
     ("GET", "/bag/ftp/1/2", NO_ROUTE),
     ("GET", "/bag", NO_ROUTE),
 ]
-ODD += [("POST", path, ONLY_GET) for path in ("/hints", "/unstable")]
+ODD += [("POST", path, ONLY_GET) for path in ("/hints", "/unstable", "/breaks/greeter", "/propose/2025-03-01")]
 ODD += [
     ("GET", path, NO_ROUTE)
-    for path in ("/hints/", "/unstable/", "/lint/", "/try/", "/mail/", "/mail/none", "/mail/ftp/1")
+    for path in ("/hints/", "/unstable/", "/lint/", "/try/", "/mail/", "/mail/none", "/mail/ftp/1", "/breaks/", "/breaks/X")
 ]
 ODD += [("POST", "/mail/" + name, NO_ROUTE) for name in ("none", "", "FTP", "%66tp", "ftp/", "ftp/../rt")]
-ODD += [("GET", path, (405, "refused MethodNotAllowed\n")) for path in ("/mail/ftp", "/lint", "/try/2025-03-01")]
+ODD += [("GET", path, (405, "refused MethodNotAllowed\n")) for path in ("/mail/ftp", "/lint", "/try/2025-03-01", "/breaks")]
 ODD += [("POST", "/try/" + day, NO_ROUTE) for day in ("2025-02-30", "x", "20250301")]
 # Messages of a sender by number, and how many bytes each has: in a bag 11 more, or 8 for the last one. Number 7 isn't
 # kept. Then the parts of its bag by where they begin: how many bytes each has, and whose messages they are.

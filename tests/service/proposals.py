@@ -15,6 +15,7 @@ beside what all sequences of groups move. Exit status 0 where all was as it is d
 import os
 import random
 import re
+import shutil
 import sys
 import tempfile
 
@@ -31,6 +32,8 @@ from tries import CONF, Tries
 tries = Tries(sys.argv, port=18790)
 want = tries.want
 counts = dict.fromkeys(["wait", "can move", "move", "stuck", "shown", "hints", "groups", "in a service"], 0)
+# A day after all orders.
+LATE = "2025-12-01"
 TOLD = re.compile(
     r"office: run (\d+) of (\S+): (\d+) hints(?:, (\S+) (\d+) to (\d+))?; "
     r"(\d+) of (\d+) sources that wait move, (\d+) are stuck\n"
@@ -332,10 +335,13 @@ def by_service(what, behind, texts, bag):
     with tempfile.TemporaryDirectory() as folder:
         store = os.path.join(folder, "store")
         tries.call("replay", "--conf", CONF, "--db", store, bag=bag)
+        shutil.copy(store, store + ".copy")
         with tries.serving(1000, "--db", store) as service:
             code, printed = service.ask("GET", "/propose")
             hints = printed.splitlines()
             want(what + ": the page", 200, code)
+            due = tries.call("propose", "--day", LATE, "--all", "--conf", CONF, "--db", store + ".copy")[0]
+            want(what + ": for a day", (200, due), service.ask("GET", "/propose/" + LATE))
             if hints:
                 due = tried(behind.office, hints[:1])[0]
                 want(what + ": the trial", (200, due), service.ask("POST", "/try", hints[0]))

@@ -149,6 +149,10 @@ ROWS = [
     ("bts", "GET", "/order/2025-03-20", None, (200, b"From: clock\nNumber: 1\nKind: run\nDay: 2025-03-20\n"
                                                b"Covers: ftp 3, bd 1, bts 1, rt 1\n")),
     ("bts", "GET", "/propose", None, (404, b"refused NoRun\n")),
+    ("bts", "GET", "/propose/2025-03-20", None, (200, b"")),
+    ("bts", "POST", "/breaks", b"greeter", (404, b"refused NoRun\n")),
+    ("bts", "GET", "/breaks/greeter", None, (404, b"refused NoRun\n")),
+    ("bts", "GET", "/breaks", None, (403, None)),
     ("rt", "POST", "/lint", HINT % 2, (200, b"held rt 2\n")),
     ("ftp", "POST", "/lint", HINT % 2, (200, b"held rt 2\n")),
     ("rt", "POST", "/try", b"block-all source\n", (404, b"refused NoRun\n")),
@@ -172,7 +176,7 @@ def requests():
     # what a browser sends for a page, also for a user who is logged in
     for fields in ([("Origin", "https://evil.example")], [("Origin", "null")], [("Sec-Fetch-Site", "cross-site")],
                    [("Sec-Fetch-Site", "same-site")]):
-        for path in ("/mail/ftp", "/lint", "/try/2025-03-20"):
+        for path in ("/mail/ftp", "/lint", "/try/2025-03-20", "/breaks"):
             want("a page's POST %s, %s" % (path, fields), (403, b"refused OtherOrigin\n"),
                  ask("POST", path, NONE % (b"ftp", 5), "ftp", fields))
         want("a page's POST without a login", OTHER, ask("POST", "/mail/ftp", NONE % (b"ftp", 5), headers=fields))

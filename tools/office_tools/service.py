@@ -180,13 +180,17 @@ class Service:
         """What the next run sees of unstable if its order covers all mail without a gap."""
         return reports.read_unstable(self.good_text("/unstable"), self.url + "/unstable")
 
-    def proposed(self) -> Optional[str]:
-        """The hints for groups that the office proposes, one a line; None if no run is finished."""
-        reply = self.get("/propose")
+    def proposed(self, day: Optional[datetime.date] = None) -> Optional[str]:
+        """The hints for groups that the office proposes, one a line; None if no run is finished and no day is stated.
+
+        With a day they are those for a run on that day or later over all mail without a gap, as its order would have it.
+        """
+        path = f"/propose/{day.isoformat()}" if day else "/propose"
+        reply = self.get(path)
         if reply.status == http.client.NOT_FOUND and reply.text == "refused NoRun":
             return None
         if not reply.is_good:
-            raise self.bad("/propose", reply)
+            raise self.bad(path, reply)
         return reply.body.decode()
 
     def testing(self) -> reports.Testing:

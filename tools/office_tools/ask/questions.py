@@ -21,6 +21,7 @@ CUT = re.compile(rb"\nleft out \d+ lines\n\Z")
 SOURCE = re.compile(r"[a-z0-9][a-z0-9+.-]+")
 CHANGE = re.compile(rb"^[-+](excuse|update|testing) ", re.MULTILINE)
 HINT_REFUSED = re.compile(r"'.*': refused ", re.DOTALL)
+UNKNOWN = re.compile(rb"^unknown ", re.MULTILINE)
 WAITS_FOR_MAIL = re.compile(rb"^run \d+ waits for \S+ \d+ of \d+$", re.MULTILINE)
 LAST_RUNS_DAY = "1970-01-01"  # a trial takes the later of its day and the last run's
 UNDATED = "office-ask: no run is finished: name the day of the next one by --day\n"
@@ -98,7 +99,7 @@ class Questions:
         parts = [self.why_source(source, finished) for source in sources]
         if any(is_cut(part.text) for part in parts):
             return self.copy.ask(["why", *sources])
-        return Answer(b"".join(part.text for part in parts), max(part.status for part in parts))
+        return joined(parts)
 
     def why_source(self, source: str, finished: int) -> Answer:
         """Why a source is where the last run left it. No route has a word that is no name of a source."""
@@ -114,9 +115,35 @@ class Questions:
         return self.copy.ask(["why", "--hint", *asked, *numbers])
 
     def breaks(self, changes: Sequence[str], run: Optional[int]) -> Answer:
-        """What changes would break where a run left testing, by the copy: no route answers it."""
-        asked = [] if run is None else ["--run", str(run)]
-        return self.copy.ask(["breaks", *asked, *changes])
+        """What changes would break where a run left testing: the last one if none is named."""
+        finished = self.service.status().finished
+        words = ["breaks", *([] if run is None else ["--run", str(run)]), *changes]
+        if run is not None and run < finished:
+            return self.copy.ask(words)
+        if not finished or (run is not None and run > finished):
+            return Answer(b"", NO, self.unfinished(str(run or 1)))
+        parts: list[Answer] = []
+        for change in changes:
+            part = self.breaks_by(change)
+            if part is None or is_cut(part.text):
+                return self.copy.ask(words)
+            parts.append(part)
+            if part.status == REFUSED:
+                break
+        return joined(parts)
+
+    def breaks_by(self, change: str) -> Optional[Answer]:
+        """What a change would break where the last run left testing; None if no request asks for it."""
+        body = change.encode()
+        if len(body) > LONGEST_BODY:
+            return None
+        reply = self.service.post("/breaks", body)
+        if is_refused(reply, "NoRoute"):
+            return None
+        if reply.status == http.client.BAD_REQUEST and HINT_REFUSED.match(reply.text):
+            return Answer(b"", REFUSED, f"office-ask: {reply.text}\n")
+        told = self.good("/breaks", reply)
+        return Answer(told, NO if UNKNOWN.search(told) else 0)
 
     def trial(self, hints: Sequence[str], on: Next) -> Answer:
         """What hints would change in the next run: status 1 if nothing, 3 if one of them is refused."""
@@ -143,9 +170,10 @@ class Questions:
         for source in sources:
             if not SOURCE.fullmatch(source):
                 return Answer(b"", WORDS_ARE_WRONG, f"office-ask: {source!r}: no name of a source\n")
-        if on.words or len(sources) > 1:
+        is_dated = bool(on.is_all and not sources and (on.day or self.service.status().finished))
+        if len(sources) > 1 or (on.words and not is_dated):
             return self.copy.ask(words)
-        path = "/".join(["/propose", *sources])
+        path = f"/propose/{on.day or LAST_RUNS_DAY}" if is_dated else "/".join(["/propose", *sources])
         reply = self.service.get(path)
         if is_refused(reply, "NoRun"):
             return Answer(b"", REFUSED, UNDATED)
@@ -173,6 +201,12 @@ def proposal_status(body: bytes, sources: Sequence[str]) -> Optional[int]:
     if any(line.startswith("stuck ") for line in lines):
         return NO
     return 0 if any(f" {sources[0]}/" in line for line in lines if line.startswith("easy ")) else None
+
+
+def joined(parts: Sequence[Answer]) -> Answer:
+    """Several answers as one, with the greatest status."""
+    return Answer(b"".join(part.text for part in parts), max(part.status for part in parts),
+                  "".join(part.told for part in parts))
 
 
 def is_cut(body: bytes) -> bool:

@@ -85,7 +85,7 @@ class Feed:
 
     def proposals(self, day: datetime.date) -> Sequence[bytes]:
         """Hints for the groups that the office proposes, without those in force."""
-        wishes = (self.service.proposed() or "").splitlines()
+        wishes = (self.service.proposed(day) or "").splitlines()
         standing: dict[int, str] = {}
         for item in self.service.hints().items:
             standing[item.number] = f"{standing.get(item.number, item.words)} {item.item}"

@@ -1,5 +1,6 @@
 """office-look: judges the testing that the next order would make, and blocks what can't be installed there."""
 import argparse
+import datetime
 import functools
 import os
 import sys
@@ -129,12 +130,12 @@ def step(look: Look, asked: argparse.Namespace, told: set[str], hints: Sequence[
     return status
 
 
-def proposed(service: Service) -> Sequence[str]:
-    """The hints for groups that the office proposes, without those in force."""
+def proposed(service: Service, day: datetime.date) -> Sequence[str]:
+    """The hints for groups that the office proposes for the run of a day, without those in force."""
     standing: dict[int, str] = {}
     for item in service.hints().items:
         standing[item.number] = f"{standing.get(item.number, item.words)} {item.item}"
-    return [hint for hint in (service.proposed() or "").splitlines() if hint not in standing.values()]
+    return [hint for hint in (service.proposed(day) or "").splitlines() if hint not in standing.values()]
 
 
 def main(words: Sequence[str]) -> int:
@@ -169,7 +170,7 @@ def main(words: Sequence[str]) -> int:
             tell(f"blocked: {block.source} {block.version}")
     if asked.propose and not asked.dry_run:
         look.begin()
-        hints = proposed(service)
+        hints = proposed(service, asked.day)
         print(f"proposed {len(hints)}")
         if hints:
             status = max(status, step(look, asked, told, hints))
