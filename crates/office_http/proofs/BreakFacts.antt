@@ -10,10 +10,10 @@ use Rattle.office_http_requests.specs.declared.reply.Answer.TheVariants.{Refused
 use Rattle.office_http_requests.specs.declared.request.Action.TheVariants.{Breaks}
 use Rattle.office_core_replay.specs.Losses.{TextCounted}
 use Rattle.office_core_facts.specs.OfficeState.{OfficeState}
-use Rattle.office_http.specs.Breaks.{breaks_answer}
+use Rattle.office_http.specs.Breaks.{changes_answer}
 use Rattle.office_http.specs.Serve.{refusal_for, Moves}
-use Rattle.office_http.specs.ServeSteps.{answer_or, TellsShortBreaks, Runs}
-use Rattle.office_http.specs.ShortTexts.{short_answer}
+use Rattle.office_http.specs.ServeSteps.{answer_or, TellsChanges, Runs}
+use Rattle.office_http.specs.Trials.{hints_in}
 use Rattle.office_http.proofs.ServeFacts.{nothing, still_moves}
 
 -- the question does nothing
@@ -24,13 +24,13 @@ asked_missed : (rose : Type 0) (before after : OfficeState) (body : List ℕ) (f
 asked_missed rose before after body f counted same = record { fault = Some f; by_store = counted; found = nothing; is = λ e. absurd (cc (e)); answer_is = refl; moves = asked_moves rose before after body (Some f) same }
 
 -- and is answered by what is told of it
-pub asked : (rose : Type 0) (before after : OfficeState) (body : List ℕ) (r : Result Answer StoreFault) → is_utf8 body ≡ true → IfOk r (TellsShortBreaks before body) → after ≡ before → (r ≡ Err fault.Store → rose) → Runs before after Breaks body (answer_or r) rose
+pub asked : (rose : Type 0) (before after : OfficeState) (body : List ℕ) (r : Result Answer StoreFault) → is_utf8 body ≡ true → IfOk r (TellsChanges before (hints_in body)) → after ≡ before → (r ≡ Err fault.Store → rose) → Runs before after Breaks body (answer_or r) rose
 asked rose before after body (Ok answer) legible h same err = record {
   fault = None;
   by_store = tt;
   found = record nothing { breaks = h.told };
-  is = λ e u. h.is;
-  answer_is = h.answer_is ∙ sym (ap (λ b. cond b (short_answer (breaks_answer before.setup body h.told)) (Delivered (Err (Mail mail.BadParagraph)))) legible);
+  is = λ e u one. h.is one;
+  answer_is = h.answer_is ∙ sym (ap (λ b. cond b (changes_answer before.setup (hints_in body) h.told) (Delivered (Err (Mail mail.BadParagraph)))) legible);
   moves = asked_moves rose before after body None same;
 }
 asked rose before after body (Err fault.NoMemory) legible h same err = asked_missed rose before after body fault.NoMemory tt same
@@ -42,7 +42,7 @@ asked_bad rose s body bad = record {
   fault = None;
   by_store = tt;
   found = nothing;
-  is = λ e u. absurd (let no : true ≡ false = sym u ∙ bad in cc);
-  answer_is = sym (ap (λ b. cond b (short_answer (breaks_answer s.setup body None)) (Delivered (Err (Mail mail.BadParagraph)))) bad);
+  is = λ e u one. absurd (let no : true ≡ false = sym u ∙ bad in cc);
+  answer_is = sym (ap (λ b. cond b (changes_answer s.setup (hints_in body) None) (Delivered (Err (Mail mail.BadParagraph)))) bad);
   moves = asked_moves rose s s body None refl;
 }

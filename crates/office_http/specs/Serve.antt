@@ -57,7 +57,7 @@ use Rattle.office_core_facts.specs.Seen.{IsSeen}
 use Rattle.office_core_facts.specs.State.{answer_to, reports_at}
 use Rattle.office_core_orders.specs.Waiting.{Awaits}
 use Rattle.office_core_orders.specs.Written.{AppendsFront}
-use Rattle.office_http.specs.Breaks.{IsBreaksBy, body_answer, breaks_answer}
+use Rattle.office_http.specs.Breaks.{IsBreaksBy, are_many, body_answer, breaks_answer, first_change}
 use Rattle.office_http.specs.ShortTexts.{short_page}
 use Rattle.office_http.specs.Trials.{has_many_hints, hints_in, request_terms, terms_on, tried_answer}
 use Rattle.office_core_why.specs.Hints.{hints_text}
@@ -236,7 +236,7 @@ IsFoundFor s found added = IsFoundForAdded s found added
 abbrev pub IsFoundByAdded : OfficeState → Found → Action → List ℕ → Type 0
 IsFoundByAdded s found Try body = has_many_hints body ≡ false → is_utf8 body ≡ true → IsTrial s.setup s.kept s.finished request_terms (hints_in body) found.trial
 IsFoundByAdded s found (TryOn day) body = has_many_hints body ≡ false → is_utf8 body ≡ true → IsTrial s.setup s.kept s.finished (terms_on day) (hints_in body) found.trial
-IsFoundByAdded s found Breaks body = is_utf8 body ≡ true → IsBreaksBy s body found.breaks
+IsFoundByAdded s found Breaks body = is_utf8 body ≡ true → are_many (hints_in body) ≡ false → IsBreaksBy s (first_change (hints_in body)) found.breaks
 IsFoundByAdded s found _ body = ⊤
 
 -- as far as the answer to any POST does

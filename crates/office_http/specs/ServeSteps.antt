@@ -1,6 +1,6 @@
 -- Steps: no contract of a call that users make rests on this file.
 -- The parts of the outcome of one connection: how it is answered, and how it stops.
-use Rattle.std.specs.Prelude.{◌≡◌, ◌⊎◌, ◌≤◌, ◌+◌, ℕ, Bool, true, List, ◌++◌, length, Option, Some, None, Result, Ok, Err}
+use Rattle.std.specs.Prelude.{◌≡◌, ◌⊎◌, ◌≤◌, ◌+◌, ℕ, Bool, true, false, List, ◌++◌, length, Option, Some, None, Result, Ok, Err}
 use Rattle.std.specs.Io.KnownBytes.{Appends, Consumes}
 use Rattle.office_mail.specs.Runs.{IsReadyCount}
 use Rattle.office_core_orders.specs.declared.faults.Progress.{Progress}
@@ -30,8 +30,7 @@ use Rattle.office_core_outcome.specs.declared.TrialOptions.{TrialOptions}
 use Rattle.office_core_outcome.specs.Trial.{IsTrial}
 use Rattle.office_core_outcome.specs.declared.proposal.Proposal.{Proposal}
 use Rattle.office_http.specs.Serve.{refusal_for, by_fault, added_page, page_answer, action_answer, posted_body, answer_of, proposal_answer, waits_of, continued, Found, IsFound, IsFoundBy, IsFoundFor, IsProposedFor, Moves, Does, IsWhole, IsAwaited, StopsBefore, Exchange}
-use Rattle.office_http.specs.Breaks.{IsBreaksBy, breaks_answer}
-use Rattle.office_http.specs.ShortTexts.{short_answer}
+use Rattle.office_http.specs.Breaks.{IsBreaksBy, are_many, breaks_answer, changes_answer, first_change}
 use Rattle.office_http.specs.Trials.{trial_answer}
 
 -- the answers of the office's calls
@@ -89,11 +88,11 @@ pub record TellsBreaks (s : OfficeState) (words : List ℕ) (answer : Answer) : 
   pub is : IsBreaksBy s words told
   pub answer_is : answer ≡ breaks_answer s.setup words told
 
--- the same, short
-pub record TellsShortBreaks (s : OfficeState) (words : List ℕ) (answer : Answer) : Type 0 where
+-- the answer to changes
+pub record TellsChanges (s : OfficeState) (changes : List (List ℕ)) (answer : Answer) : Type 0 where
   pub told : Option BreaksText
-  pub is : IsBreaksBy s words told
-  pub answer_is : answer ≡ short_answer (breaks_answer s.setup words told)
+  pub is : are_many changes ≡ false → IsBreaksBy s (first_change changes) told
+  pub answer_is : answer ≡ changes_answer s.setup changes told
 
 -- the text of a page, however long it is
 abbrev pub whole_page : OfficeState → Found → Page → Answer

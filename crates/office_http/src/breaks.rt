@@ -3,11 +3,12 @@ ghost use Rattle.std.specs.Prelude.{◌≡◌, IfOk};
 ghost use Rattle.office_core.specs.Preserves.{Asks, Holds};
 ghost use Rattle.office_core_facts.specs.State.{state_of};
 ghost use Rattle.office_core_orders.specs.Counted.{Counted};
-ghost use Rattle.office_http.specs.ServeSteps.{TellsBreaks, TellsQuestion, TellsShortBreaks, told_answer};
+ghost use Rattle.office_http.specs.ServeSteps.{TellsBreaks, TellsChanges, TellsQuestion, told_answer};
+ghost use Rattle.office_http.specs.Trials.{hints_in};
 ghost use Rattle.office_http_requests.specs.Reply.{HasPlace};
 
 use crate::short_texts::short_answer;
-use crate::trials::refused_hint;
+use crate::trials::{hint_at, hints_in, refused_hint};
 use deb_control::Text;
 use office_core::Office;
 use office_core_breaks::{BreaksText, Question, question_in};
@@ -70,16 +71,35 @@ pub(crate) fn breaks_of<K: Keeper>(
     answer
 }
 
-/// The short answer to a body that asks what a change breaks.
+/// The answer to changes: one request asks about one.
+fn answer_changes<K: Keeper>(
+    office: &mut Office<K>,
+    changes: &[Text],
+) -> Result<Answer, StoreFault>
+    ensures asks { Asks K.Keeper office.old office.new }
+    ensures place { IfOk result (λ answer. HasPlace (K.setup office.old) answer) }
+    ensures tells { Holds K.Keeper office.old office.new → IfOk result (λ answer. TellsChanges (state_of K.Keeper office.old) changes.now answer) }
+    ensures counted { Counted (K.refusals office.old) (K.refusals office.new) result }
+{
+    if changes.len() > 1 {
+        return Ok(Answer::Refused(Refusal::TooManyHints));
+    }
+    let answer = breaks_by(office, hint_at(changes, 0))?;
+    short_answer(office.alloc(), answer)
+}
+
+/// The answer to a body that asks what a change breaks.
 pub(crate) fn breaks_body<K: Keeper>(
     office: &mut Office<K>,
     body: &str,
 ) -> Result<Answer, StoreFault>
     ensures asks { Asks K.Keeper office.old office.new }
     ensures place { IfOk result (λ answer. HasPlace (K.setup office.old) answer) }
-    ensures tells { Holds K.Keeper office.old office.new → IfOk result (λ answer. TellsShortBreaks (state_of K.Keeper office.old) body.now answer) }
+    ensures tells { Holds K.Keeper office.old office.new → IfOk result (λ answer. TellsChanges (state_of K.Keeper office.old) (hints_in body.now) answer) }
     ensures counted { Counted (K.refusals office.old) (K.refusals office.new) result }
 {
-    let answer = breaks_by(office, body)?;
-    short_answer(office.alloc(), answer)
+    let changes = hints_in(office.alloc(), body)?;
+    let answer = answer_changes(office, &changes);
+    drop(changes);
+    answer
 }

@@ -80,7 +80,7 @@ fn lines_in<'a>(alloc: Global, text: &'a str) -> Result<Vec<&'a str>, AllocError
 }
 
 /// The hints of a body.
-fn hints_in(alloc: Global, body: &str) -> Result<Vec<Text>, AllocError>
+pub(crate) fn hints_in(alloc: Global, body: &str) -> Result<Vec<Text>, AllocError>
     ensures { IfOk result (λ hints. hints.items ≡ hints_in body.now) }
 {
     let found = lines_in(alloc, body)?;
@@ -88,7 +88,7 @@ fn hints_in(alloc: Global, body: &str) -> Result<Vec<Text>, AllocError>
 }
 
 /// The hint at a place, empty if there is none.
-fn hint_at(hints: &[Text], place: usize) -> &str
+pub(crate) fn hint_at(hints: &[Text], place: usize) -> &str
     ensures { result.now ≡ slice_index_or hints.now place [] }
 {
     match hints.get(place) {

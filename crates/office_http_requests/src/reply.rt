@@ -37,7 +37,7 @@ pub enum Refusal {
     OnlyPost,
     LengthRequired,
     TooLong,
-    /// The body has more hints than one request may try.
+    /// The body has more hints than one request may try, or more changes than it may ask about.
     TooManyHints,
     HeadTooLarge,
     NoMemory,

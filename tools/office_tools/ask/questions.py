@@ -135,7 +135,7 @@ class Questions:
     def breaks_by(self, change: str) -> Optional[Answer]:
         """What a change would break where the last run left testing; None if no request asks for it."""
         body = change.encode()
-        if len(body) > LONGEST_BODY:
+        if len(body) > LONGEST_BODY or "\n" in change or change.endswith("\r"):
             return None
         reply = self.service.post("/breaks", body)
         if is_refused(reply, "NoRoute"):

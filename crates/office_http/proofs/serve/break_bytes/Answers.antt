@@ -5,7 +5,8 @@ use Rattle.std.specs.Str.{is_utf8}
 use Rattle.office_core.specs.Preserves.{StoreRefused}
 use Rattle.office_core_facts.specs.State.{state_of}
 use Rattle.office_core.proofs.CarryFacts.{risen, state_asked}
-use Rattle.office_http.specs.ServeSteps.{TellsShortBreaks}
+use Rattle.office_http.specs.ServeSteps.{TellsChanges}
+use Rattle.office_http.specs.Trials.{hints_in}
 use Rattle.office_http.proofs.ServeFacts.{place_or}
 use Rattle.office_http.proofs.BreakFacts.{asked, asked_bad}
 use Rattle.office_http.proofs.serve.break_bytes.Goals as goal
@@ -25,7 +26,7 @@ returns-in-Ok-clause-runs g c =
     let r = c.breaks_body.result in
     let e = c.breaks_body.ensures in
     λ h. rw c.answer_or.ensures (asked (StoreRefused keeper s0 s1) (state_of keeper s0) (state_of keeper s1) body r (is_utf8-from_IsUtf8 body c.in-Ok.ensures.cases.1)
-    (subst (λ (t : List ℕ). IfOk r (λ a. TellsShortBreaks (state_of keeper s0) t a)) c.in-Ok.ensures.cases.0 (e.tells h))
+    (subst (λ (t : List ℕ). IfOk r (λ a. TellsChanges (state_of keeper s0) (hints_in t) a)) c.in-Ok.ensures.cases.0 (e.tells h))
     (state_asked keeper s0 s1 e.asks h.0) (risen (keeper.refusals s0) (keeper.refusals s1) r e.counted))
 
 pub returns-in-Err-clause-runs : goal.returns-in-Err-clause-runs
