@@ -79,18 +79,6 @@ pub fn hints_for(
     ask_for(rt, conf, db, run, Ask::Hints(&numbers))
 }
 
-/// Tells what changes break that words name, for the setup in a file, over the store in another or over the bag on standard
-/// input, and gives the exit status. They are changes of the testing that a run left, without one the last finished run.
-pub fn breaks_for(
-    rt: &HostRuntime,
-    conf: &str,
-    db: Option<&str>,
-    run: Option<u32>,
-    words: &[&str],
-) -> u8 {
-    ask_for(rt, conf, db, run, Ask::Changes(words))
-}
-
 /// The number of a message that a word names.
 fn number_of(word: &str) -> Option<u32> {
     match u32::from_str_radix(word, 10) {

@@ -4,7 +4,7 @@
 use crate::asking::{Question, tell_answer};
 use crate::checking::tell_check;
 use crate::noted::FaultKeepingReader;
-use crate::reasons::{breaks_for, hints_for, why_for};
+use crate::reasons::{Ask, ask_for, hints_for, why_for};
 use crate::service::{serve, service_status};
 use crate::setups::{Detail, detail_of, role_words};
 use crate::status::ExitStatus;
@@ -57,23 +57,22 @@ pub fn run_command(rt: &HostRuntime, words: Words) -> u8 {
             db,
             connections,
             hosts,
-        } => {
-            let task = Task::Serve {
-                port,
-                connections,
-                hosts: hosts.as_slice(),
-            };
-            run_for(rt, conf, db, task)
-        }
+        } => serve_for(rt, conf, db, port, connections, &hosts),
         Words::Waiting { conf, db: None } => run_for(rt, conf, None, Task::BagWaiting),
         Words::Waiting { conf, db } => run_for(rt, conf, db, Task::Waiting),
         Words::Report { conf, db, report } => run_for(rt, conf, Some(db), Task::Report(report)),
         Words::UnknownReport { run, report } => refuse_report(rt, run, report),
         Words::Runs { conf, db } => answer_for(rt, conf, db, Question::Runs),
-        Words::Mail { conf, db, list } => {
-            let question = if list { Question::List } else { Question::Mail };
-            answer_for(rt, conf, db, question)
-        }
+        Words::Mail {
+            conf,
+            db,
+            list: true,
+        } => answer_for(rt, conf, db, Question::List),
+        Words::Mail {
+            conf,
+            db,
+            list: false,
+        } => answer_for(rt, conf, db, Question::Mail),
         Words::Export { conf, db } => answer_for(rt, conf, db, Question::Export),
         Words::Check { conf, db } => check_for(rt, conf, db),
         Words::Why {
@@ -112,9 +111,26 @@ pub fn run_command(rt: &HostRuntime, words: Words) -> u8 {
             db,
             run,
             changes,
-        } => breaks_for(rt, conf, db, run, &changes),
+        } => ask_for(rt, conf, db, run, Ask::Changes(&changes)),
         Words::Version => tell_version(rt),
     }
+}
+
+/// Serves on a port, as these hosts, for the setup in a file, over the store in another or in memory.
+fn serve_for(
+    rt: &HostRuntime,
+    conf: &str,
+    db: Option<&str>,
+    port: u32,
+    connections: u32,
+    hosts: &[&str],
+) -> u8 {
+    let task = Task::Serve {
+        port,
+        connections,
+        hosts,
+    };
+    run_for(rt, conf, db, task)
 }
 
 /// Answers a question for the setup in a file, from the store in another.

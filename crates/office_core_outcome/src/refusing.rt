@@ -290,7 +290,11 @@ pub(crate) fn told_of_first(
 {
     let end = explained_end(judging.behind, decisions);
     let lines = told_of_all(alloc, judging, &decisions[..end])?;
-    with_more(alloc, lines, reported_count(judging.behind, &decisions[end..]))
+    with_more(
+        alloc,
+        lines,
+        reported_count(judging.behind, &decisions[end..]),
+    )
 }
 
 /// The decision is on the hint with this number.

@@ -42,13 +42,7 @@ pub(crate) fn trial_date(last: Option<Date>, day: Option<Date>) -> Option<Date>
     match (last, day) {
         (None, day) => day,
         (Some(last), None) => Some(last),
-        (Some(last), Some(day)) => {
-            if last < day {
-                Some(day)
-            } else {
-                Some(last)
-            }
-        }
+        (Some(last), Some(day)) => { if last < day { Some(day) } else { Some(last) } }
     }
 }
 

@@ -72,10 +72,7 @@ pub(crate) fn breaks_of<K: Keeper>(
 }
 
 /// The answer to changes: one request asks about one.
-fn answer_changes<K: Keeper>(
-    office: &mut Office<K>,
-    changes: &[Text],
-) -> Result<Answer, StoreFault>
+fn answer_changes<K: Keeper>(office: &mut Office<K>, changes: &[Text]) -> Result<Answer, StoreFault>
     ensures asks { Asks K.Keeper office.old office.new }
     ensures place { IfOk result (λ answer. HasPlace (K.setup office.old) answer) }
     ensures tells { Holds K.Keeper office.old office.new → IfOk result (λ answer. TellsChanges (state_of K.Keeper office.old) changes.now answer) }

@@ -75,10 +75,7 @@ pub(crate) fn propose_groups<K: Keeper>(office: &mut Office<K>) -> Result<Answer
 }
 
 /// The answer to a request for hints that move groups, in a run on this day or later.
-pub(crate) fn propose_on<K: Keeper>(
-    office: &mut Office<K>,
-    day: Date,
-) -> Result<Answer, StoreFault>
+pub(crate) fn propose_on<K: Keeper>(office: &mut Office<K>, day: Date) -> Result<Answer, StoreFault>
     ensures asks { Asks K.Keeper office.old office.new }
     ensures place { IfOk result (λ answer. HasPlace (K.setup office.old) answer) }
     ensures tells { Holds K.Keeper office.old office.new → IfOk result (λ answer. TellsProposal (state_of K.Keeper office.old) (terms_on day) [] answer) }
