@@ -22,10 +22,8 @@ use std::io::{BufWriter, Write};
 pub enum Question {
     /// Its finished runs.
     Runs,
-    /// How much mail it keeps of each sender.
-    Mail,
-    /// Each message that it keeps.
-    List,
+    /// How much mail it keeps of each sender, or each message that it keeps.
+    Mail { is_list: bool },
     /// A bag of all its mail.
     Export,
     /// The next order on a day, over all mail without a gap.
@@ -38,8 +36,8 @@ pub enum Question {
 pub fn tell_answer<K: Keeper>(rt: &HostRuntime, office: &mut Office<K>, question: Question) -> u8 {
     match question {
         Question::Runs => tell_text(rt, runs_text(office)),
-        Question::Mail => tell_text(rt, counted_text(office)),
-        Question::List => tell_list(rt, office),
+        Question::Mail { is_list: false } => tell_text(rt, counted_text(office)),
+        Question::Mail { is_list: true } => tell_list(rt, office),
         Question::Export => tell_export(rt, office),
         Question::Order(day) => tell_text(rt, order_on(office, day)),
         Question::Hints => tell_text(rt, office.hints_text()),

@@ -63,16 +63,9 @@ pub fn run_command(rt: &HostRuntime, words: Words) -> u8 {
         Words::Report { conf, db, report } => run_for(rt, conf, Some(db), Task::Report(report)),
         Words::UnknownReport { run, report } => refuse_report(rt, run, report),
         Words::Runs { conf, db } => answer_for(rt, conf, db, Question::Runs),
-        Words::Mail {
-            conf,
-            db,
-            list: true,
-        } => answer_for(rt, conf, db, Question::List),
-        Words::Mail {
-            conf,
-            db,
-            list: false,
-        } => answer_for(rt, conf, db, Question::Mail),
+        Words::Mail { conf, db, list } => {
+            answer_for(rt, conf, db, Question::Mail { is_list: list })
+        }
         Words::Export { conf, db } => answer_for(rt, conf, db, Question::Export),
         Words::Check { conf, db } => check_for(rt, conf, db),
         Words::Why {
