@@ -5,10 +5,10 @@ import os
 import re
 from typing import Sequence
 
-from office_tools.apply.contents import REFUSED, Contents, Indexes, Row, Source
+from office_tools.apply.contents import Contents, Indexes, Row, Source
 from office_tools.apply.managers import parts, run
 from office_tools.apply.published import shows, source_of
-from office_tools.faults import Fault
+from office_tools.faults import Exit, Fault
 from office_tools.files import read_bytes
 
 FORMAT = "{{.ShortKey}} {{.Source}}"
@@ -41,7 +41,8 @@ class Aptly:
         """The architectures that testing is published with; a missing repository is refused."""
         release = os.path.join(self.folder(), "Release")
         if not os.path.exists(release):
-            raise Fault(f"{release}: {self.testing_name} isn't published yet: aptly publish repo does it once", REFUSED)
+            raise Fault(f"{release}: {self.testing_name} isn't published yet: aptly publish repo does it once",
+                        Exit.REFUSED)
         for name in (self.origin_name, self.testing_name):
             self.shown(name)
         found = re.search(r"^Architectures:(.*)$", read_bytes(release).decode(), re.MULTILINE)
@@ -52,7 +53,7 @@ class Aptly:
         try:
             return self.aptly("repo", "show", repository)
         except Fault as fault:
-            raise Fault(fault.cause, REFUSED) from fault
+            raise Fault(fault.cause, Exit.REFUSED) from fault
 
     def search(self, repository: str, query: str) -> Sequence[str]:
         """The lines by which aptly prints the packages that a query finds."""
@@ -72,7 +73,7 @@ class Aptly:
         for line in self.search(repository, f"!{INSTALLERS}"):
             found = KEY.fullmatch(line)
             if found is None:
-                raise Fault(f"aptly: it lists a package as {line!r}", REFUSED)
+                raise Fault(f"aptly: it lists a package as {line!r}", Exit.REFUSED)
             architecture, name, version, source = found.groups()
             if architecture == "source":
                 sources.add(Source(name, version))

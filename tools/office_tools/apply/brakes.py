@@ -3,8 +3,8 @@ from dataclasses import dataclass
 from typing import Iterator, Mapping, Optional, Sequence
 
 from office_tools import versions
-from office_tools.apply.contents import ALL, REFUSED, Contents, Difference
-from office_tools.faults import Fault
+from office_tools.apply.contents import ALL, Contents, Difference
+from office_tools.faults import Exit, Fault
 
 MOST_GONE = 20  # packages
 SHARE_GONE = 50  # one package of this many is 2 %
@@ -25,12 +25,12 @@ class Terms:
         is_much = len(gone) > MOST_GONE and len(gone) * SHARE_GONE > total
         if len(gone) > self.gone if self.gone is not None else is_much:
             raise Fault(f"{len(gone)} of {total} packages would go out of testing: {listed(gone)}: nothing is changed "
-                        f"unless --gone {len(gone)} allows it", REFUSED)
+                        f"unless --gone {len(gone)} allows it", Exit.REFUSED)
         back = sorted(set(taken_back(want, have, found, told)))
         if back and not self.back:
             raise Fault(f"testing would go back to lower versions: {listed(back)}: if the office's store was restored, "
                         "send its mail again (office-feed --restore); nothing is changed unless --back allows it",
-                        REFUSED)
+                        Exit.REFUSED)
 
 
 def names_gone(want: Contents, found: Difference) -> Iterator[str]:

@@ -9,21 +9,20 @@ from office_tools.accounts import service_at
 from office_tools.apply import heidi, marks
 from office_tools.apply.aptly import Aptly
 from office_tools.apply.brakes import Terms
-from office_tools.apply.contents import ALL, REFUSED, Contents, Indexes, check_taken, difference, wanted
+from office_tools.apply.contents import ALL, Contents, Indexes, check_taken, difference, wanted
 from office_tools.apply.holding import Evidence, Groups
 from office_tools.apply.managers import Manager, locked
 from office_tools.apply.published import is_whole, packages_of, raw_sections, read_folder, read_indexes, read_release
 from office_tools.apply.reprepro import Reprepro
 from office_tools.apply.turn import Turn, counts, tell_idle
 from office_tools.counts import count
-from office_tools.faults import Fault
+from office_tools.faults import Exit, Fault
 from office_tools.files import read_bytes
 from office_tools.look.judge import judge, read_known
 from office_tools.reports import Outcome
-from office_tools.service import Service
+from office_tools.service import DEFAULT_URL, Service
 
 NAME = "office-apply"
-URL = "http://127.0.0.1:8080"
 PUBLIC = "."
 
 tell = functools.partial(faults.tell, NAME)
@@ -36,7 +35,7 @@ def parser() -> argparse.ArgumentParser:
         epilog="Status 0: it is. 1: it isn't, since something is held back, or with --dry-run something would change; "
                "each difference is printed. 2: the words are wrong. 3: refused, and nothing was changed. 4: the office "
                "or the archive's manager failed.")
-    words.add_argument("--url", help=f"the service ({URL})")
+    words.add_argument("--url", help=f"the service ({DEFAULT_URL})")
     words.add_argument("--testing", metavar="FILE", help="the text of testing, in place of a service's")
     words.add_argument("--dry-run", action="store_true", help="print what would change, and change nothing")
     words.add_argument("--gone", type=count, metavar="N",
@@ -81,7 +80,7 @@ def manager_of(asked: argparse.Namespace) -> tuple[Manager, str]:
 def testing_of(url: Optional[str], path: Optional[str]) -> reports.Testing:
     """What is in the office's testing."""
     if path is None:
-        return service_at(url or URL).testing()
+        return service_at(url or DEFAULT_URL).testing()
     try:
         return reports.read_testing(read_bytes(path).decode(), path)
     except UnicodeDecodeError as fault:
@@ -116,7 +115,7 @@ def to_heidi(testing: reports.Testing, path: str, published: Optional[Contents],
     terms.check(want, there, difference(want, there), testing.sources)
     if published is not None:
         if not published.sources:
-            raise Fault("there is no file Sources: what is left alone would leave the suite", REFUSED)
+            raise Fault("there is no file Sources: what is left alone would leave the suite", Exit.REFUSED)
         check_taken(want, published)
         found = difference(want, published)
         tell_idle(found, tell)
@@ -154,7 +153,7 @@ def indexes_of(packages: Sequence[str], sources: Sequence[str]) -> Contents:
         return read_indexes([("", path) for path in packages], sources)
     stated = read_release(packages[0])
     if stated is None or not is_whole(packages[0], stated):
-        raise Fault(f"{packages[0]}: its indexes aren't those that its file Release states", REFUSED)
+        raise Fault(f"{packages[0]}: its indexes aren't those that its file Release states", Exit.REFUSED)
     return read_folder(packages[0], stated, Indexes.ONCE)
 
 
@@ -192,7 +191,7 @@ def main(words: Sequence[str]) -> int:
         return compared(testing, asked.packages, asked.sources)
     manager, place = manager_of(asked)
     locked(place)
-    service = service_at(asked.url or URL) if asked.testing is None else None
+    service = service_at(asked.url or DEFAULT_URL) if asked.testing is None else None
     architectures = list(dict.fromkeys(row.architecture for row in testing.rows if row.architecture != ALL))
     evidence = Evidence(groups_of(service, testing.finished), judge(), architectures,
                         lambda: read_known(

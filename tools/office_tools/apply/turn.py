@@ -6,10 +6,8 @@ from office_tools import reports
 from office_tools.apply.brakes import Terms, listed
 from office_tools.apply.contents import Contents, Difference, check_taken, difference, wanted
 from office_tools.apply.holding import Evidence, Holding, Plan, lacking, without_source
-from office_tools.apply.managers import UNANSWERED, Manager
-from office_tools.faults import Fault
-
-HELD = 1  # status where testing isn't what the office says
+from office_tools.apply.managers import Manager
+from office_tools.faults import Exit, Fault
 
 
 @dataclass(frozen=True)
@@ -33,10 +31,10 @@ class Turn:
         self.terms.check(plan.want, have, found, self.testing.sources)
         if found.is_empty and not self.manager.is_published(have):
             self.show("would be published: testing as it is")
-            return HELD
+            return Exit.NEGATIVE
         self.show(f"testing {self.testing.finished}: {counts(plan.want)}; would come {counts(found.missing)}; "
                   f"would go {counts(found.excess)}{held_back(plan)}")
-        return HELD if plan.held or not found.is_empty else 0
+        return Exit.NEGATIVE if plan.held or not found.is_empty else Exit.DONE
 
     def apply(self) -> int:
         """Makes testing what the office wants: status 0 if it then is, 1 if something is held back."""
@@ -56,14 +54,14 @@ class Turn:
             self.show(line)
         if not left.is_empty:
             self.tell("testing isn't published: it isn't what the office wants")
-            return HELD
+            return Exit.NEGATIVE
         self.publish(have)
         for line in (*(f"came: {line}" for line in before.missing.lines()),
                      *(f"went: {line}" for line in before.excess.lines())):
             self.show(line)
         self.show(f"testing {self.testing.finished}: {counts(plan.want)}; came {counts(before.missing)}; "
                   f"went {counts(before.excess)}{held_back(plan)}")
-        return HELD if plan.held else 0
+        return Exit.NEGATIVE if plan.held else Exit.DONE
 
     def publish(self, have: Contents) -> None:
         """Publishes testing, if clients see something else."""
@@ -71,7 +69,7 @@ class Turn:
             self.manager.publish()
             if not self.manager.is_published(have):
                 raise Fault("testing is published, but its indexes are incomplete or not in the expected place",
-                            UNANSWERED)
+                            Exit.FAILED)
 
     def plan(self) -> tuple[Plan, Contents]:
         """What testing is made, and what it has. What is held back or has no source is printed."""
@@ -109,7 +107,7 @@ class Turn:
         for line in lines:
             self.tell(f"the manager didn't copy {line}")
         if lines:
-            raise Fault("nothing is taken out of testing, and nothing is published", UNANSWERED)
+            raise Fault("nothing is taken out of testing, and nothing is published", Exit.FAILED)
 
 
 def tell_idle(found: Difference, tell: Callable[[str], None]) -> None:
