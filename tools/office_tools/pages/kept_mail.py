@@ -12,11 +12,10 @@ from dataclasses import dataclass
 from typing import Collection, Iterator, Mapping, Sequence, Union
 
 from office_tools.pages.offices import Office
-from office_tools.pages.state import MAIL_TABLES, State
+from office_tools.pages.state import MAIL_TABLES, marks, parts, State
 
 AT_ONCE = 2000  # messages whose contents are kept at once
 ALL = ""  # no sender's name: behind which run all mail was read
-MOST_WORDS = 500  # names in one question to the database
 MOST_KEPT = 1 << 14  # values of fields of which it is kept what they say
 
 BETWEEN = re.compile(r"\n(?:[ \t\r]*\n)+")
@@ -174,16 +173,6 @@ def names_of(fields: Mapping[str, str], place: int) -> tuple[Union[str, int], ..
     found = SOURCE.match(fields.get("source", package))
     source, source_version = (found[1] or found[3], found[2] or version) if found else (package, version)
     return package, fields.get("architecture", ""), version, place, source, source_version
-
-
-def parts(words: Sequence[str]) -> Iterator[Sequence[str]]:
-    """A list, in parts that one question to the database takes."""
-    return (words[place:place + MOST_WORDS] for place in range(0, len(words), MOST_WORDS))
-
-
-def marks(words: Sequence[str]) -> str:
-    """A mark for each word of a question to the database."""
-    return ", ".join("?" * len(words))
 
 
 @functools.lru_cache(MOST_KEPT)

@@ -29,6 +29,7 @@ from office_tools.pages.parts import Part, parts_of, RowText
 from office_tools.pages.patterns import Patterns
 from office_tools.pages.sections import Kept, SectionPage, written
 from office_tools.pages.sentences import LIST_TITLES, REASON_TITLES
+from office_tools.pages.source_html import SourceHtml
 from office_tools.pages.state import State
 from office_tools.pages.told import Line, shortened
 from office_tools.reports import Outcome, Word
@@ -88,6 +89,11 @@ class Site:
         menu = found.get_template("menu.html")
         found.globals["menus"] = {up: Markup(menu.render(up=up)) for up in ("", "../")}
         return found
+
+    @functools.cached_property
+    def source_html(self) -> SourceHtml:
+        """What makes the pages of sources."""
+        return SourceHtml(self.templates)
 
     @functools.cached_property
     def digests(self) -> Mapping[str, str]:
@@ -157,15 +163,12 @@ class Site:
     def put(self, path: str, data: bytes) -> None:
         """Writes a file next to its place, unless it has these bytes already."""
         self.digests_now.setdefault(path, "")
-        try:
-            with open(os.path.join(self.folder, path), "rb") as file:
-                if file.read() == data:
-                    return
-        except FileNotFoundError:
-            pass
-        for folder in {"", os.path.dirname(path)} - self.folders:
-            os.makedirs(os.path.join(self.beside, folder), exist_ok=True)
-            os.makedirs(os.path.join(self.folder, folder), exist_ok=True)
+        folder = path.rpartition("/")[0]
+        if (folder not in MANY or path in self.there) and bytes_of(os.path.join(self.folder, path)) == data:
+            return
+        if folder not in self.folders:
+            for place in self.beside, self.folder:
+                os.makedirs(os.path.join(place, folder), exist_ok=True)
             self.folders.add(folder)
         with open(os.path.join(self.beside, path), "wb") as file:
             file.write(data)
@@ -215,7 +218,8 @@ class Site:
 
     def write_sources(self, facts: views.Facts, names: Collection[str]) -> None:
         """A page of each of these sources. One that stays as it is isn't made, but for what tells that it does."""
-        links, feeds = facts.links(""), Feeds(facts, self.extras.address)
+        links = facts.links("")
+        due: dict[str, Optional[views.Source]] = {}
         for name in sorted(names):
             source = None if facts.is_quiet(name) else views.source_of(facts, name, links)
             mark = IN_WAITS if name in facts.waits.touched else ""
@@ -224,14 +228,15 @@ class Site:
             if source.has_feed if source else views.has_feed(facts, name):
                 self.digests_now.setdefault(f"source/{name}.xml", "")
             if not self.is_there(path, digest):
-                source = source or views.source_of(facts, name, links)
-                events = self.state.events(name)
-                history = views.history_of(facts, events)
-                self.put(path, self.page("source.html", {
-                    "source": source, "history": history, "earlier": len(events) - len(history), "up": "../"}))
-                if source.has_feed:
-                    self.put(f"source/{name}.xml", feeds.of_source(name, events))
+                due[name] = source
             self.digests_now[path] = digest
+        feeds = Feeds(facts, self.extras.address)
+        for name, events in self.state.events(list(due)):
+            source = due[name] or views.source_of(facts, name, links)
+            history = views.history_of(facts, events)
+            self.put(f"source/{name}.html", self.source_html.page(source, history, len(events) - len(history)))
+            if source.has_feed:
+                self.put(f"source/{name}.xml", feeds.of_source(name, events))
 
     def write_runs(self, facts: views.Facts) -> None:
         """A page of each run, and the list of all. That of an earlier run changes once the next one exists."""
@@ -379,6 +384,15 @@ class Site:
             "mending": found, "most": OFFENDERS,
             "offenders": [] if is_asked else views.offenders_of(facts, links)[:OFFENDERS],
             "rows": list(map(rows.run_row, facts.runs[:-NEWEST - 1:-1])), "up": ""}))
+
+
+def bytes_of(path: str) -> Optional[bytes]:
+    """The bytes of a file, if there is one."""
+    try:
+        with open(path, "rb", buffering=0) as file:
+            return file.read()
+    except FileNotFoundError:
+        return None
 
 
 def sync(folder: str) -> None:

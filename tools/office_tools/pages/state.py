@@ -15,6 +15,7 @@ from office_tools.faults import Fault
 from office_tools.reports import Run
 
 SCHEMA = 3
+MOST_WORDS = 500  # words in one question to the database
 
 TABLES = """
 CREATE TABLE run (number INTEGER PRIMARY KEY, line TEXT NOT NULL, fetched TEXT NOT NULL, excuses BLOB NOT NULL,
@@ -208,12 +209,16 @@ class State:
         with self.faults():
             return {parts[0]: Event._make(parts[1:]) for parts in self.database.execute("SELECT * FROM last")}
 
-    def events(self, source: str) -> Sequence[Event]:
-        """The events of a source, the last one first."""
-        with self.faults():
-            found = self.database.execute("SELECT run, testing, unstable, reasons, outcome FROM event "
-                                          "WHERE source = ? ORDER BY run DESC", (source,))
-            return [Event(*parts) for parts in found]
+    def events(self, sources: Sequence[str]) -> Iterator[tuple[str, Sequence[Event]]]:
+        """The events of each of these sources, the last one first."""
+        for some in parts(sources):
+            found: dict[str, list[Event]] = {source: [] for source in some}
+            with self.faults():
+                for source, *event in self.database.execute(
+                        "SELECT source, run, testing, unstable, reasons, outcome FROM event "
+                        f"WHERE source IN ({marks(some)}) ORDER BY source, run DESC", some):
+                    found[source].append(Event._make(event))
+            yield from found.items()
 
     def events_from(self, run: int) -> Mapping[str, Sequence[Event]]:
         """The events of each source that has one from this run on, in the order of runs."""
@@ -347,6 +352,16 @@ class State:
         with self.transaction():
             self.database.execute("DELETE FROM built")
             self.database.execute("INSERT INTO built VALUES (?)", (made_by,))
+
+
+def parts(words: Sequence[str]) -> Iterator[Sequence[str]]:
+    """A list, in parts that one question to the database takes."""
+    return (words[place:place + MOST_WORDS] for place in range(0, len(words), MOST_WORDS))
+
+
+def marks(words: Sequence[str]) -> str:
+    """A mark for each word of a question to the database."""
+    return ", ".join("?" * len(words))
 
 
 def packed(text: str) -> bytes:
