@@ -8,7 +8,7 @@ import datetime
 import functools
 import json
 import re
-from typing import Mapping, Sequence
+from typing import Iterator, Mapping, Sequence
 
 from office_tools.pages.excuses_json import policies, told_of
 from office_tools.pages.kept_mail import MOST_KEPT, Person
@@ -40,6 +40,14 @@ class ExcusesYaml:
                 self.items[source] = self.item(excuse)
             told += "- ", self.others(waits.by_source.get(source, ())), self.items[source]
         return "".join(told)
+
+    def shown(self, waits: Waits) -> Iterator[str]:
+        """What the text shows beside the run's reports."""
+        for excuse in self.excuses.excuses:
+            if excuse.source in self.people:
+                yield f"{excuse.source} {self.people[excuse.source].maintainer}"
+        for source, some in waits.by_source.items():
+            yield " ".join([source, *(wait.other for wait in some)])
 
     def others(self, waits: Sequence[Wait]) -> str:
         """What the file says of the sources for which one waits; the first line goes on behind a dash."""

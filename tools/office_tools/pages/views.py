@@ -317,13 +317,6 @@ def moved_sentence(change: reports.Change) -> str:
     return "alone" if change.hint is None else f"in the group of easy hint {change.hint}"
 
 
-def rows_of(facts: Facts) -> Sequence[Row]:
-    """The sources of the newest run that don't move, by name."""
-    links = facts.links("source/")
-    return [row_of(facts, excuse, links) for excuse in facts.newest.excuses.excuses
-            if facts.outcomes.get(excuse.source, NOTHING)[-1].what is not What.ACCEPT]
-
-
 def source_of(facts: Facts, name: str, links: Links) -> Source:
     """What the page of a source shows."""
     outcomes = facts.outcomes.get(name, NOTHING)
