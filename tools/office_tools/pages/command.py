@@ -12,11 +12,10 @@ from typing import Iterator, Sequence
 from office_tools.faults import Exit, Fault, cause_of
 from office_tools.pages.fetching import fetch, fetch_answers
 from office_tools.pages.kept_mail import read_mail
-from office_tools.pages.more_pages import Extras
+from office_tools.pages.look import Extras, Look
 from office_tools.pages.offices import FileOffice, NAME, Office, ServiceOffice, StoreOffice
 from office_tools.pages.patterns import BUGS, BUILDS, CHANGELOG, Patterns, TRACKER
 from office_tools.pages.people import read_people
-from office_tools.pages.site import Site
 from office_tools.pages.state import State
 from office_tools.service import DEFAULT_URL
 
@@ -102,12 +101,11 @@ def main(words: Sequence[str]) -> int:
     """Fetches what is new, and writes the pages that changed."""
     asked = words_of(words)
     office = office_of(asked)
-    patterns, extras = patterns_of(asked), extras_of(asked)
+    look = Look(patterns_of(asked), extras_of(asked))
     if not os.path.isdir(asked.folder):
         raise Fault(f"{asked.folder}: there is no such folder")
     try:
-        make(office, asked.folder, asked.state or os.path.join(asked.folder, ".state"),
-             (patterns, extras), asked.why_seconds)
+        make(office, asked.folder, asked.state or os.path.join(asked.folder, ".state"), look, asked.why_seconds)
     except OSError as fault:
         raise Fault(f"{fault.filename or asked.folder}: {cause_of(fault)}") from fault
     return 0
@@ -130,7 +128,7 @@ def extras_of(asked: argparse.Namespace) -> Extras:
     return Extras(address, people, hashlib.blake2b(repr(people).encode(), digest_size=16).hexdigest())
 
 
-def make(office: Office, folder: str, kept: str, look: tuple[Patterns, Extras], why_seconds: float) -> None:
+def make(office: Office, folder: str, kept: str, look: Look, why_seconds: float) -> None:
     """Fetches what is new into the folder of what is kept, and writes the pages that changed."""
     gc.set_threshold(COLLECTED)
     os.makedirs(kept, exist_ok=True)
@@ -139,8 +137,12 @@ def make(office: Office, folder: str, kept: str, look: tuple[Patterns, Extras], 
         if newest is None:
             return
         read_mail(office, state, newest.number, time.monotonic() + why_seconds)
+        if look.is_fresh(folder, state) and state.asked() == newest.number:
+            return
+        # Its import takes as long as all else if nothing is new.
+        from office_tools.pages.site import Site
         # The pages of a new run exist before sources are asked about, which takes longer.
-        site = Site(folder, state, *look)
+        site = Site(folder, state, look)
         site.build(newest)
         names = fetch_answers(office, state, newest, why_seconds)
         if names:

@@ -1,9 +1,12 @@
 """Where links lead out of the pages, by patterns of addresses."""
+import functools
 import urllib.parse
 from dataclasses import dataclass
 from typing import Mapping
 
 from office_tools.pages.names import beginning_of
+
+MOST_KEPT = 1 << 12  # values that are kept as in addresses
 
 BUGS = "https://bugs.debian.org/%s"
 TRACKER = "https://tracker.debian.org/pkg/%s"
@@ -44,6 +47,12 @@ class Patterns:
 def filled(pattern: str, values: Mapping[str, str]) -> str:
     """A pattern with its values, each written as in an address."""
     found = pattern
-    for word, value in values.items():
-        found = found.replace(word, urllib.parse.quote(value, safe="~"))
+    for word, value in values.items() if pattern else ():
+        found = found.replace(word, quoted(value))
     return found
+
+
+@functools.lru_cache(MOST_KEPT)
+def quoted(value: str) -> str:
+    """A value as in an address. The same names are in several addresses."""
+    return urllib.parse.quote(value, safe="~")
