@@ -16,7 +16,7 @@ def service_at(url: str, user: Optional[str] = None, seconds: float = SECONDS) -
         return service
     try:
         known = netrc.netrc().authenticators(service.host)
-    except (OSError, netrc.NetrcParseError) as fault:
+    except (OSError, ValueError, netrc.NetrcParseError) as fault:
         raise Fault(f"the password of {service.user}: ~/.netrc: {cause_of(fault)}", Exit.USAGE) from fault
     if known is None or known[0] != service.user:
         raise Fault(f"~/.netrc has no password of {service.user} at {service.host}", Exit.USAGE)

@@ -1,5 +1,6 @@
 """Local repositories of aptly. Packages of installers (udeb) are left alone."""
 import dataclasses
+import functools
 import json
 import os
 import re
@@ -32,10 +33,17 @@ class Aptly:
         """What a command prints."""
         return run(["aptly", f"-config={self.config}", *words])
 
+    @functools.cached_property
+    def root(self) -> str:
+        """The folder that has all of aptly's, by the configuration as aptly itself reads it."""
+        try:
+            return os.path.expanduser(str(json.loads(self.aptly("config", "show"))["rootDir"]))
+        except (ValueError, TypeError, KeyError) as fault:
+            raise Fault(f"{self.config}: aptly shows no rootDir of it", REFUSED) from fault
+
     def folder(self) -> str:
         """Where aptly publishes testing."""
-        root = json.loads(read_bytes(self.config)).get("rootDir") or os.path.expanduser("~/.aptly")
-        return os.path.join(root, "public", self.prefix, "dists", self.testing_name)
+        return os.path.join(self.root, "public", self.prefix, "dists", self.testing_name)
 
     def architectures(self) -> Sequence[str]:
         """The architectures that testing is published with; a missing repository is refused."""
@@ -45,8 +53,9 @@ class Aptly:
                         Exit.REFUSED)
         for name in (self.origin_name, self.testing_name):
             self.shown(name)
-        found = re.search(r"^Architectures:(.*)$", read_bytes(release).decode(), re.MULTILINE)
-        return sorted(set(found[1].split() if found else []) - {"source", "all"})
+        found = re.search(rb"^Architectures:(.*)$", read_bytes(release), re.MULTILINE)
+        names = found[1].decode(errors="backslashreplace").split() if found else []
+        return sorted(set(names) - {"source", "all"})
 
     def shown(self, repository: str) -> str:
         """What aptly prints of a repository; a missing one is refused."""

@@ -72,7 +72,7 @@ class Copy:
         try:
             ends = json.loads(read_bytes(os.path.join(self.folder, ENDS)))
             return all(digest(self.service.kept_text(sender, number)) == due for sender, (number, due) in ends.items())
-        except (Fault, ValueError, TypeError, AttributeError):
+        except (Fault, ValueError, TypeError, AttributeError, RecursionError):
             return False
 
     def own(self) -> Mapping[str, Kept]:
