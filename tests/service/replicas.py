@@ -27,7 +27,6 @@ from serving import CONF, Service
 
 MIRROR = os.path.join(TESTS, "..", "tools", "bin", "office-mirror")
 OFFICES = range(3)
-KEPT = re.compile(r"(?m)^mail (\S+) (\d+) kept(?:, 1 to (\d+))?")
 program = os.path.abspath(sys.argv[1])
 seeds = sys.argv[2] if len(sys.argv) > 2 else "1-12"
 first_port = int(sys.argv[3]) if len(sys.argv) > 3 else 18740
@@ -169,7 +168,7 @@ class Draw:
                         mirror(self.offices[i], self.offices[j], self.folder)
 
     def last_turns(self):
-        """One more turn sends what follows a gap, and the conflict, which is printed; with --all it sends all."""
+        """One more turn sends the conflict alone, which is printed; with --all it sends all."""
         for i in OFFICES:
             for j in OFFICES:
                 if i != j:
@@ -180,14 +179,11 @@ class Draw:
         want(self.name("a turn over all"), every, turn[1])
 
     def due_of_a_turn(self, one, other):
-        """The status of such a turn, how much is sent, and what is printed."""
-        kept = {sender: (int(count), int(upto or 0)) for sender, count, upto in KEPT.findall(one.get("/kept"))}
-        sent = sum(count - upto for count, upto in kept.values())
+        """The status of such a turn, how much is sent, and what is printed. What the other held is remembered."""
         path = self.conflict and "/kept/" + self.conflict.replace(" ", "/")
         if not path or one.answer(path) == other.answer(path):
-            return 0, sent, []
-        sender, number = self.conflict.split()
-        return 1, sent + (int(number) <= kept[sender][1]), [self.conflict]
+            return 0, 0, []
+        return 1, 1, [self.conflict]
 
     def compare(self):
         """The three offices compared with each other, and with a plain replay of what was sent."""
