@@ -124,7 +124,7 @@ class Site:
         self.write_testing(facts)
         self.write_names(facts)
         self.write_hints(facts)
-        self.put("excuses.json", excuses_json(newest.excuses, newest.update, newest.kept.fetched).encode())
+        self.put("excuses.json", excuses_json(newest).encode())
         more = self.more_of(facts)
         self.write_more(more.pages(), more.files())
         self.write_kept(more.feeds_of_people())
@@ -177,13 +177,13 @@ class Site:
         """Writes a file next to its place, unless it has these bytes already."""
         self.digests_now.setdefault(path, "")
         folder = path.rpartition("/")[0]
-        if (folder not in MANY or path in self.there) and bytes_of(os.path.join(self.folder, path)) == data:
+        if (folder not in MANY or path in self.there) and bytes_of(f"{self.folder}/{path}") == data:
             return
         if folder not in self.folders:
             for place in self.beside, self.folder:
                 os.makedirs(os.path.join(place, folder), exist_ok=True)
             self.folders.add(folder)
-        with open(os.path.join(self.beside, path), "wb") as file:
+        with open(f"{self.beside}/{path}", "wb") as file:
             file.write(data)
         self.written.append(path)
 
@@ -221,7 +221,7 @@ class Site:
 
     def move(self, path: str) -> None:
         """Moves a file that was written into its place."""
-        os.replace(os.path.join(self.beside, path), os.path.join(self.folder, path))
+        os.replace(f"{self.beside}/{path}", f"{self.folder}/{path}")
 
     def page(self, template: str, values: Mapping[str, Any]) -> bytes:
         """The bytes of a page."""
