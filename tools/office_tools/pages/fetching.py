@@ -71,27 +71,23 @@ def fetch_runs(office: Office, state: State) -> Optional[Newest]:
         tell(NAME, f"run {other} isn't the one that was kept: it and all later ones are fetched again")
         state.drop_from(other)
     kept = {run.number for run in state.runs()}
-    last: dict[str, Event] = {}
     newest: Optional[Newest] = None
     for number in sorted(set(told) - kept):
-        last = last or dict(state.last_events())
-        newest, events = fetch_run(office, state, told[number], last)
-        last |= events
+        newest = fetch_run(office, state, told[number])
     greatest = max(kept | set(told))
     return newest if newest is not None and newest.number == greatest else Newest(state.run(greatest))
 
 
-def fetch_run(office: Office, state: State, run: reports.Run,
-              last: Mapping[str, Event]) -> tuple[Newest, Mapping[str, Event]]:
-    """Keeps a run, and gives it with its events. `last` are the last events before it."""
+def fetch_run(office: Office, state: State, run: reports.Run) -> Newest:
+    """Keeps a run with its events, and gives it."""
     now = datetime.datetime.now(datetime.timezone.utc).strftime("%Y-%m-%dT%H:%M:%SZ")
     kept = KeptRun(run, now, office.excuses(run.number), office.update(run.number))
     read = Newest(kept)
     if (read.excuses.run, read.excuses.date, read.update.run) != (run.number, run.date, run.number):
         raise Fault(f"the office returned the reports of another run instead of run {run.number}")
-    events = events_of(read, last)
+    events = events_of(read, state.last_events())
     state.add(kept, events, {change.hint for change in read.update.changes if change.hint is not None})
-    return read, events
+    return read
 
 
 def events_of(read: Newest, last: Mapping[str, Event]) -> Mapping[str, Event]:

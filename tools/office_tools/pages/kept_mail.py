@@ -20,6 +20,8 @@ A_LOOK = 500  # messages after which the time is looked at
 ALL = ""  # no sender's name: behind which run all mail was read
 MOST_KEPT = 1 << 14  # values of fields of which it is kept what they say
 
+USUAL = frozenset(("From", "Number", "Kind", "Package", "Version", "Architecture", "Source", "Pre-Depends", "Depends",
+                   "Provides"))
 BETWEEN = re.compile(r"\n(?:[ \t\r]*\n)+")
 FIELD = re.compile(r"^(Kind|Source|Maintainer|Uploaders|Package|Version|Architecture|Pre-Depends|Depends|Provides):"
                    r"[ \t\r]*((?:.*\n?)(?:[ \t].*\n?)*)", re.M | re.I)
@@ -71,6 +73,13 @@ def clause_names(clauses: str) -> Sequence[tuple[str, ...]]:
 
 def fields_of(paragraph: str) -> Mapping[str, str]:
     """The fields of a paragraph that are read, by their names in lower case."""
+    try:
+        # Nearly all paragraphs have one line for each field, and only fields with their usual names.
+        plain = dict([line.split(": ", 1) for line in paragraph.split("\n")])
+    except ValueError:
+        plain = {"": ""}
+    if plain.keys() <= USUAL and "  " not in paragraph and "\t" not in paragraph:
+        return {name.lower(): value.strip() for name, value in plain.items()}
     return {name.lower(): " ".join(value.split()) for name, value in FIELD.findall(paragraph)}
 
 
@@ -168,6 +177,7 @@ class KeptMail:
             database.executemany("INSERT OR REPLACE INTO mail_read VALUES (?, ?)", numbers.items())
             database.execute("UPDATE built SET has_mail = 0")
             if found.people:
+                self.state.touch(found.people)
                 database.execute("DELETE FROM built")
 
     def needing(self, names: Collection[str]) -> Mapping[str, Collection[str]]:
