@@ -72,7 +72,7 @@ def halves(bag):
 
 def fill(office, folder):
     """Draws the office, and makes its pages after the fifth and after the tenth run."""
-    draw.main(office, folder, *map(int, sys.argv[3:]))
+    draw.main(office, folder, *sys.argv[3:])
     with open(os.path.join(folder, "bag"), "rb") as file:
         bags = halves(file.read())
     for bag in bags:

@@ -20,15 +20,20 @@ A_LOOK = 500  # messages after which the time is looked at
 ALL = ""  # no sender's name: behind which run all mail was read
 MOST_KEPT = 1 << 14  # values of fields of which it is kept what they say
 
+USUAL = frozenset(("From", "Number", "Kind", "Package", "Version", "Architecture", "Source", "Pre-Depends", "Depends",
+                   "Provides"))
 BETWEEN = re.compile(r"\n(?:[ \t\r]*\n)+")
 FIELD = re.compile(r"^(Kind|Source|Maintainer|Uploaders|Package|Version|Architecture|Pre-Depends|Depends|Provides):"
                    r"[ \t\r]*((?:.*\n?)(?:[ \t].*\n?)*)", re.M | re.I)
-SHORT = re.compile(r"^(?:(Package|Source|Pre-Depends|Depends):[ \t\r]*(.*(?:\n[ \t]+[^\s].*)*)|[ \t\r]*$)", re.M | re.I)
+# Each line of a package has one before it. A set of letters for the first one is found much faster than any letter.
+SOURCES = re.compile(r"\n[Ss](?i:ource):[ \t\r]*([^\s(]+)")
+PACKAGES = re.compile(r"\n[Pp](?i:ackage):[ \t\r]*(\S+)")
+DEPENDS = re.compile(r"\n(?i:(?:pre-)?depends):[ \t\r]*(.*(?:\n[ \t]+\S.*)*)")
 SOURCE = re.compile(r"(\S+?)\s*\(\s*(\S+?)\s*\)|(\S+)")
 NAME = re.compile(r"\s*([a-z0-9][a-z0-9+.-]+)")
 NAMES = re.compile(r"(?:^|[,|])\s*([a-z0-9][a-z0-9+.-]+)")
-KIND = re.compile(rb"^Kind:\s*(\S+)", re.M | re.I)
-MAINTAINER = re.compile(rb"^Maintainer:", re.M | re.I)
+KIND = re.compile(rb"(?:^|\n)[Kk](?i:ind):\s*(\S+)")
+MAINTAINER = re.compile(rb"\n[Mm](?i:aintainer):")
 
 Key = tuple[str, str, str]  # an architecture, a package and its version
 
@@ -66,14 +71,15 @@ def clause_names(clauses: str) -> Sequence[tuple[str, ...]]:
     return tuple(names_in(clause) for clause in clauses.split(",") if clause.strip())
 
 
-@functools.lru_cache(MOST_KEPT)
-def all_names(clauses: str) -> Sequence[str]:
-    """All names of a value of Depends. The same one is in the builds of several architectures."""
-    return NAMES.findall(clauses)
-
-
 def fields_of(paragraph: str) -> Mapping[str, str]:
     """The fields of a paragraph that are read, by their names in lower case."""
+    try:
+        # Nearly all paragraphs have one line for each field, and only fields with their usual names.
+        plain = dict([line.split(": ", 1) for line in paragraph.split("\n")])
+    except ValueError:
+        plain = {"": ""}
+    if plain.keys() <= USUAL and "  " not in paragraph and "\t" not in paragraph:
+        return {name.lower(): value.strip() for name, value in plain.items()}
     return {name.lower(): " ".join(value.split()) for name, value in FIELD.findall(paragraph)}
 
 
@@ -107,7 +113,8 @@ class Found:
     def add(self, data: bytes, place: int) -> None:
         """Adds what a message says. `place` orders builds of one version: the least one counts.
 
-        It may keep a message that has no builds: what is in one is read again once its source is asked for.
+        It may keep a message under further sources, and sources under further names: what is in a message is read again
+        once one of its sources is asked for.
         """
         kind = KIND.search(data)
         if kind is None:
@@ -121,25 +128,13 @@ class Found:
 
     def add_build(self, text: str, place: int) -> None:
         """Adds a message that may have builds, under their sources."""
-        sources: set[str] = set()
-        package, source = "", ""
-        names: set[str] = set()
-        for field, value in (*SHORT.findall(text), ("", "")):
-            word = field[:1].lower()
-            if word == "s":
-                source = value
-            elif field[:2].lower() == "pa":
-                package = value
-            elif word:
-                names.update(all_names(value))
-            elif source or package:
-                found = SOURCE.match(source or package)
-                name = (found[1] or found[3]) if found else ""
-                sources.add(name)
-                for needed in names:
-                    self.needs[needed].add(name)
-                package, source, names = "", "", set()
-        self.builds += ((name, place, text) for name in sources)
+        named, packages = SOURCES.findall(text), PACKAGES.findall(text)
+        # A package that names no source is of the one of its own name.
+        sources = set(named) if len(named) == len(packages) else {*named, *packages}
+        for clauses in set(DEPENDS.findall(text)):
+            for name in NAMES.findall(clauses):
+                self.needs[name].update(sources)
+        self.builds += ((source, place, text) for source in sources)
 
 
 class KeptMail:
@@ -182,6 +177,7 @@ class KeptMail:
             database.executemany("INSERT OR REPLACE INTO mail_read VALUES (?, ?)", numbers.items())
             database.execute("UPDATE built SET has_mail = 0")
             if found.people:
+                self.state.touch(found.people)
                 database.execute("DELETE FROM built")
 
     def needing(self, names: Collection[str]) -> Mapping[str, Collection[str]]:

@@ -2,8 +2,6 @@
 import functools
 import urllib.parse
 from dataclasses import dataclass
-from typing import Mapping
-
 from office_tools.pages.names import beginning_of
 
 MOST_KEPT = 1 << 12  # values that are kept as in addresses
@@ -29,27 +27,21 @@ class Patterns:
 
     def bug(self, number: str) -> str:
         """Where a bug is."""
-        return filled(self.bugs, {"%s": number})
+        return self.bugs.replace("%s", quoted(number))
 
     def source(self, source: str) -> str:
         """Where everything on a source is."""
-        return filled(self.tracker, {"%s": source})
+        return self.tracker.replace("%s", quoted(source))
 
     def logs(self, source: str, architecture: str = "") -> str:
         """Where the builds of a source are, on one architecture or on all."""
-        return filled(self.builds, {"%s": source, "%a": architecture})
+        return self.builds.replace("%s", quoted(source)).replace("%a", quoted(architecture))
 
     def changes(self, source: str, version: str) -> str:
         """Where the changelog of a source's version is."""
-        return filled(self.changelog, {"%s": source, "%v": version.rpartition(":")[2], "%p": beginning_of(source)})
-
-
-def filled(pattern: str, values: Mapping[str, str]) -> str:
-    """A pattern with its values, each written as in an address."""
-    found = pattern
-    for word, value in values.items() if pattern else ():
-        found = found.replace(word, quoted(value))
-    return found
+        number = version.rpartition(":")[2]
+        return self.changelog.replace("%s", quoted(source)).replace("%v", quoted(number)).replace(
+            "%p", quoted(beginning_of(source)))
 
 
 @functools.lru_cache(MOST_KEPT)

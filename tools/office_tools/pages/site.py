@@ -39,6 +39,7 @@ NEWEST = 20  # runs on the first page
 SOURCES = "source/"  # the folder of their pages
 TRANSITIONS = "transition"  # how the names of pages of transitions begin
 IN_WAITS = "waits "  # before the digest of a page that says what waits for what
+NOW = "now "  # before that of another page that says more than where the source is, and its past
 HINTS = 200  # hints on the page of a run
 OFFENDERS = 15  # what has to be mended on the first page
 MANY = ("source", "run", "people")  # the folders of pages that are many
@@ -104,6 +105,15 @@ class Site:
         return self.state.digests()
 
     @functools.cached_property
+    def kept_paths(self) -> Mapping[str, Sequence[str]]:
+        """The files that are made only if what they show changed, by the digest of that."""
+        found: dict[str, list[str]] = {}
+        for path, digest in self.digests.items():
+            if digest and not path.startswith(SOURCES):
+                found.setdefault(digest, []).append(path)
+        return found
+
+    @functools.cached_property
     def there(self) -> set[str]:
         """The files that stand in the folders of pages that are many."""
         return {f"{folder}/{name}" for folder in MANY if os.path.isdir(os.path.join(self.folder, folder))
@@ -119,12 +129,12 @@ class Site:
         facts = self.facts_of(newest)
         self.digests_now = {}
         self.write_static()
-        self.write_sources(facts, facts.names)
+        self.write_sources(facts, self.due_sources(facts))
         self.write_runs(facts)
         self.write_testing(facts)
         self.write_names(facts)
         self.write_hints(facts)
-        self.put("excuses.json", excuses_json(newest.excuses, newest.update, newest.kept.fetched).encode())
+        self.put("excuses.json", excuses_json(newest).encode())
         more = self.more_of(facts)
         self.write_more(more.pages(), more.files())
         self.write_kept(more.feeds_of_people())
@@ -177,13 +187,13 @@ class Site:
         """Writes a file next to its place, unless it has these bytes already."""
         self.digests_now.setdefault(path, "")
         folder = path.rpartition("/")[0]
-        if (folder not in MANY or path in self.there) and bytes_of(os.path.join(self.folder, path)) == data:
+        if (folder not in MANY or path in self.there) and bytes_of(f"{self.folder}/{path}") == data:
             return
         if folder not in self.folders:
             for place in self.beside, self.folder:
                 os.makedirs(os.path.join(place, folder), exist_ok=True)
             self.folders.add(folder)
-        with open(os.path.join(self.beside, path), "wb") as file:
+        with open(f"{self.beside}/{path}", "wb") as file:
             file.write(data)
         self.written.append(path)
 
@@ -213,15 +223,17 @@ class Site:
             with contextlib.suppress(FileNotFoundError):
                 os.unlink(os.path.join(self.folder, path))
         self.state.keep_digests({path: self.digests_now[path] for path in changed.union(self.written)}, gone)
-        self.state.keep_built(self.made_by)
+        if self.facts is not None:
+            self.state.keep_built(self.made_by, self.basis(self.facts))
         self.there.update(self.written)
         self.there.difference_update(gone)
         self.digests, self.written, self.folders = self.digests_now, [], set()
+        self.__dict__.pop("kept_paths", None)  # it is made again of the new digests
         shutil.rmtree(self.beside, ignore_errors=True)
 
     def move(self, path: str) -> None:
         """Moves a file that was written into its place."""
-        os.replace(os.path.join(self.beside, path), os.path.join(self.folder, path))
+        os.replace(f"{self.beside}/{path}", f"{self.folder}/{path}")
 
     def page(self, template: str, values: Mapping[str, Any]) -> bytes:
         """The bytes of a page."""
@@ -233,13 +245,30 @@ class Site:
             with open(os.path.join(HERE, "static", name), "rb") as file:
                 self.put(name, file.read())
 
+    def basis(self, facts: views.Facts) -> str:
+        """What the pages of sources show beside what is kept of each of them."""
+        return digest_of([self.made_by, str(facts.testing is not None), str(facts.runs[0].number)])
+
+    def due_sources(self, facts: views.Facts) -> Collection[str]:
+        """The sources whose pages may have changed since all were made. The digests of the others' pages stay."""
+        if self.state.basis() != self.basis(facts):
+            return facts.names
+        due = {*self.state.touched(), *facts.told_of_now}
+        pages = {path: path[len(SOURCES):path.rindex(".")] for path in self.digests if path.startswith(SOURCES)}
+        due.update(name for path, name in pages.items()
+                   if self.digests[path].startswith((IN_WAITS, NOW)) or path not in self.there)
+        due.update(facts.names.difference(pages.values()))
+        same = facts.names - due
+        self.digests_now.update((path, self.digests[path]) for path, name in pages.items() if name in same)
+        return facts.names & due
+
     def write_sources(self, facts: views.Facts, names: Collection[str]) -> None:
         """A page of each of these sources. One that stays as it is isn't made, but for what tells that it does."""
         links = facts.links("")
         due: dict[str, Optional[views.Source]] = {}
         for name in sorted(names):
             source = None if facts.is_quiet(name) else views.source_of(facts, name, links)
-            mark = IN_WAITS if name in facts.waits.touched else ""
+            mark = IN_WAITS if name in facts.waits.touched else NOW if source else ""
             path, digest = f"source/{name}.html", mark + digest_of([
                 self.look, *(views.quiet_texts(facts, name) if source is None else ("", repr(source)))])
             if source.has_feed if source else views.has_feed(facts, name):
@@ -309,13 +338,9 @@ class Site:
 
     def write_kept(self, files: Iterable[Kept]) -> None:
         """Files that are made only if what they show changed. All of one are kept under the same digest."""
-        paths: dict[str, list[str]] = {}
-        for path, digest in self.digests.items():
-            if digest and not path.startswith(SOURCES):
-                paths.setdefault(digest, []).append(path)
         for kept in files:
             digest = digest_of([self.look, kept.path, *kept.shown])
-            before = paths.get(digest, ())
+            before = self.kept_paths.get(digest, ())
             if kept.path in before and all(map(self.has_file, before)):
                 self.digests_now.update(dict.fromkeys(before, digest))
                 continue

@@ -3,12 +3,12 @@
 A Debian release has some 34,000 of them. So functions write what differs from page to page: a template takes several
 times as long. What is the same on all of them is in a frame, which the template `base.html` makes once.
 """
-from typing import Iterable, Iterator, Sequence
+from typing import Iterable, Sequence
 
 import jinja2
 
-from office_tools.pages.rows import cell, escaped, line_text, piece_text, row, told_text, verdict
-from office_tools.pages.told import Line
+from office_tools.pages.rows import cell, escaped, line_text, link, piece_text, row, told_text, verdict
+from office_tools.pages.told import Line, Piece
 from office_tools.pages.views import Source, Standing
 
 MARK = "\0"  # stands in the frame where a page has its title, its part of the head, and its content
@@ -31,80 +31,87 @@ class SourceHtml:
         name = escaped(source.name)
         title = source.verdict or ("in testing" if source.testing else "not in testing")
         head = f'<link rel="alternate" type="application/atom+xml" title="{name}" href="{name}.xml">\n'
-        return "".join((
-            self.begin, name, ": ", title, self.to_head, head if source.has_feed else "", self.to_content,
-            *standing(source, history), *told(source), *waits(source), *people(source), *answered(source),
-            items("binaries", "Its packages in testing", "", map(escaped, source.binaries)),
-            past(history, earlier), self.end)).encode()
+        waits = waits_of(source) if source.waits or source.waited else ""
+        answer = answer_of(source) if source.unstable else ""
+        return (
+            f"{self.begin}{name}: {title}{self.to_head}{head if source.has_feed else ''}{self.to_content}"
+            f"{standing(source, history)}{told(source) if source.told else ''}{waits}{people(source)}{answer}"
+            f"{items('binaries', 'Its packages in testing', '', map(escaped, source.binaries))}"
+            f"{past(history, earlier)}{self.end}").encode()
 
 
-def standing(source: Source, history: Sequence[Standing]) -> Iterator[str]:
+def standing(source: Source, history: Sequence[Standing]) -> str:
     """The name, ways out of the pages, the versions, when it moved, and its age."""
-    yield f'<h1>{escaped(source.name)}{" " + verdict(source.verdict) if source.verdict else ""}</h1>\n'
-    if source.ways:
-        yield f'<ul class="lists">\n{"".join(f"<li>{piece_text(way)}</li>" + chr(10) for way in source.ways)}</ul>\n'
-    yield f"<dl>\n<dt>Testing</dt><dd>{escaped(source.testing or 'not there')}</dd>\n"
-    moved = next((one for one in history if one.has_moved), None)
+    shown = " " + verdict(source.verdict) if source.verdict else ""
+    ways = "".join([f"<li>{piece_text(way)}</li>\n" for way in source.ways])
+    lists = f'<ul class="lists">\n{ways}</ul>\n' if ways else ""
+    moved, unstable = next((one for one in history if one.has_moved), None), ""
+    when = ""
     if moved is not None:
         version = f": {escaped(moved.unstable)}" if moved.unstable else ""
-        yield (f'<dt>Migrated</dt><dd><a href="../run/{moved.run}.html">in run {moved.run}</a> on '
-               f"<time>{moved.date}</time>{version}</dd>\n")
+        when = (f'<dt>Migrated</dt><dd><a href="../run/{moved.run}.html">in run {moved.run}</a> on '
+                f"<time>{moved.date}</time>{version}</dd>\n")
     if source.unstable:
-        yield f"<dt>Unstable</dt><dd>{escaped(source.unstable)}</dd>\n<dt>Age</dt><dd>{told_text(source.age)}</dd>\n"
-    yield "</dl>\n"
+        unstable = (f"<dt>Unstable</dt><dd>{escaped(source.unstable)}</dd>\n"
+                    f"<dt>Age</dt><dd>{told_text(source.age)}</dd>\n")
+    return (f"<h1>{escaped(source.name)}{shown}</h1>\n{lists}<dl>\n"
+            f"<dt>Testing</dt><dd>{escaped(source.testing or 'not there')}</dd>\n{when}{unstable}</dl>\n")
 
 
 def items(anchor: str, title: str, look: str, texts: Iterable[str]) -> str:
     """A section with a list; nothing if the list has nothing."""
-    inner = "".join(f"<li>{text}</li>\n" for text in texts)
+    inner = "".join([f"<li>{text}</li>\n" for text in texts])
     return f'<h2 id="{anchor}">{title}</h2>\n<ul{look}>\n{inner}</ul>\n' if inner else ""
 
 
-def told(source: Source) -> Iterator[str]:
+def told(source: Source) -> str:
     """What keeps it out, and what the newest run did with it."""
     title = "Why it doesn't move" if source.unstable else "What the newest run says of it"
-    yield items("excuse", str(escaped(title)), "", map(line_text, source.told))
+    return items("excuse", escaped(title), "", map(line_text, source.told))
 
 
-def waits(source: Source) -> Iterator[str]:
+def waits_of(source: Source) -> str:
     """What it waits for, and what waits for it."""
-    yield items("waits", "It waits for", "", map(line_text, source.waits))
     word = "source waits" if source.waiting == 1 else "sources wait"
-    yield items("waited", f"{source.waiting} {word} for it", "", map(line_text, source.waited))
     more = source.waiting - len(source.waited)
-    if source.waited and more > 0:
-        yield f'<p>And {more} more: see <a href="../waits.html">what waits for what</a>.</p>\n'
+    see = f'<p>And {more} more: see <a href="../waits.html">what waits for what</a>.</p>\n'
+    return "".join((items("waits", "It waits for", "", map(line_text, source.waits)),
+                    items("waited", f"{source.waiting} {word} for it", "", map(line_text, source.waited)),
+                    see if source.waited and more > 0 else ""))
 
 
-def people(source: Source) -> Iterator[str]:
+def people(source: Source) -> str:
     """Its maintainer and uploaders, and its feed."""
-    if source.people or source.has_feed:
-        yield "<dl>\n"
-        for place, person in enumerate(source.people):
-            shown = f'<a href="{escaped(person.link)}">{escaped(person.text)}</a>' if person.link else escaped(
-                person.text)
-            yield f'<dt>{"Uploader" if place else "Maintainer"}</dt><dd>{shown}</dd>\n'
-        name = escaped(source.name)
-        yield f'<dt>Feed</dt><dd><a href="{name}.xml">{name}.xml</a></dd>\n</dl>\n' if source.has_feed else "</dl>\n"
+    if not source.people and not source.has_feed:
+        return ""
+    shown = "".join([f'<dt>{"Uploader" if place else "Maintainer"}</dt><dd>{person_text(person)}</dd>\n'
+                     for place, person in enumerate(source.people)])
+    name = escaped(source.name)
+    feed = f'<dt>Feed</dt><dd><a href="{name}.xml">{name}.xml</a></dd>\n' if source.has_feed else ""
+    return f"<dl>\n{shown}{feed}</dl>\n"
 
 
-def answered(source: Source) -> Iterator[str]:
+def person_text(person: Piece) -> str:
+    """A person, as a link if there is a page of theirs."""
+    return link(person.link, person.text) if person.link else escaped(person.text)
+
+
+def answer_of(source: Source) -> str:
     """What the office answers about it, and what it proposes."""
     title = '<h2 id="why">What the office answers about it</h2>\n'
+    told = ""
     if source.lines:
-        yield (f'{title}<p>First answered after <a href="../run/{source.since}.html">run {source.since}</a>, and the '
-               'same each time since.</p>\n<ul class="told">\n')
-        yield from map(answer, source.lines)
-        yield "</ul>\n"
-    elif source.unstable and not source.since:
-        yield f"{title}<p>Not asked yet: a later call asks.</p>\n"
-    yield items("proposal", "What the office proposes", ' class="told"', map(escaped, source.proposal))
+        told = (f'{title}<p>First answered after <a href="../run/{source.since}.html">run {source.since}</a>, and the '
+                f'same each time since.</p>\n<ul class="told">\n{"".join(map(answer_line, source.lines))}</ul>\n')
+    elif not source.since:
+        told = f"{title}<p>Not asked yet: a later call asks.</p>\n"
+    return told + items("proposal", "What the office proposes", ' class="told"', map(escaped, source.proposal))
 
 
-def answer(line: Line) -> str:
+def answer_line(line: Line) -> str:
     """A line of an answer."""
-    anchor = f' id="{escaped(line.anchor)}"' if line.anchor else ""
-    return f'<li{anchor}{" class=" + chr(34) + "inner" + chr(34) if line.is_inner else ""}>{line_text(line)}</li>\n'
+    anchor, look = f' id="{escaped(line.anchor)}"' if line.anchor else "", ' class="inner"' if line.is_inner else ""
+    return f"<li{anchor}{look}>{line_text(line)}</li>\n"
 
 
 def past(history: Sequence[Standing], earlier: int) -> str:

@@ -9,7 +9,7 @@ import json
 import sqlite3
 import zlib
 from dataclasses import dataclass
-from typing import Iterable, Iterator, Mapping, NamedTuple, Optional, Sequence
+from typing import Collection, Iterable, Iterator, Mapping, NamedTuple, Optional, Sequence
 
 from office_tools.faults import Fault
 from office_tools.reports import Run
@@ -39,6 +39,8 @@ CREATE TABLE build (source TEXT NOT NULL, place INTEGER NOT NULL, told TEXT NOT 
 CREATE TABLE need (name TEXT NOT NULL, first INTEGER NOT NULL, sources TEXT NOT NULL, PRIMARY KEY (name, first))
     STRICT, WITHOUT ROWID;
 CREATE TABLE person (source TEXT PRIMARY KEY, maintainer TEXT NOT NULL, uploaders TEXT NOT NULL) STRICT, WITHOUT ROWID;
+CREATE TABLE touched (source TEXT PRIMARY KEY) STRICT, WITHOUT ROWID;
+CREATE TABLE basis (told TEXT NOT NULL) STRICT;
 CREATE TABLE page (path TEXT PRIMARY KEY, digest TEXT NOT NULL) STRICT;
 CREATE TABLE built (made_by TEXT NOT NULL, has_mail INTEGER NOT NULL) STRICT;
 """
@@ -119,6 +121,7 @@ class State:
 
     def __init__(self, path: str) -> None:
         self.path = path
+        self.last: Optional[dict[str, Event]] = None  # what `last_events` gives, once it was read
         with self.faults():
             self.database = sqlite3.connect(path, isolation_level=None)
             self.database.execute("PRAGMA journal_mode = WAL")
@@ -173,6 +176,7 @@ class State:
 
     def drop_from(self, number: int) -> None:
         """Drops all runs from this one on, what was asked after them, and what was read of the mail."""
+        self.last = None
         with self.transaction():
             for table in MAIL_TABLES:
                 self.database.execute(f"DELETE FROM {table}")
@@ -183,6 +187,7 @@ class State:
             self.database.execute("INSERT OR IGNORE INTO last SELECT source, max(run), testing, unstable, reasons, "
                                   "outcome FROM event GROUP BY source")
             self.database.execute("UPDATE page SET digest = ''")
+            self.database.execute("DELETE FROM basis")
             self.database.execute("DELETE FROM hint")
             self.database.execute("DELETE FROM built")
 
@@ -195,7 +200,10 @@ class State:
             self.database.executemany("INSERT INTO event VALUES (?, ?, ?, ?, ?, ?)", rows)
             self.database.executemany("INSERT OR REPLACE INTO last VALUES (?, ?, ?, ?, ?, ?)", rows)
             self.want_hints(hints)
+            self.touch(events)
             self.database.execute("DELETE FROM built")
+        if self.last is not None:
+            self.last |= events
 
     def update(self, number: int) -> str:
         """The update of a kept run."""
@@ -205,8 +213,11 @@ class State:
 
     def last_events(self) -> Mapping[str, Event]:
         """The last event of each source."""
-        with self.faults():
-            return {parts[0]: Event._make(parts[1:]) for parts in self.database.execute("SELECT * FROM last")}
+        if self.last is None:
+            with self.faults():
+                self.last = {source: Event._make(parts)
+                             for source, *parts in self.database.execute("SELECT * FROM last")}
+        return self.last
 
     def events(self, sources: Sequence[str]) -> Iterator[tuple[str, Sequence[Event]]]:
         """The events of each of these sources, the last one first."""
@@ -234,8 +245,11 @@ class State:
         return self.suite("testing")
 
     def keep_testing(self, run: int, told: str) -> None:
-        """Keeps what is in testing after a run, in place of what was kept."""
-        self.keep_suite("testing", run, told)
+        """Keeps what is in testing after a run, in place of what was kept, and which sources differ from that."""
+        before = self.testing()
+        lines = set(told.splitlines()).symmetric_difference(before[1].splitlines() if before else ())
+        words = (line.split(" ") for line in lines)
+        self.keep_suite("testing", run, told, {line[1] if len(line) == 3 else line[-1] for line in words})
 
     def unstable(self) -> Optional[tuple[int, str]]:
         """What the office said of unstable when this run was the newest one."""
@@ -251,9 +265,10 @@ class State:
             found = self.database.execute(f"SELECT run, told FROM {table}").fetchone()
         return (found[0], unpacked(found[1])) if found else None
 
-    def keep_suite(self, table: str, run: int, told: str) -> None:
-        """Keeps the text of a suite."""
+    def keep_suite(self, table: str, run: int, told: str, touched: Iterable[str] = ()) -> None:
+        """Keeps the text of a suite, and which sources changed in it."""
         with self.transaction():
+            self.touch(touched)
             self.database.execute(f"DELETE FROM {table}")
             self.database.execute(f"INSERT INTO {table} VALUES (?, ?)", (run, packed(told)))
             self.database.execute("DELETE FROM built")
@@ -361,9 +376,27 @@ class State:
             found = self.database.execute("SELECT made_by, has_mail FROM built").fetchone()
         return (found[0], bool(found[1])) if found else None
 
-    def keep_built(self, made_by: str) -> None:
+    def touch(self, sources: Iterable[str]) -> None:
+        """Keeps within a transaction that what is kept of these sources changed since all pages were made."""
+        self.database.executemany("INSERT OR IGNORE INTO touched VALUES (?)", ((source,) for source in sources))
+
+    def touched(self) -> Collection[str]:
+        """The sources of which something that is kept changed since all pages were made."""
+        with self.faults():
+            return [source for source, in self.database.execute("SELECT source FROM touched")]
+
+    def basis(self) -> Optional[str]:
+        """What the pages of sources show beside what is kept of each of them, when all of them were made last."""
+        with self.faults():
+            found = self.database.execute("SELECT told FROM basis").fetchone()
+        return found[0] if found else None
+
+    def keep_built(self, made_by: str, basis: str) -> None:
         """All pages are made of what is kept."""
         with self.transaction():
+            self.database.execute("DELETE FROM touched")
+            self.database.execute("DELETE FROM basis")
+            self.database.execute("INSERT INTO basis VALUES (?)", (basis,))
             self.database.execute("DELETE FROM built")
             self.database.execute("INSERT INTO built VALUES (?, 1)", (made_by,))
 

@@ -10,7 +10,7 @@ from office_tools import reports
 from office_tools.pages.fetching import HINTS, PROPOSED, hints_named, Newest, sources_in, without_age
 from office_tools.pages.hints import pages_of, Refusal, refusals_of
 from office_tools.pages.kept_mail import Person
-from office_tools.pages.outcomes import NOTHING, outcome_in, outcomes_of, reason_words, SourceOutcome, What
+from office_tools.pages.outcomes import NOTHING, outcome_in, reason_words, SourceOutcome, What
 from office_tools.pages.patterns import Patterns
 from office_tools.pages.people import page_of
 from office_tools.pages.sentences import breaks, old_enough, outcome_sentence, reason_sentence, refused_because
@@ -209,7 +209,7 @@ def facts_of(state: State, newest: Newest, patterns: Patterns) -> Facts:
                  refusals_of(state, newest.number, newest.update),
                  sources_in(proposed[1]) if proposed and proposed[0] == newest.number else None,
                  state.proposals(), patterns,
-                 outcomes_of(newest.update), {excuse.source: excuse for excuse in newest.excuses.excuses},
+                 newest.outcomes, {excuse.source: excuse for excuse in newest.excuses.excuses},
                  binaries_of(rows), {row.package: row.source for row in rows})
 
 
