@@ -251,13 +251,13 @@ class Book:
             f'The law `headline` says what every office does. This page has it, and all that it needs: '
             f'{len(self.definitions)} definitions of {lines_of(self.definitions):,} lines, counted as in '
             f'`docs/TRUST.md`, and the {len(self.types)} types of the program that they name. A reviewer of the '
-            'headline needs to read nothing else. A release manager can read the sentences at the head of each chapter, and '
-            'chapters 2 and 3.')
+            'headline needs to read nothing else. A release manager can read the sentences at the head of each '
+            'chapter, and chapters 2 and 3.')
         yield wrapped(
             '`tests/book.py --write` makes this page from the files that it names, and `tests/trust.py` compares it '
             'with them. A file comes after those that use it. In a file each definition comes after those that it '
-            'uses, so the last one often says what the file is for. Comments are those of the files. Only lines of more than '
-            '120 columns are broken.')
+            'uses, so the last one often says what the file is for. Comments are those of the files. Only lines of '
+            'more than 120 columns are broken.')
         rows = [f'| {this} | {says} |' for this, says in NOTATION]
         yield '\n'.join(['| Notation | How to read it |', '|---|---|', *rows])
         yield '## The headline'
