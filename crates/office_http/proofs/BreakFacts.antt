@@ -1,45 +1,20 @@
 -- What a request that asks what a change breaks comes to.
-use Rattle.std.proofs.Common.{◌≡◌, ℕ, true, false, cond, List, None, Some, Option, Result, Ok, Err, IfOk, refl, sym, ap, subst, ◌∙◌}
+use Rattle.std.proofs.Common.{◌≡◌, ℕ, true, false, cond, List, None, Some, Option, Result, Ok, Err, IfOk, refl, sym, ap, ◌∙◌}
 use Rattle.std.specs.Str.{is_utf8}
-use Rattle.office_mail.specs.declared.message.MailFault.{MailFault}
 use Rattle.office_mail.specs.declared.message.MailFault.TheVariants as mail
 use Rattle.office_core_orders.specs.declared.faults.DeliverFault.TheVariants.{Mail}
 use Rattle.office_core_orders.specs.declared.faults.StoreFault.{StoreFault}
 use Rattle.office_core_orders.specs.declared.faults.StoreFault.TheVariants as fault
 use Rattle.office_http_requests.specs.declared.reply.Answer.{Answer}
-use Rattle.office_http_requests.specs.declared.reply.Answer.TheVariants.{Refused, Delivered, BadHint}
+use Rattle.office_http_requests.specs.declared.reply.Answer.TheVariants.{Refused, Delivered}
 use Rattle.office_http_requests.specs.declared.request.Action.TheVariants.{Breaks}
 use Rattle.office_core_replay.specs.Losses.{TextCounted}
 use Rattle.office_core_facts.specs.OfficeState.{OfficeState}
-use Rattle.office_core_breaks.specs.Asked.{question_in}
-use Rattle.office_core_breaks.specs.Told.{IsBreaks}
-use Rattle.office_core_breaks.specs.declared.BreaksText.{BreaksText}
-use Rattle.office_core_breaks.specs.declared.asked.Question.{Question}
-use Rattle.office_http.specs.Breaks.{changes_answer, question_answer}
+use Rattle.office_http.specs.Breaks.{changes_answer}
 use Rattle.office_http.specs.Serve.{refusal_for, Moves}
-use Rattle.office_http.specs.ServeSteps.{answer_or, told_answer, TellsBreaks, TellsChanges, TellsQuestion, Runs}
-use Rattle.office_http.specs.Trials.{hints_in, refused_hint}
+use Rattle.office_http.specs.ServeSteps.{answer_or, TellsChanges, Runs}
+use Rattle.office_http.specs.Trials.{hints_in}
 use Rattle.office_http.proofs.ServeFacts.{nothing, still_moves}
-
--- what is told of words that ask a question is what is told of the question
-told_same : (words : List ℕ) (question : Question) (told : Option BreaksText) → told_answer told ≡ question_answer words (Ok question) told
-told_same words question None = refl
-told_same words question (Some told) = refl
-
-pub by_question : (s : OfficeState) (words : List ℕ) (question : Question) (answer : Answer) → Ok question ≡ question_in s.setup words → TellsQuestion s question answer → TellsBreaks s words answer
-by_question s words question answer e t = record {
-  told = t.told;
-  is = subst (λ (r : Result Question MailFault). IfOk r (λ q. IsBreaks s.setup s.kept s.finished q t.told)) e t.is;
-  answer_is = t.answer_is ∙ told_same words question t.told ∙ ap (λ (r : Result Question MailFault). question_answer words r t.told) e;
-}
-
--- and of others that they are refused
-pub by_fault : (s : OfficeState) (words line : List ℕ) (f : MailFault) → Err f ≡ question_in s.setup words → line ≡ refused_hint words f → TellsBreaks s words (BadHint line)
-by_fault s words line f e is = record {
-  told = None;
-  is = subst (λ (r : Result Question MailFault). IfOk r (λ q. IsBreaks s.setup s.kept s.finished q None)) e tt;
-  answer_is = ap BadHint is ∙ ap (λ (r : Result Question MailFault). question_answer words r None) e;
-}
 
 -- the question does nothing
 asked_moves : (rose : Type 0) (before after : OfficeState) (body : List ℕ) (f : Option StoreFault) → after ≡ before → Moves before after Breaks body f 0 rose
