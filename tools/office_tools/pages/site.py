@@ -77,6 +77,7 @@ class Site:
         self.folders: set[str] = set()
         self.more: Optional[More] = None
         self.rows: dict[str, tuple[views.Row, RowText]] = {}  # of sources that don't move
+        self.shown_lists: dict[str, tuple[Sequence[views.Row], Mapping[str, Count]]] = {}
 
     @functools.cached_property
     def templates(self) -> jinja2.Environment:
@@ -402,6 +403,9 @@ class Site:
         counts = {word: Count(list_link(word), LIST_TITLES.get(word, "all"), len(some[word]))
                   for word in ("", *LIST_TITLES)}
         for word, of_word in some.items():
+            if self.shown_lists.get(word) == (of_word, counts):
+                continue  # as when it was written before
+            self.shown_lists[word] = of_word, counts
             values = {"run": facts.newest.kept.run, "word": word, "number": len(of_word), "lists": counts.values(),
                       "title": f"Sources that don't move: {LIST_TITLES[word]}" if word else "Sources that don't move",
                       "up": "", "here": list_link(word), "reasons": REASON_TITLES, "verdicts": verdicts.TITLES}

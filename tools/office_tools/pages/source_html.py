@@ -1,6 +1,6 @@
 """The page of a source as HTML.
 
-A Debian release has some 34,000 of them. So functions write what differs from page to page: a template takes several
+A Debian release has some 34,000 of them. So functions write what differs from page to page: a template takes eight
 times as long. What is the same on all of them is in a frame, which the template `base.html` makes once.
 """
 from typing import Iterable, Sequence
