@@ -88,7 +88,7 @@ class Site:
             lstrip_blocks=True, auto_reload=False, keep_trailing_newline=True, undefined=jinja2.StrictUndefined)
         made: Mapping[str, Callable[..., str]] = {
             "link": rows.piece_text, "pieces": rows.line_text, "told": rows.told_text, "verdict": rows.verdict,
-            "table_row": rows.table_row}
+            "table_row": rows.table_row, "joined": rows.joined}
         found.globals |= {name: rows.shown(function) for name, function in made.items()}
         # The menu is the same for all pages of a folder.
         menu = found.get_template("menu.html")
@@ -323,8 +323,7 @@ class Site:
         """What is in testing."""
         sources = facts.testing.sources if facts.testing else {}
         for link, parts, shown in parts_of("testing", [
-                RowText(name, rows.testing_row(name, version, facts.binaries.get(name, ())))
-                for name, version in sources.items()]):
+                RowText(name, text) for name, text in zip(sources, rows.testing_rows(sources, facts.binaries))]):
             self.put(link, self.page("testing.html", {
                 "run": facts.newest.kept.run, "rows": shown, "list": parts, "number": len(sources), "up": "",
                 "is_known": facts.testing is not None}))
