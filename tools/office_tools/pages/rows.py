@@ -148,7 +148,7 @@ def testing_rows(sources: Mapping[str, str], binaries: Mapping[str, Sequence[str
 
 
 def joined(texts: Iterable[str]) -> str:
-    """Rows, one behind the other."""
+    """Rows, one after the other."""
     return "".join(texts)
 
 

@@ -11,7 +11,7 @@ from office_tools.pages.rows import cell, escaped, line_text, link, piece_text, 
 from office_tools.pages.told import Line, Piece
 from office_tools.pages.views import Source, Standing
 
-MARK = "\0"  # stands in the frame where a page has its title, its part of the head, and its content
+MARK = "\0"  # is in the frame where a page has its title, its part of the head, and its content
 HISTORY = (
     '<table class="history" role="table">\n<caption>How it stood from each of these runs on</caption>\n'
     '<thead role="rowgroup"><tr role="row"><th role="columnheader" scope="col">Run</th>'
