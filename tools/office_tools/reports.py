@@ -256,8 +256,8 @@ class Lines:
 
         A release has some 160,000 lines in testing, so they are matched at once and not one by one.
         """
-        end = next((place for place in range(self.place, len(self.lines))
-                    if not self.lines[place].startswith(beginning)), len(self.lines))
+        begin_so = [line.startswith(beginning) for line in self.lines[self.place:]]
+        end = self.place + (begin_so.index(False) if False in begin_so else len(begin_so))
         found = form.findall("\n".join(self.lines[self.place:end]))
         if len(found) != end - self.place:
             end = next(place for place in range(self.place, end) if not form.fullmatch(self.lines[place]))

@@ -50,7 +50,7 @@ class ExcusesYaml:
             yield " ".join([source, *(wait.other for wait in some)])
 
     def others(self, waits: Sequence[Wait]) -> str:
-        """What the file says of the sources for which one waits; the first line goes on behind a dash."""
+        """What the file says of the sources for which one waits; its first line follows a dash."""
         names = sorted({wait.other for wait in waits if wait.other})
         lists = (("blocked-by", [name for name in names if name not in self.candidates]),
                  ("migrate-after", [name for name in names if name in self.candidates]))
@@ -58,7 +58,7 @@ class ExcusesYaml:
         return f"dependencies:\n{told}  " if told else ""
 
     def item(self, excuse: Excuse) -> str:
-        """What the file says of a source other than of what it waits for; the first line goes on behind a dash."""
+        """What the file says of a source other than of what it waits for; its first line follows a dash."""
         words, name, info = reason_words(excuse), scalar(excuse.source), policies(excuse)
         person = self.people.get(excuse.source)
         told = [text.replace("<", "&lt;").replace(">", "&gt;")

@@ -6,6 +6,7 @@ as the count of characters that it shares with the previous name, as one digit o
 a source are in its line, separated by blanks. The name before the first one is the source's, and a package of the
 source's own name is left out.
 """
+import collections
 from typing import Iterable, Mapping, NamedTuple, Sequence
 
 DIGITS = "0123456789abcdefghijklmnopqrstuvwxyz"
@@ -34,9 +35,11 @@ def beginning_of(name: str) -> str:
 
 def by_beginning(names: Sequence[Name]) -> Mapping[str, Sequence[Name]]:
     """The names by their beginning."""
-    found: dict[str, list[Name]] = {}
+    found: dict[str, list[Name]] = collections.defaultdict(list)
     for name in names:
-        found.setdefault(beginning_of(name.name), []).append(name)
+        # The names are many, and only those with an l need a closer look.
+        first = name[0][0]
+        found[first if first != LIBRARY[0] else beginning_of(name[0])].append(name)
     return dict(sorted(found.items()))
 
 
@@ -52,17 +55,17 @@ def shortened_by(before: str, name: str) -> str:
 
 def index_of(sources: Iterable[str], packages: Mapping[str, str]) -> tuple[str, str]:
     """The two texts of the index: of the sources, and of their packages."""
-    of_source: dict[str, list[str]] = {}
-    for package in sorted(packages):
-        if package != packages[package]:
-            of_source.setdefault(packages[package], []).append(package)
+    of_source: dict[str, list[str]] = collections.defaultdict(list)
+    for package, source in sorted(packages.items()):
+        if package != source:
+            of_source[source].append(package)
     lines: list[str] = []
     before = ""
     inner: list[str] = []
     for source in sorted(sources):
         lines.append(shortened_by(before, source))
-        own = of_source.get(source, [])
-        inner.append(" ".join(map(shortened_by, [source, *own], own)))
+        own = of_source.get(source)
+        inner.append(" ".join(map(shortened_by, [source, *own], own)) if own else "")
         before = source
     return "\n".join(lines), "\n".join(inner)
 

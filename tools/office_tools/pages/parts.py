@@ -1,4 +1,6 @@
 """Lists that are too long for one page, cut into parts."""
+import bisect
+import itertools
 from dataclasses import dataclass
 from typing import Iterator, NamedTuple, Sequence
 
@@ -24,15 +26,16 @@ class RowText(NamedTuple):
 
 def cut(rows: Sequence[RowText]) -> Iterator[Sequence[RowText]]:
     """The rows by pages, with one page at least."""
-    some: list[RowText] = []
-    size = 0
-    for row in rows:
-        if some and (size + len(row.text) > LARGEST or len(some) == MOST_ROWS):
-            yield some
-            some, size = [], 0
-        some.append(row)
-        size += len(row.text)
-    yield some
+    # How large the rows up to each one are. So each page is found at once and not row by row.
+    sizes = list(itertools.accumulate([len(text) for _, text in rows], initial=0))
+    first = 0
+    while len(rows) - first > 1:
+        end = bisect.bisect_right(sizes, sizes[first] + LARGEST, first + 1) - 1
+        end = min(max(end, first + 1), first + MOST_ROWS)
+        yield rows[first:end]
+        first = end
+    if first < len(rows) or not rows:
+        yield rows[first:]
 
 
 def parts_of(name: str, rows: Sequence[RowText]) -> Iterator[tuple[str, Sequence[Part], Sequence[str]]]:

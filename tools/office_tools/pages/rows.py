@@ -6,7 +6,7 @@ template takes ten times as long. Each text is escaped as the templates do it.
 import functools
 import re
 from dataclasses import dataclass
-from typing import Callable, Iterable, Sequence
+from typing import Callable, Iterable, Mapping, Sequence
 
 from markupsafe import escape, Markup
 
@@ -136,10 +136,20 @@ def run_row(run: Run, up: str = "") -> str:
                 *(cell(str(count), title, ' class="n"') for title, count in counts.items())))
 
 
-def testing_row(name: str, version: str, binaries: Sequence[str]) -> str:
-    """A source in testing, with its packages. Its texts are in no other row, and are escaped at once."""
-    name, version, packages = str(escape("\n".join((name, version, ", ".join(binaries) or "-")))).split("\n")
-    return row((cell(f'<a href="source/{name}.html">{name}</a>'), cell(version, "Version"), cell(packages, "Packages")))
+def testing_rows(sources: Mapping[str, str], binaries: Mapping[str, Sequence[str]]) -> Sequence[str]:
+    """The sources in testing, each with its version and its packages. No text has a line end or a tab, and all are
+    escaped at once."""
+    told = "\n".join([f"{name}\t{version}\t{', '.join(binaries.get(name, ())) or '-'}"
+                      for name, version in sources.items()])
+    begin, packages_cell = '<tr role="row"><td role="cell">', '<td role="cell" data-label="Packages">'
+    return [f'{begin}<a href="source/{name}.html">{name}</a></td><td role="cell" data-label="Version">{version}</td>'
+            f"{packages_cell}{packages}</td></tr>\n"
+            for name, version, packages in (line.split("\t") for line in str(escape(told)).split("\n") if line)]
+
+
+def joined(texts: Iterable[str]) -> str:
+    """Rows, one after the other."""
+    return "".join(texts)
 
 
 def name_items(names: Sequence[Name]) -> Sequence[str]:

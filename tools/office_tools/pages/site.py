@@ -77,6 +77,7 @@ class Site:
         self.folders: set[str] = set()
         self.more: Optional[More] = None
         self.rows: dict[str, tuple[views.Row, RowText]] = {}  # of sources that don't move
+        self.shown_lists: dict[str, tuple[Sequence[views.Row], Mapping[str, Count]]] = {}
 
     @functools.cached_property
     def templates(self) -> jinja2.Environment:
@@ -87,7 +88,7 @@ class Site:
             lstrip_blocks=True, auto_reload=False, keep_trailing_newline=True, undefined=jinja2.StrictUndefined)
         made: Mapping[str, Callable[..., str]] = {
             "link": rows.piece_text, "pieces": rows.line_text, "told": rows.told_text, "verdict": rows.verdict,
-            "table_row": rows.table_row}
+            "table_row": rows.table_row, "joined": rows.joined}
         found.globals |= {name: rows.shown(function) for name, function in made.items()}
         # The menu is the same for all pages of a folder.
         menu = found.get_template("menu.html")
@@ -322,8 +323,7 @@ class Site:
         """What is in testing."""
         sources = facts.testing.sources if facts.testing else {}
         for link, parts, shown in parts_of("testing", [
-                RowText(name, rows.testing_row(name, version, facts.binaries.get(name, ())))
-                for name, version in sources.items()]):
+                RowText(name, text) for name, text in zip(sources, rows.testing_rows(sources, facts.binaries))]):
             self.put(link, self.page("testing.html", {
                 "run": facts.newest.kept.run, "rows": shown, "list": parts, "number": len(sources), "up": "",
                 "is_known": facts.testing is not None}))
@@ -402,6 +402,9 @@ class Site:
         counts = {word: Count(list_link(word), LIST_TITLES.get(word, "all"), len(some[word]))
                   for word in ("", *LIST_TITLES)}
         for word, of_word in some.items():
+            if self.shown_lists.get(word) == (of_word, counts):
+                continue  # as when it was written before
+            self.shown_lists[word] = of_word, counts
             values = {"run": facts.newest.kept.run, "word": word, "number": len(of_word), "lists": counts.values(),
                       "title": f"Sources that don't move: {LIST_TITLES[word]}" if word else "Sources that don't move",
                       "up": "", "here": list_link(word), "reasons": REASON_TITLES, "verdicts": verdicts.TITLES}

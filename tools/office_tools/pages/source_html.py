@@ -1,6 +1,6 @@
 """The page of a source as HTML.
 
-A Debian release has some 34,000 of them. So functions write what differs from page to page: a template takes several
+A Debian release has some 34,000 of them. So functions write what differs from page to page: a template takes eight
 times as long. What is the same on all of them is in a frame, which the template `base.html` makes once.
 """
 from typing import Iterable, Sequence
@@ -11,7 +11,7 @@ from office_tools.pages.rows import cell, escaped, line_text, link, piece_text, 
 from office_tools.pages.told import Line, Piece
 from office_tools.pages.views import Source, Standing
 
-MARK = "\0"  # stands in the frame where a page has its title, its part of the head, and its content
+MARK = "\0"  # is in the frame where a page has its title, its part of the head, and its content
 HISTORY = (
     '<table class="history" role="table">\n<caption>How it stood from each of these runs on</caption>\n'
     '<thead role="rowgroup"><tr role="row"><th role="columnheader" scope="col">Run</th>'

@@ -41,8 +41,8 @@ class Suite:
         """The sources of the rows of these packages."""
         if not packages:
             return {}
-        words = (text.split(" ") for text in self.texts)
-        return {(architecture, package): source for architecture, package, _, source in words if package in packages}
+        words = [text.split(" ") for text in self.texts if text.split(" ", 2)[1] in packages]
+        return {(architecture, package): source for architecture, package, _, source in words}
 
 
 @dataclass(frozen=True)
