@@ -20,6 +20,7 @@ from typing import Optional, Sequence
 from world import ARCHITECTURES, TESTING, Binary, common, every, packages, sources
 
 TOP = Path(__file__).resolve().parents[2]
+os.environ.setdefault("OFFICE_PLAN", str(TOP / "crates/office_plan/out/office_plan"))
 sys.path.insert(0, str(TOP / "tools"))
 sys.dont_write_bytecode = True
 from office_tools.service import Service  # noqa: E402
