@@ -64,23 +64,26 @@ def key_of(item: Item) -> Key:
     """The architecture and the name in the line of an item."""
     if isinstance(item, Source):
         return SOURCE, item.name
-    place = "" if item.place == item.architecture else f"/{item.place}"
-    return item.architecture + place, item.name
+    if item.place == item.architecture:
+        return item.place, item.name
+    return f"{item.architecture}/{item.place}", item.name
 
 
 def line_of(item: Item, is_first: bool) -> str:
     """The line of an item, or that of another version of what has a line already."""
     architecture, name = key_of(item)
-    return f"{name} {item.version} {architecture}{'' if is_first else '=' + item.version}"
+    line = f"{name} {item.version} {architecture}"
+    return line if is_first else f"{line}={item.version}"
 
 
 def greatest(items: Iterable[Item]) -> Mapping[Key, Item]:
     """The item with the greatest version of each key."""
     found: dict[Key, Item] = {}
     for item in items:
-        other = found.setdefault(key_of(item), item)
-        if versions.compare(item.version, other.version) > 0:
-            found[key_of(item)] = item
+        key = key_of(item)
+        other = found.setdefault(key, item)
+        if other is not item and versions.compare(item.version, other.version) > 0:
+            found[key] = item
     return found
 
 
@@ -109,6 +112,7 @@ def listed(goal: Target, have: Contents, origin: Contents) -> Lists:
     """
     due = goal.contents.items - frozenset(goal.odd)
     there = have.items - frozenset(goal.odd)
+    copied = origin.items | there
     wanted = greatest(goal.want.items)
     surplus = there - due
     first = {key: item for key, item in wanted.items() if item in there}
@@ -116,11 +120,12 @@ def listed(goal: Target, have: Contents, origin: Contents) -> Lists:
         if key not in first or versions.compare(item.version, first[key].version) > 0:
             first[key] = item
     hidden = {item for key, item in wanted.items() if first.get(key) != item}
-    suite = {line_of(item, first.get(key_of(item)) == item): item for item in there - hidden}
-    target = {line_of(item, wanted.get(key_of(item)) == item): item for item in due}
-    source = {line: item for line, item in target.items() if item in origin.items or item in there}
+    chosen, best = set(first.values()), set(wanted.values())
+    suite = {line_of(item, item in chosen): item for item in there - hidden}
+    target = {line_of(item, item in best): item for item in due}
+    source = {line: item for line, item in target.items() if item in copied}
     gone = first.keys() - {key for key, item in wanted.items() if item in due}
-    return Lists(target, suite, source, first, frozenset(gone), len(surplus - set(first.values())), have)
+    return Lists(target, suite, source, first, frozenset(gone), len(surplus - chosen), have)
 
 
 def ask(lists: Lists, gone: int, is_back: bool) -> Answer:
