@@ -104,6 +104,13 @@ def to_be(want, have):
     return goal, plan_to(goal, have)
 
 
+def all_of(*parts):
+    """Several contents in one."""
+    return Contents(frozenset().union(*(part.sources for part in parts)),
+                    frozenset().union(*(part.rows for part in parts)),
+                    {row: source for part in parts for row, source in part.built_of.items()})
+
+
 @needs_plan
 class Targets(unittest.TestCase):
 
@@ -173,11 +180,6 @@ class Plans(unittest.TestCase):
     def listed(self, want, have, origin=Contents()):
         return listed(target(want, have), have, origin)
 
-    def all_of(self, *parts):
-        return Contents(frozenset().union(*(part.sources for part in parts)),
-                        frozenset().union(*(part.rows for part in parts)),
-                        {row: source for part in parts for row, source in part.built_of.items()})
-
     def test_dak_lists(self):
         """The lines of a list are those of dak's file, where each package has one version."""
         found = self.listed(suite("lib 2 lib2"), suite("lib 1 lib1"), suite("lib 2 lib2", "other 1 other"))
@@ -188,13 +190,13 @@ class Plans(unittest.TestCase):
     def test_older_versions_go(self):
         """A copy of all was made, and nothing was removed: nothing leaves for good."""
         old, new = [suite("lone 1 lone"), suite("lone 2 lone")], suite("lone 3 lone")
-        plan = ask(self.listed(new, self.all_of(new, *old)), 0, False).plan
+        plan = ask(self.listed(new, all_of(new, *old)), 0, False).plan
         self.assertEqual((plan.come.items, plan.go.items), (set(), old[0].items | old[1].items))
 
     def test_a_greater_version_beside_the_wanted_one(self):
         """It can only go if testing may go back; the wanted version isn't copied again."""
         one, two = suite("lone 1 lone"), suite("lone 2 lone")
-        lists = self.listed(one, self.all_of(one, two))
+        lists = self.listed(one, all_of(one, two))
         self.assertEqual(set(ask(lists, 0, False).lower), one.items)
         plan = ask(lists, 0, True).plan
         self.assertEqual((plan.come.items, plan.go.items), (set(), two.items))
@@ -316,6 +318,18 @@ class Turns(unittest.TestCase):
                 self.turn(manager, text).apply()
             self.assertEqual((refused.exception.status, manager.asked), (status, asked))
             self.assertEqual((manager.there, manager.shown), (self.OLD, self.OLD))
+
+    def test_a_manager_that_does_something_else(self):
+        """After it copied, testing lacks what it had, or would go back: nothing else is done."""
+        old = suite("old 1 old")
+        for there, cause in ((self.NEW, "nothing to copy from: source old 1, binary amd64 old 1"),
+                             (all_of(old, suite("new 2 new")), "lower versions: new 2 to 1")):
+            manager = Manager(old, self.NEW)
+            with unittest.mock.patch.object(manager, "copy", lambda come: setattr(manager, "there", there)):
+                with self.assertRaises(Fault) as raised:
+                    self.turn(manager, testing_text("new 1 new", "old 1 old")).apply()
+            self.assertEqual((raised.exception.status, manager.shown, manager.asked), (4, old, []))
+            self.assertRegex(raised.exception.cause, f"^testing isn't published: .*{cause}")
 
     def test_without_a_judge_all_is_held_back(self):
         manager = Manager(self.OLD, self.OLD)

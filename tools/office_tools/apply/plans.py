@@ -14,9 +14,9 @@ from typing import Iterable, Iterator, Mapping, Optional, Sequence
 
 from office_tools import versions
 from office_tools.apply.contents import REFUSED, Contents, Item, Source, Target, contents_of
+from office_tools.apply.managers import UNANSWERED
 from office_tools.faults import Fault, cause_of
 
-UNANSWERED = 4  # status of a command whose program failed
 SECONDS = 3600
 SOURCE = "source"
 MOST = 1_000_000_000  # that may leave, as office-plan takes it

@@ -66,13 +66,11 @@ class Turn:
         first = plan = self.terms.plan(work.goal, work.have, work.origin)
         if not plan.come.is_empty:
             self.manager.copy(plan.come)
-            work = work.over(self.manager.testing())
-            plan = self.terms.plan(work.goal, work.have, work.origin)
+            work, plan = self.again(work)
             self.check_came(plan.come)
         if not plan.go.is_empty:
             self.manager.remove(plan.go)
-            work = work.over(self.manager.testing())
-            plan = self.terms.plan(work.goal, work.have, work.origin)
+            work, plan = self.again(work)
         if not plan.is_empty:
             for line in plan.lines():
                 self.show(line)
@@ -84,6 +82,14 @@ class Turn:
         self.show(f"testing {self.testing.finished}: {counts(work.goal.want)}; came {counts(first.come)}; "
                   f"went {counts(first.go)}{work.held_back}")
         return HELD if work.held else 0
+
+    def again(self, work: Work) -> tuple[Work, Plan]:
+        """The plan over what testing has now. What is refused now wasn't before: something else changed testing."""
+        found = work.over(self.manager.testing())
+        try:
+            return found, self.terms.plan(found.goal, found.have, found.origin)
+        except Fault as fault:
+            raise Fault(f"testing isn't published: {fault.cause}", UNANSWERED) from fault
 
     def publish(self, have: Contents) -> None:
         """Publishes testing, if clients see something else."""
