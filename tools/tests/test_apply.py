@@ -226,7 +226,8 @@ class Plans(unittest.TestCase):
         have = suite("app 1 app")
         for version, program, status, cause in (("1_0", os.environ["OFFICE_PLAN"], 3, "'odd 1_0 source': "),
                                                 ("1", "/nowhere/office-plan", 4, "No such file or directory"),
-                                                ("1", "/bin/false", 4, "/bin/false: status 1")):
+                                                ("1", "/bin/false", 4, "/bin/false: status 1"),
+                                                ("1", "/bin/echo", 4, "/bin/echo: it prints '/proc/self/fd/")):
             with unittest.mock.patch.dict(os.environ, OFFICE_PLAN=program):
                 with self.assertRaises(Fault) as raised:
                     plan_to(target(Contents(frozenset({Source("odd", version)})), have), have)

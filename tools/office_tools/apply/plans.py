@@ -131,8 +131,17 @@ def listed(goal: Target, have: Contents, origin: Contents) -> Lists:
 def ask(lists: Lists, gone: int, is_back: bool) -> Answer:
     """What the program says of lists. At most so many may leave, and none goes to a lower version unless allowed."""
     words = ["--gone", str(min(gone + lists.others, MOST)), *(["--back"] if is_back else [])]
+    told = run([list(lists.target), list(lists.suite), list(lists.origin)], words)
+    try:
+        return answer_of(told, lists)
+    except (KeyError, ValueError) as fault:
+        raise Fault(f"{program()}: it prints {fault.args[0]!r}", UNANSWERED) from fault
+
+
+def answer_of(told: Sequence[str], lists: Lists) -> Answer:
+    """What the lines say that the program prints of lists."""
     found: dict[str, list[str]] = {"copy": [], "remove": [], "lacks": [], "lower": [], "leaving": []}
-    for line in run([list(lists.target), list(lists.suite), list(lists.origin)], words):
+    for line in told:
         kind, _, rest = line.partition(" ")
         found[kind].append(rest)
     plan = Plan(contents_of(lists.target[line] for line in found["copy"]).without(lists.there),
