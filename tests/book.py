@@ -249,15 +249,17 @@ class Book:
         yield '# The book: all that the headline says'
         yield wrapped(
             f'The law `headline` says what every office does. This page has it, and all that it needs: '
-            f'{len(self.definitions)} definitions of {lines_of(self.definitions):,} lines, counted as in `docs/TRUST.md`, '
-            f'and the {len(self.types)} types of the program that they name. A reviewer of the headline needs to read '
-            f'nothing else. A release manager can read the sentences at the head of each chapter, and chapters 2 and 3.')
+            f'{len(self.definitions)} definitions of {lines_of(self.definitions):,} lines, counted as in '
+            f'`docs/TRUST.md`, and the {len(self.types)} types of the program that they name. A reviewer of the '
+            'headline needs to read nothing else. A release manager can read the sentences at the head of each '
+            'chapter, and chapters 2 and 3.')
         yield wrapped(
-            '`tests/book.py --write` makes this page from the files that it names, and `tests/trust.py` compares it with '
-            'them. A file comes after those that use it. In a file each definition comes after those that it uses, so '
-            'the last one often says what the file is for. Comments are those of the files. Only lines of more than 120 '
-            'columns are broken.')
-        yield '\n'.join(['| Notation | How to read it |', '|---|---|'] + [f'| {this} | {says} |' for this, says in NOTATION])
+            '`tests/book.py --write` makes this page from the files that it names, and `tests/trust.py` compares it '
+            'with them. A file comes after those that use it. In a file each definition comes after those that it '
+            'uses, so the last one often says what the file is for. Comments are those of the files. Only lines of '
+            'more than 120 columns are broken.')
+        rows = [f'| {this} | {says} |' for this, says in NOTATION]
+        yield '\n'.join(['| Notation | How to read it |', '|---|---|', *rows])
         yield '## The headline'
         yield f'It stands in `{LAW}`. `no_content` keeps nothing, and has no finished run.'
         yield f'```rust\n{narrow(self.law())}\n```'
@@ -265,7 +267,8 @@ class Book:
     def back(self):
         """The names that the toolchain's libraries define."""
         yield '## Words of the toolchain'
-        yield 'The definitions use these names of the toolchain\'s libraries. The file is one below `specs/` of the library.'
+        yield ('The definitions use these names of the toolchain\'s libraries. The file is one below `specs/` of the '
+               'library.')
         yield '\n'.join(['| File | Names |', '|---|---|'] + [
             f'| `{file}` | {", ".join(f"`{name}`" for name in sorted(names)).replace("|", chr(92) + "|")} |'
             for file, names in sorted(self.library().items())])

@@ -3,9 +3,9 @@
 
 Usage: garbled.py OFFICE [COUNT [KIND..]]
 
-COUNT files of each kind are drawn, 100 if nothing is stated. Each is read by a tool in a process that is forked from
-this one, so that ten thousand of each kind are done within two hours of processor. A file that ends a tool wrongly is
-kept, and named with the command. The exit status is 1 if there is one.
+COUNT files of each kind are drawn, 100 if nothing is stated. A tool reads each by its own `main`, a hundred files in a
+process that is forked from this one. A file that ends a tool wrongly is kept, and named with the command. The exit
+status is 1 if there is one. Set TMPDIR to a folder in memory, since the tools wait until a disk has what they write.
 """
 import importlib
 import os
@@ -29,10 +29,20 @@ from office_tools.mirror import held  # noqa: E402
 
 MODULES: Mapping[str, str] = {"bugs": "bugs.command", "mend": "mend", "tests": "autopkgtests.command"}
 """Where a tool's words are read, if it isn't in the module `command` of its own folder."""
-CACHED = {"bag": "bag", "known": "known.json", "memory": "memory.json", "indexes": "indexes.json"}
+CACHED = {"bag": "cache/bag", "known": "cache/known.json", "memory": "cache/memory.json",
+          "indexes": "cache/indexes.json", "ends": "look/ends", "copy": "look/store.db", "pages": "out/.state/state.db"}
+"""The files in which office-feed, office-look and office-pages remember something."""
+BRITNEY = {"packages": ("Packages_amd64",), "sources": ("Sources",), "bugs": ("BugsV",), "dates": ("Dates",),
+           "urgencies": ("Urgency",), "hints": ("Hints/me",)}
+"""The files of a suite in a data folder of britney's."""
 STATUSES = range(5)
+TRACED = 99  # what counts as the status of a tool that ended by a traceback
 SECONDS = 60
+BATCH = 100  # files that one process tries
 DAY = "2025-03-06"
+MAKE = ("from-packages", "--no-hints", "--uploaded", DAY, "--run", DAY)
+TAKE = ("apply", "--testing", "testing")
+PAGE = ("pages", "--excuses", "excuses", "--update", "update", "--testing", "testing", "out")
 NUMBER = re.compile(b"[0-9]+")
 
 PACKAGES = b"""Package: aa
@@ -102,6 +112,14 @@ Tests: tests
 Patience: 30
 """
 HEIDI = b"aa 1.0-1 source\naa 1.0-1 amd64\ndd 0~rc1 all\n"
+STANDING = b'{"apply: held back: aa": "2025-03-01", "day: no office answers": "2025-03-02"}\n'
+NOTIFIED = b'{"run": 0, "done": ["a@example.org"]}\n'
+PEOPLE = b"aa\tA <a@example.org>\nbb\tB of C <b@example.org>\n"
+DATES = b"aa 1.0-1 20148\nbb 1:2.0-1 20149\n"
+URGENCIES = b"aa 1.0-1 low\nbb 1:2.0-1 high\ndd 0~rc1 medium\n"
+HINTS = b"# a person\nblock aa\nurgent bb/1:2.0-1\neasy aa/1.0-1 bb/1:2.0-1\nfinished\n"
+APTLY = b'{\n  "rootDir": "root",\n  "architectures": ["amd64"],\n  "gpgDisableSign": true\n}\n'
+NETRC = b"machine 127.0.0.1 login ftp password secret\ndefault login other password more\n"
 
 TOKENS = (
     b"\xc3:", b"\xc3\xa9", b"\xff", b"\0", b"\xc2\xa0", b"\r", b"\r\n", b"\n", b"\n\n", b"\n ", b"\t", b"\x0b",
@@ -217,78 +235,153 @@ class Bench:
 
     def readings(self, kind: str) -> Sequence[Reading]:
         """How files of a kind are read. The folder has a good file of each other kind, under its kind's name."""
-        make = ("from-packages", "--no-hints", "--uploaded", DAY, "--run", DAY)
-        feeds = ("feed", "--url", self.url, "--dry-run", "--day", DAY, "--cache", "cache")
-        take = ("apply", "--testing", "testing")
-        page = ("pages", "--excuses", "excuses", "--update", "update", "--testing", "testing", "out")
-        state = os.path.basename(held.place_of("", self.url, self.url))
-        known: Mapping[str, Sequence[Reading]] = {
+        known = {**self.of_archive(kind), **self.of_office(kind), **self.of_memory(kind)}
+        beside = [Reading(place, ("from-britney", "bag", "--day", DAY, "data", "out")) for place in places(kind)]
+        return [reading for reading in (*known.get(kind, ()), *beside) if main_of(reading.words[0]) is not None]
+
+    @property
+    def feeds(self) -> Sequence[str]:
+        """The words of a feed."""
+        return ("feed", "--url", self.url, "--dry-run", "--day", DAY, "--cache", "cache")
+
+    @property
+    def looks(self) -> Sequence[str]:
+        """The words of a look."""
+        return ("look", "--url", self.url, "--conf", "setup", "--cache", "look", "--dry-run", "--day", DAY)
+
+    def of_archive(self, kind: str) -> Mapping[str, Sequence[Reading]]:
+        """How the files of an archive, of a bug tracker and of debci are read."""
+        feeds, bugs = self.feeds, ("bugs", "--url", self.url, "--dry-run")
+        aptly = (*TAKE, "aptly", "aptly.conf", "unstable", "testing")
+        return {
             "packages": [Reading(kind, words) for words in (
-                (*make, "out", kind), ("adopt", "--dry-run", "--no-check", "out", kind), (*feeds, kind),
-                (*take, "compare", kind), (*take, "select", "amd64", kind))],
+                (*MAKE, "out", kind), ("adopt", "--dry-run", "--no-check", "out", kind), (*feeds, kind),
+                (*TAKE, "compare", kind), (*TAKE, "select", "amd64", kind), (*self.looks, kind))],
             "sources": [Reading(kind, words) for words in (
-                (*make, "--sources", kind, "out", "packages"), (*feeds, "--sources", kind, "packages"),
+                (*MAKE, "--sources", kind, "out", "packages"), (*feeds, "--sources", kind, "packages"),
                 ("adopt", "--dry-run", "--no-check", "--sources", kind, "out", "packages"),
-                (*take, "compare", "--sources", kind, "packages"))],
-            "release": [Reading("dists/Release", (*take, "compare", "dists")),
-                        Reading("dists/Release", (*take, "heidi", "out/heidi", "dists"))],
-            "changes": [Reading("ch/a.changes", (*make, "--changes", "ch", "out", "packages")),
+                (*TAKE, "compare", "--sources", kind, "packages"),
+                ("notify", "--url", self.url, "--run", "1", "--sources", kind), (*PAGE, "--maintainers", kind))],
+            "release": [*(Reading("dists/Release", words) for words in (
+                (*TAKE, "compare", "dists"), (*TAKE, "heidi", "out/heidi", "dists"), (*self.looks, "dists"))),
+                        Reading("root/public/dists/testing/Release", aptly)],
+            "changes": [Reading("ch/a.changes", (*MAKE, "--changes", "ch", "out", "packages")),
                         Reading("ch/a.changes", (*feeds, "--changes", "ch", "packages"))],
+            "heidi": [Reading(kind, (*TAKE, "heidi", kind)),
+                      Reading(kind, ("from-britney", "compare", "--url", self.url, kind))],
+            "bugs": [Reading(kind, (*bugs, kind, "tests")), Reading(kind, (*bugs, "bugs", kind))],
+            "tests": [Reading(kind, ("tests", "--url", self.url, "--dry-run", kind))],
+            "people": [Reading(kind, (*PAGE, "--maintainers", kind))],
+            "aptly": [Reading("aptly.conf", aptly)]}
+
+    def of_office(self, kind: str) -> Mapping[str, Sequence[Reading]]:
+        """How mail, setups and reports are read."""
+        britney = ("from-britney", "bag", "--day", DAY, "--after", "bag", "data", "out")
+        return {
             "bag": [Reading(kind, ("lint", "--conf", "setup", kind)), Reading(kind, ("lint", "--url", self.url, kind)),
-                    Reading(kind, (*make, "--after", kind, "out", "packages")),
-                    Reading(kind, ("mend", "ftp", "1", "message"), True), Reading("cache/bag", (*feeds, "packages"))],
+                    Reading(kind, (*MAKE, "--after", kind, "out", "packages")), Reading(kind, britney),
+                    Reading(kind, ("mend", "ftp", "1", "message"), True),
+                    Reading("cache/bag", (*self.feeds, "packages"))],
             "message": [Reading(kind, ("lint", "--conf", "setup", kind)),
                         Reading(kind, ("lint", "--url", self.url, kind)), Reading(kind, ("mend", "ftp", "1", kind))],
-            "state": [Reading("states/" + state, ("mirror", "--state", "states", self.url, self.url))],
-            "outgoing": [Reading("cache/outgoing", (*feeds, "packages"))],
-            "setup": [Reading(kind, ("lint", "--conf", kind, "bag"))],
+            "setup": [Reading(kind, ("lint", "--conf", kind, "bag")), Reading(kind, (*self.looks, "packages"))],
             "testing": [Reading(kind, words) for words in (
-                (*take, "compare", "packages"), (*take, "select", "amd64", "packages"),
-                (*take, "heidi", "out/heidi"), page)],
-            "excuses": [Reading(kind, page)], "update": [Reading(kind, page)],
-            "heidi": [Reading(kind, (*take, "heidi", kind))],
-            "known": [Reading("cache/known.json", (*feeds, "packages"))],
-            "memory": [Reading("cache/memory.json", (*feeds, "packages"))],
-            "indexes": [Reading("cache/indexes.json", (*feeds, "packages"))],
-            "bugs": [Reading(kind, ("bugs", "--url", self.url, "--dry-run", kind, "tests")),
-                     Reading(kind, ("bugs", "--url", self.url, "--dry-run", "bugs", kind))],
-            "tests": [Reading(kind, ("tests", "--url", self.url, "--dry-run", kind))],
-            "settings": [Reading(kind, ("day", "--conf", kind, "--day", DAY))]}
-        return [reading for reading in known[kind] if main_of(reading.words[0]) is not None]
+                (*TAKE, "compare", "packages"), (*TAKE, "select", "amd64", "packages"),
+                (*TAKE, "heidi", "out/heidi"), PAGE)],
+            "excuses": [Reading(kind, PAGE)], "update": [Reading(kind, PAGE)],
+            "settings": [Reading(kind, ("day", "--conf", kind, "--day", DAY))],
+            "netrc": [Reading(".netrc", ("bugs", "--url", self.url.replace("//", "//ftp@"), "--dry-run", "bugs",
+                                         "bugs"))]}
+
+    def of_memory(self, kind: str) -> Mapping[str, Sequence[Reading]]:
+        """How the files are read in which tools remember something."""
+        state = os.path.basename(held.place_of("", self.url, self.url))
+        feed = (*self.feeds, "packages")
+        return {
+            "state": [Reading("states/" + state, ("mirror", "--state", "states", self.url, self.url))],
+            "outgoing": [Reading("cache/outgoing", feed)], "known": [Reading("cache/known.json", feed)],
+            "memory": [Reading("cache/memory.json", feed)], "indexes": [Reading("cache/indexes.json", feed)],
+            "standing": [Reading("states/memory.json", ("day", "--conf", "settings", "--day", DAY))],
+            "notified": [Reading(kind, ("notify", "--url", self.url, "--state", kind))],
+            **{name: [Reading(CACHED[name], (*self.looks, "packages"))] for name in ("ends", "copy")},
+            "pages": [Reading("out/.state/state.db", PAGE)]}
 
     def kinds(self) -> Sequence[str]:
         """The kinds of files that some tool reads."""
         return [kind for kind in self.good if self.readings(kind)]
 
-    def lay_out(self) -> None:
-        """Puts a good file of each kind into the working folder."""
-        for name in os.listdir("."):
-            shutil.rmtree(name) if os.path.isdir(name) else os.unlink(name)
-        for name in ("out", "ch", "cache", "states", "dists/main/binary-amd64"):
-            os.makedirs(name)
+    def lay_out(self, place: str) -> None:
+        """Makes a folder with a good file of each kind, and goes there."""
+        for name in ("out/.state", "ch", "cache", "states", "look", "dists/main/binary-amd64",
+                     "root/public/dists/testing", "data/testing", "data/unstable/Hints"):
+            os.makedirs(os.path.join(place, name))
+        os.chdir(place)
+        os.environ["HOME"] = place
         for kind, text in self.good.items():
-            write(kind, text)
+            for path in (kind, *places(kind)):
+                write(path, text)
         write("dists/main/binary-amd64/Packages", PACKAGES)
-        write("dists/Release", self.good["release"])
-        for kind, name in CACHED.items():
+        for folder in ("dists", "root/public/dists/testing"):
+            write(os.path.join(folder, "Release"), self.good["release"])
+        write("aptly.conf", self.good["aptly"])
+        write(".netrc", self.good["netrc"])
+        os.chmod(".netrc", 0o600)
+        for kind, path in CACHED.items():
             if kind in self.good:
-                write(os.path.join("cache", name), self.good[kind])
+                write(path, self.good[kind])
 
-    def try_one(self, kind: str, number: int) -> None:
-        """Tries one file."""
-        random_ = random.Random(f"{kind} {number}")
-        text = garbled(random_, self.good[kind])
+    def place(self, kind: str, number: int) -> str:
+        """The folder of a case."""
+        return os.path.join(self.folder, f"{kind}-{number}")
+
+    def try_all(self, kind: str, count: int) -> None:
+        """Tries files of a kind, those of one reading after those of another."""
         readings = self.readings(kind)
-        reading = readings[number % len(readings)]
-        self.lay_out()
-        write(reading.place, text)
+        for turn, reading in enumerate(readings):
+            numbers = range(turn, count, len(readings))
+            start = 0
+            while start < len(numbers):
+                start += self.try_some(kind, numbers[start:start + BATCH], reading)
+
+    def try_some(self, kind: str, numbers: Sequence[int], reading: Reading) -> int:
+        """Tries some files in a process of its own: how many it tried. One that ended by a signal is its last."""
+        report = os.path.join(self.folder, "report")
+        child = os.fork()
+        if child == 0:
+            try:
+                with open(report, "w", encoding="utf-8") as file:
+                    for number in numbers:
+                        print(number, file=file, flush=True)
+                        print(self.try_one(kind, number, reading) or "", file=file, flush=True)
+            finally:
+                os._exit(0)
+        _, status = os.waitpid(child, 0)
+        lines = read(report).splitlines()
+        if len(lines) % 2:
+            lines.append(f"ended by signal {os.WTERMSIG(status)}" if os.WIFSIGNALED(status) else "the test failed")
+        for number, fault in zip(lines[::2], lines[1::2]):
+            if fault:
+                self.wrong += 1
+                print(f"{kind} {number}: office-{' '.join(reading.words)}: {fault}\n  in "
+                      f"{self.place(kind, int(number))}", flush=True)
+        return max(1, len(lines) // 2)
+
+    def try_one(self, kind: str, number: int, reading: Reading) -> Optional[str]:
+        """Tries one file: what is wrong. Its folder is kept then."""
+        random_ = random.Random(f"{kind} {number}")
+        place = self.place(kind, number)
+        self.lay_out(place)
+        write(reading.place, garbled(random_, self.good[kind]))
         fault = judged(*ended(reading, reading.place if reading.is_input else os.devnull))
         if fault is None:
-            return
-        self.wrong += 1
-        kept = os.path.join(self.folder, f"{kind}-{number}")
-        shutil.copytree(".", kept, dirs_exist_ok=True)
-        print(f"{kind} {number}: office-{' '.join(reading.words)}: {fault}\n  in {kept}", flush=True)
+            shutil.rmtree(place)
+        return fault
+
+
+def places(kind: str) -> Sequence[str]:
+    """The places of a kind of file in a data folder of britney's. Testing has no hints."""
+    return [f"data/{suite}/{name}" for name in BRITNEY.get(kind, ()) for suite in ("testing", "unstable")
+            if kind != "hints" or suite == "unstable"]
 
 
 def main_of(name: str) -> Optional[faults.Main]:
@@ -306,30 +399,36 @@ def write(path: str, text: bytes) -> None:
 
 
 def ended(reading: Reading, given: str) -> tuple[int, str, str]:
-    """How a tool ends that runs in a process of its own: its status as the system gives it, and both outputs."""
+    """How a tool ends that runs in this process: its status, and both outputs."""
     called = main_of(reading.words[0])
     assert called is not None
-    child = os.fork()
-    if child == 0:
-        for number, (path, mode) in enumerate(((given, os.O_RDONLY), ("stdout", os.O_WRONLY | os.O_CREAT),
-                                               ("stderr", os.O_WRONLY | os.O_CREAT))):
-            os.dup2(os.open(path, mode, 0o644), number)
-        signal.alarm(SECONDS)
-        name, *words = reading.words
-        sys.argv = ["office-" + name, *words]
-        status = 99
-        try:
-            faults.run("office-" + name, called)
-        except SystemExit as end:
-            status = end.code if isinstance(end.code, int) else 0 if end.code is None else 98
-        except BaseException:  # noqa: B902  # whatever it is, it is a traceback to the user
-            traceback.print_exc()
-        finally:
-            for stream in (sys.stdout, sys.stderr):
-                flush(stream)
-            os._exit(status)
-    _, status = os.waitpid(child, 0)
+    redirect(given)
+    name, *words = reading.words
+    sys.argv = ["office-" + name, *words]
+    signal.alarm(SECONDS)
+    status = TRACED
+    try:
+        faults.run("office-" + name, called)
+    except SystemExit as end:
+        status = end.code if isinstance(end.code, int) else 0 if end.code is None else TRACED
+    except BaseException:  # noqa: B902  # whatever it is, it is a traceback to the user
+        traceback.print_exc()
+    signal.alarm(0)
+    for stream in (sys.stdout, sys.stderr):
+        flush(stream)
     return status, read("stdout"), read("stderr")
+
+
+def redirect(given: str) -> None:
+    """Lets this process read a file, and write both outputs into files here."""
+    for number, (path, mode) in enumerate(((given, os.O_RDONLY), ("stdout", os.O_WRONLY | os.O_CREAT),
+                                           ("stderr", os.O_WRONLY | os.O_CREAT))):
+        opened = os.open(path, mode, 0o644)
+        os.dup2(opened, number)
+        os.close(opened)
+    sys.stdin = open(0, encoding="utf-8", closefd=False)
+    sys.stdout = open(1, "w", encoding="utf-8", closefd=False)
+    sys.stderr = open(2, "w", encoding="utf-8", errors="backslashreplace", closefd=False)
 
 
 def flush(stream: object) -> None:
@@ -348,15 +447,12 @@ def read(path: str) -> str:
 
 def judged(status: int, out: str, err: str) -> Optional[str]:
     """What is wrong with how a tool ended."""
-    if os.WIFSIGNALED(status):
-        return f"ended by signal {os.WTERMSIG(status)}"
-    code = os.WEXITSTATUS(status)
     if "Traceback" in err:
-        return f"status {code}, a traceback: {err.strip().splitlines()[-1][:300]}"
-    if code not in STATUSES:
-        return f"status {code}: {err[-300:]}"
-    if code and not err.strip() and not out.strip():
-        return f"status {code} without a sentence"
+        return f"status {status}, a traceback: {err.strip().splitlines()[-1][:300]}"
+    if status not in STATUSES:
+        return f"status {status}: {err[-300:]!r}"
+    if status and not err.strip() and not out.strip():
+        return f"status {status} without a sentence"
     return None
 
 
@@ -385,19 +481,21 @@ def good_files(program: str, folder: str) -> Mapping[str, bytes]:
             "message": message, "state": b'{"bd": [[1, 2]], "ftp": [[1, 3]]}\n', "outgoing": bag, "setup": setup,
             "testing": parts["testing"], "excuses": parts["excuses"][:parts["excuses"].index(b"\nupdate ") + 1],
             "update": parts["update"][:parts["update"].index(b"\ntesting ") + 1], "heidi": HEIDI, "bugs": BUGS,
-            "tests": TESTS, "settings": SETTINGS}
+            "tests": TESTS, "settings": SETTINGS, "standing": STANDING, "notified": NOTIFIED, "people": PEOPLE,
+            "dates": DATES, "urgencies": URGENCIES, "hints": HINTS, "aptly": APTLY, "netrc": NETRC}
 
 
-def remembered(url: str, folder: str) -> Mapping[str, bytes]:
-    """What office-feed remembers, by the kinds of its files."""
-    path = os.path.join(TOP, "tools/bin/office-feed")
-    cache = os.path.join(folder, "cache")
-    run(path, "--url", url, "--cache", cache, "--day", DAY, "--no-order", os.path.join(folder, "good/Packages"),
-        may_fail=True)
+def remembered(bench: Bench) -> Mapping[str, bytes]:
+    """What office-feed, office-look and office-pages remember, by the kinds of its files."""
+    bench.lay_out(os.path.join(bench.folder, "first"))
     found = {}
-    for kind, name in CACHED.items():
-        if os.path.exists(os.path.join(cache, name)):
-            with open(os.path.join(cache, name), "rb") as file:
+    for words in ((*bench.feeds, "packages"), (*bench.looks, "packages"), PAGE):
+        name, *more = (word for word in words if word != "--dry-run" or words[0] != "feed")
+        run(os.path.join(TOP, f"tools/bin/office-{name}"), *more, *(["--no-order"] if name == "feed" else []),
+            may_fail=True)
+    for kind, place in CACHED.items():
+        if os.path.exists(place):
+            with open(place, "rb") as file:
                 found[kind] = file.read()
     return found
 
@@ -410,24 +508,21 @@ def main(words: Sequence[str]) -> int:
     setup = os.path.join(folder, "good/setup.conf")
     run(program, "replay", "--conf", setup, "--db", os.path.join(folder, "store.db"),
         given=bench.good["bag"].decode())
+    os.environ["OFFICE"] = program
     office = Office(program, folder)
     office.start(setup)
     bench.url = office.url
-    bench.good = {**bench.good, **remembered(office.url, folder)}
-    os.makedirs(os.path.join(folder, "work"))
-    os.chdir(os.path.join(folder, "work"))
-    tried = 0
     try:
-        for kind in kinds or bench.kinds():
-            for number in range(count):
-                bench.try_one(kind, number)
-                tried += 1
+        bench.good = {**bench.good, **remembered(bench)}
+        tried = kinds or bench.kinds()
+        for kind in tried:
+            bench.try_all(kind, count)
     finally:
         office.stop()
         os.chdir("/")
         if not bench.wrong:
             shutil.rmtree(folder)
-    print(f"garbled: {tried} files of {len(kinds or bench.kinds())} kinds, {bench.wrong} ended wrongly")
+    print(f"garbled: {len(tried) * count} files of {len(tried)} kinds, {bench.wrong} ended wrongly")
     return int(bench.wrong > 0)
 
 

@@ -4,7 +4,6 @@ import json
 import os
 import shutil
 import signal
-import socket
 import subprocess
 import sys
 from dataclasses import dataclass
@@ -12,8 +11,9 @@ from typing import Callable, Iterator, Mapping, Optional, Protocol, Sequence
 
 HERE = os.path.dirname(os.path.realpath(__file__))
 TOP = os.path.dirname(os.path.dirname(HERE))
-sys.path.insert(0, os.path.join(TOP, "tools"))
+sys.path[:0] = [os.path.join(TOP, "tools"), os.path.join(TOP, "tests")]
 
+import serving  # noqa: E402
 from office_tools.messages import Paragraph, paragraphs  # noqa: E402
 from office_tools.service import Service  # noqa: E402
 from packages import BOTH, Upload, build  # noqa: E402
@@ -48,33 +48,31 @@ class Office:
     def __init__(self, program: str, folder: str) -> None:
         self.program = program
         self.store = os.path.join(folder, "store.db")
-        with socket.socket() as free:
-            free.bind(("127.0.0.1", 0))
-            self.port = free.getsockname()[1]
-        self.service = Service(f"http://127.0.0.1:{self.port}")
-        self.process: Optional["subprocess.Popen[str]"] = None
+        self.served = serving.Service(program, "--db", self.store)
+        self.port = self.served.port
+        self.service = Service(self.served.url)
 
     @property
     def url(self) -> str:
         """Its URL."""
         return self.service.url
 
+    @property
+    def process(self) -> Optional["subprocess.Popen[bytes]"]:
+        """Its process while it runs."""
+        return self.served.process if self.served.runs else None
+
     def start(self, setup: str = SETUP) -> None:
         """Starts it."""
-        self.process = subprocess.Popen([self.program, "serve", "--conf", setup, "--port", str(self.port), "--db",
-                                         self.store], stdout=subprocess.PIPE, text=True)
-        line = self.process.stdout.readline() if self.process.stdout else ""
-        if line != f"listening {self.port}\n":
-            raise Failed(f"the office doesn't start: {line}")
+        self.served = serving.Service(self.program, "--db", self.store, conf=setup, port=self.port)
+        if not self.served.start():
+            self.served.end()
+            raise Failed(f"the office doesn't start: {self.served.said}")
 
     def stop(self, number: int = signal.SIGTERM) -> None:
         """Ends it by a signal."""
-        if self.process is not None:
-            self.process.send_signal(number)
-            self.process.wait()
-            if self.process.stdout:
-                self.process.stdout.close()
-            self.process = None
+        if self.served.process is not None:
+            self.served.end(number)
 
     def post(self, sender: str, *lines: str) -> None:
         """Sends a message by hand, under the sender's next number; its first line is the kind."""

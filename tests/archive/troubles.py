@@ -11,6 +11,7 @@ import sqlite3
 from typing import Callable, Iterator, Mapping, Optional, Sequence
 
 import quick
+from judge import names_in
 from loop import archived
 from packages import BOTH, Package, Upload
 from simulation import Ran, Simulation, clear, put_back, ran_by, save
@@ -24,14 +25,22 @@ Trouble = Callable[[Simulation], Steps]
 
 
 def settled(month: Simulation, wanted: Callable[[Kept], bool] = lambda kept: True) -> Kept:
-    """A source that testing has as unstable has it, and that nothing else needs or touches from here on."""
+    """A source that testing has as unstable has it, and that nothing else needs or touches from here on.
+
+    It needs no library: a transition would keep its next version out, or upload one of its own.
+    """
+    libraries = tuple(kept.name for kept in month.world.sources.values() if kept.soname)
+
     def fits(kept: Kept) -> bool:
         is_needed = any(month.world.needs(package.name) - {kept.name} for package in kept.packages)
         is_open = any(bug.source == kept.name for bug in month.books.bugs.values()) or any(
             kept.name in words for words in month.books.hints.values())
-        return not is_needed and not is_open and not kept.is_late and not kept.soname and not kept.rebuilds and wanted(
-            kept) and month.testing.sources.get(kept.name) == kept.version and not any(
-                package.is_all for package in kept.packages)
+        needs_library = any(name.startswith(libraries) for package in kept.packages
+                            for name in names_in(package.depends))
+        return not is_needed and not is_open and not needs_library and not kept.is_late and not kept.soname \
+            and not kept.rebuilds and wanted(kept) and month.testing.sources.get(kept.name) == kept.version \
+            and not any(package.is_all for package in kept.packages)
+
     kept = month.world.pick(fits)
     if kept is None:
         kept = fresh(month, f"extra{month.number}")
@@ -371,18 +380,39 @@ def write_lists(month: Simulation, *texts: str) -> None:
 
 
 def undecided(month: Simulation) -> Steps:
-    """The service was ended after an order, before it decided. The day's command has that run finished."""
+    """The service was ended after an order, before it decided; then a bug leaves the lists.
+
+    The day's command has that run finished as it was ordered. After that it mails the bug, and orders one more run,
+    which moves the source.
+    """
+    kept = settled(month)
+    renewed(month, kept, "critical")
+    month.stage.bugs = [os.path.join(month.stage.folder, f"bugs-{suite}") for suite in ("unstable", "testing")]
+    write_lists(month, f"src:{kept.name} 7003\nsrc:base 7002\n", "src:base 7002\n")
     month.day()
+    cut = cut_off(month)
+    write_lists(month, "src:base 7002\n", "src:base 7002\n")
+    yield None
+    accepted = f"accept {kept.name} {kept.version}"
+    runs = [number for number in (cut, cut + 1) if accepted in month.stage.office.update(number)]
+    if runs != [cut + 1] or month.published().sources.get(kept.name) != kept.version:
+        month.problem(f"{accepted} is in the runs {runs}, and has to be in {cut + 1} alone, the one after that cut off")
+    month.world.untouched.discard(kept.name)
+
+
+def cut_off(month: Simulation) -> int:
+    """Leaves an order in the store that no run was made for: the number of that run."""
     office = month.stage.office
     text = office.service.good_text(f"/order/{month.today}")
     kept = office.service.kept()
+    number = kept["clock"].unbroken + 1
     office.stop(signal.SIGKILL)
     with sqlite3.connect(office.store) as store:
         store.execute("insert into mail (sender, number, body) values (?, ?, ?)",
-                      (list(kept).index("clock"), kept["clock"].unbroken + 1, text.encode()))
+                      (list(kept).index("clock"), number, text.encode()))
     store.close()
     office.start(month.setup)
-    yield None
+    return number
 
 
 # What is wrong with the machine

@@ -29,6 +29,7 @@ HERE = os.path.dirname(os.path.abspath(__file__))
 sys.dont_write_bytecode = True
 sys.path.insert(0, os.path.dirname(HERE))
 import old_store
+import serving
 program = os.path.abspath(sys.argv[1])
 step = int(sys.argv[2]) if len(sys.argv) > 2 else 1
 judge = os.path.abspath(sys.argv[3]) if len(sys.argv) > 3 else None
@@ -317,25 +318,18 @@ def reply_of(code, phrase, body):
     return b"HTTP/1.1 %d %s\r\nContent-Type: text/plain; charset=utf-8\r\nContent-Length: %d\r\nConnection: close\r\n\r\n%s" % (code, phrase, len(body), body)
 
 
-def free_port():
-    with socket.socket() as s:
-        s.bind(("127.0.0.1", 0))
-        return s.getsockname()[1]
-
-
 SHORT = reply_of(503, b"Service Unavailable", NO_MEMORY)
 
 
-class Service:
+class Service(serving.Service):
     """A service in memory, one of whose growths is refused. So one of its replies may be 503: the request is made once more then."""
 
     def __init__(self, folder, at, connections):
         self.count = os.path.join(folder, "count")
-        self.port = free_port()
         self.short = 0
-        words = [program, "serve", "--conf", os.path.join(folder, "conf"), "--port", str(self.port), "--connections", str(connections)]
-        self.process = subprocess.Popen(words, stdout=subprocess.PIPE, stderr=subprocess.PIPE, env=environment(at, at, self.count))
-        self.listens = self.process.stdout.readline() == b"listening %d\n" % self.port
+        super().__init__(program, conf=os.path.join(folder, "conf"), connections=connections,
+                         env=environment(at, at, self.count))
+        self.listens = self.start()
 
     def ask(self, request):
         reply = ask(self.port, request)
@@ -344,10 +338,9 @@ class Service:
             reply = ask(self.port, request)
         return reply
 
-    def end(self):
+    def ended(self):
         """Its exit status, and how many growths it asked for."""
-        status = self.process.wait(60)
-        self.process.communicate()
+        status = self.wait()
         with open(self.count) as f:
             return status, int(f.read())
 
@@ -379,7 +372,7 @@ def try_service(folder, name, texts):
                 # So that the service has its number of connections.
                 got = ask(service.port, get(b"status"))
                 want(what + ", status", True, got in (SHORT, reply_of(200, b"OK", b"ready %d finished %d\n" % (ready, ready))))
-        status, grown = service.end()
+        status, grown = service.ended()
         want(what + ", exit status", 0 if service.listens else 4, status)
         if grown < at:
             return refused

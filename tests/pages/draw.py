@@ -4,10 +4,11 @@
 usage: draw.py OFFICE FOLDER [LEAVES]
 
 The archive is a part of the Debian release whose lists apt has on this machine: some sources with all that they need,
-and as many more as LEAVES says (300) that need no others, on amd64 and as if it were built on arm64. FOLDER gets
-`setup.conf` and `bag`. The first run is over the archive. On each of the nine days after it come newer uploads with
-different fates, renamed libraries, and two sources that need each other's new versions. There are hints with the fields
-By and Comment, some refused by every run, removed sources, and an order.
+and as many more as LEAVES says (300) that need no others, on amd64 and as if it were built on arm64. If LEAVES is
+`all`, it is the whole main part of the release, such as bookworm, and everything takes some twenty times as long.
+FOLDER gets `setup.conf` and `bag`. The first run is over the archive. On each of the nine days after it come newer
+uploads with different fates, renamed libraries, and two sources that need each other's new versions. There are hints
+with the fields By and Comment, some refused by every run, removed sources, and an order.
 """
 import collections
 import os
@@ -57,11 +58,16 @@ def first_names(package):
 
 
 def chosen(leaves):
-    """Packages by source: those of some seeds with all that they need, and of that many more that need no others."""
+    """Packages by source: those of some seeds with all that they need, and of that many more that need no others.
+
+    Without a number it is all packages.
+    """
     every = {package.fields["Package"]: package for package in packages_of_lists()}
     by_source = collections.defaultdict(list)
     for package in every.values():
         by_source[package.source].append(package)
+    if leaves is None:
+        return dict(sorted(by_source.items()))
     found, todo = {}, collections.deque(SEEDS)
     while todo:
         package = every.get(todo.popleft())
@@ -228,7 +234,7 @@ class Archive:
         if place == 1:
             for number in range(1, self.mail.counts.get("rt", 0) + 1):
                 self.mail.add("rt", "unhint", f"Cancels: {number}")
-        for source in self.some(max(4, len(self.sources) // 60), self.is_small):
+        for source in self.some(min(40, max(4, len(self.sources) // 60)), self.is_small):
             self.change(source, self.draw.choices(list(FATES), list(FATES.values()))[0], day)
         if place in (2, 4, 6):
             for source in self.some(1, self.is_library):
@@ -266,9 +272,9 @@ def counts_of(bag):
     return dict(collections.Counter(re.findall(r"(?m)^mail \d+\nFrom: (\S+)$", bag)))
 
 
-def main(office, folder, leaves=300):
+def main(office, folder, leaves="300"):
     os.makedirs(folder, exist_ok=True)
-    by_source = chosen(leaves)
+    by_source = chosen(None if leaves == "all" else int(leaves))
     first_bag(office, folder, by_source)
     path = os.path.join(folder, "bag")
     with open(path, encoding="utf-8") as file:
@@ -284,4 +290,4 @@ def main(office, folder, leaves=300):
 if __name__ == "__main__":
     if len(sys.argv) not in (3, 4):
         sys.exit(__doc__)
-    main(os.path.realpath(sys.argv[1]), sys.argv[2], *map(int, sys.argv[3:]))
+    main(os.path.realpath(sys.argv[1]), *sys.argv[2:])

@@ -19,13 +19,14 @@ import sys
 
 HERE = os.path.dirname(os.path.realpath(__file__))
 TOP = os.path.join(HERE, "..", "..")
-sys.path[:0] = [HERE, os.path.join(TOP, "tools")]
+sys.path[:0] = [HERE, os.path.join(TOP, "tools"), os.path.join(TOP, "tests")]
 sys.dont_write_bytecode = True
 
 import browser  # noqa: E402
 import draw  # noqa: E402
 import markup  # noqa: E402
 import more_texts  # noqa: E402
+import serving  # noqa: E402
 import texts  # noqa: E402
 from office_tools.service import Service  # noqa: E402
 
@@ -46,22 +47,10 @@ class Tally:
             print(f"{what}: {fault}", flush=True)
 
 
-class Served:
+def served(office, folder):
     """The program over a store, for a `with`."""
-
-    def __init__(self, office, folder):
-        self.words = [office, "serve", "--conf", os.path.join(folder, "setup.conf"), "--port", str(PORT), "--db",
-                      os.path.join(folder, "store.db")]
-
-    def __enter__(self):
-        self.process = subprocess.Popen(self.words, stdout=subprocess.PIPE, stderr=subprocess.DEVNULL)
-        self.process.stdout.readline()
-        return Service(f"http://127.0.0.1:{PORT}")
-
-    def __exit__(self, *_):
-        self.process.terminate()
-        self.process.wait()
-        self.process.stdout.close()
+    return serving.Service(office, "--db", os.path.join(folder, "store.db"), conf=os.path.join(folder, "setup.conf"),
+                           port=PORT)
 
 
 def deliver(office, folder, bag):
@@ -83,12 +72,12 @@ def halves(bag):
 
 def fill(office, folder):
     """Draws the office, and makes its pages after the fifth and after the tenth run."""
-    draw.main(office, folder, *map(int, sys.argv[3:]))
+    draw.main(office, folder, *sys.argv[3:])
     with open(os.path.join(folder, "bag"), "rb") as file:
         bags = halves(file.read())
     for bag in bags:
         deliver(office, folder, bag)
-        with Served(office, folder) as service:
+        with served(office, folder) as service:
             make_pages(service.url, os.path.join(folder, "html"))
 
 
@@ -134,8 +123,8 @@ def main(office, folder):
     if not os.environ.get("KEEP"):
         fill(office, folder)
     tally = Tally()
-    with Served(office, folder) as service:
-        told = texts.Told(service)
+    with served(office, folder) as service:
+        told = texts.Told(Service(service.url))
         look_at_markup(pages, tally)
         look_at_all(pages, os.path.join(folder, "shots"), told, tally)
     print(f"{tally.checks} checks, {tally.faults} faults")

@@ -19,18 +19,16 @@ import sqlite3
 import subprocess
 import sys
 import tempfile
-import urllib.error
-import urllib.request
 sys.dont_write_bytecode = True
 TESTS = os.path.join(os.path.dirname(os.path.abspath(__file__)), "..")
-sys.path.insert(0, os.path.join(TESTS, "rows"))
+sys.path[:0] = [TESTS, os.path.join(TESTS, "rows")]
 from asked import RELEASE, hint_fault, office_after, tried as would_change, why_fault
 from model import Office, SENDERS, paragraphs
 from reopened_rows import row_of
 from rows import mail, rows_of, steps_of
+from serving import CONF, Service
 
 EXAMPLES = os.path.join(TESTS, "..", "examples")
-CONF = os.path.join(EXAMPLES, "setup.conf")
 CLOCK = SENDERS.index("clock")
 program = os.path.abspath(sys.argv[1])
 seeds = sys.argv[2] if len(sys.argv) > 2 else "1-40"
@@ -254,21 +252,11 @@ def by_service(seed, office, store, due, sources):
     told = {name: call("why", name, *stored)[0] if name in known else "refused NoSource\n" for name in sources}
     pages += [("/why/%s" % name, text) for name, text in told.items()]
     tries = [["block %s" % name for name in names] for names in (sources[:1], sources[:12]) if names]
-    pages += [("/try", call("try", *hints, *stored)[0], "\n".join(hints).encode()) for hints in tries]
-    words = [program, "serve", *stored[:2], "--port", str(port), "--connections", str(len(pages)), *stored[2:]]
-    with subprocess.Popen(words, stdout=subprocess.PIPE) as service:
-        service.stdout.readline()
+    pages += [("/try", call("try", *hints, *stored)[0], "\n".join(hints)) for hints in tries]
+    with Service(program, *stored[2:], port=port, connections=len(pages)) as service:
         for path, text, *body in pages:
-            want("%d: %s" % (seed, path), text, answer(path, *body))
-
-
-def answer(path, *body):
-    """What the service answers, also where it refuses."""
-    try:
-        with urllib.request.urlopen("http://127.0.0.1:%d%s" % (port, path), *body, timeout=20) as reply:
-            return reply.read().decode()
-    except urllib.error.HTTPError as refused:
-        return refused.read().decode()
+            got = service.post(path, body[0]) if body else service.get(path)
+            want("%d: %s" % (seed, path), text, got)
 
 
 def one(seed, folder):

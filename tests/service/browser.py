@@ -9,20 +9,18 @@ site then tries to post by fetch, sendBeacon and a form, also under a name that 
 there; else the last line says that this wasn't tried. Run it by the system's Python: /usr/bin/python3. Exit status 0 if
 nothing was kept, and nothing was read under another name.
 """
-import contextlib
 import http.client
 import http.server
 import os
 import shutil
 import socket
-import subprocess
 import sys
-import tempfile
 import threading
 import time
+sys.dont_write_bytecode = True
+sys.path.insert(0, os.path.join(os.path.dirname(os.path.abspath(__file__)), ".."))
+import serving
 
-TOP = os.path.join(os.path.dirname(os.path.abspath(__file__)), "..", "..")
-SETUP = os.path.join(TOP, "examples", "setup.conf")
 HINT = "From: rt\nNumber: %d\nKind: hint\nHint: block-all source\n"
 REFUSED = (403, b"refused OtherOrigin\n")
 OTHER_HOST = (403, b"refused OtherHost\n")
@@ -197,28 +195,14 @@ def has_browser():
     return bool(shutil.which("chromium") and shutil.which("chromedriver"))
 
 
-@contextlib.contextmanager
-def serving(program, port, *words):
-    """A service in memory, with these words more."""
-    with tempfile.TemporaryFile() as told:
-        service = subprocess.Popen([program, "serve", "--conf", SETUP, "--port", str(port), *words],
-                                   stdout=subprocess.PIPE, stderr=told)
-        try:
-            service.stdout.readline()
-            yield
-        finally:
-            service.kill()
-            service.wait()
-
-
 def main():
     program = os.path.abspath(sys.argv[1])
     port = int(sys.argv[2]) if len(sys.argv) > 2 else 18780
     browser = has_browser()
-    with serving(program, port):
+    with serving.Service(program, port=port):
         try_fields(port)
         try_any_host(port)
-    with serving(program, port, "--host", "office.example", "--host=b"):
+    with serving.Service(program, "--host", "office.example", "--host=b", port=port):
         try_fields(port)
         try_hosts(port)
         if browser:

@@ -8,10 +8,12 @@ PROGRAM is the built program, `crates/office/out/office`. Exit status 0 where ea
 import os
 import resource
 import socket
-import subprocess
 import sys
 import tempfile
 import time
+sys.dont_write_bytecode = True
+sys.path.insert(0, os.path.join(os.path.dirname(os.path.abspath(__file__)), ".."))
+from serving import Service
 
 SETUP = b"""Architectures: amd64 arm64
 
@@ -142,14 +144,6 @@ def few_files(files):
     return lambda: resource.setrlimit(resource.RLIMIT_NOFILE, (files, hard))
 
 
-def start(program, port, conf, connections, files=None):
-    """A service that listens."""
-    words = [program, "serve", "--port", str(port), "--conf", conf, "--connections", str(connections)]
-    service = subprocess.Popen(words, stdout=subprocess.PIPE, stderr=subprocess.PIPE,
-                               preexec_fn=few_files(files) if files else None)
-    return service, service.stdout.readline()
-
-
 def main():
     program = os.path.abspath(sys.argv[1])
     port = int(sys.argv[2]) if len(sys.argv) > 2 else 18731
@@ -163,9 +157,9 @@ def main():
         conf = os.path.join(folder, "setup.conf")
         with open(conf, "wb") as f:
             f.write(SETUP)
-        service, line = start(program, port, conf, 19)
-        want("first line", b"listening %d\n" % port, line)
         ok = b"HTTP/1.1 200 OK\r\n"
+        service = Service(program, conf=conf, port=port, connections=19)
+        want("first line", "True", str(service.start()))
         want("1 status", b"ready 0 finished 0\n", status(port))
         want("2 a byte at a time", ok, exchange(port, post(NONE % 1), 0.002, 1))
         want("3 waits for continue", b"HTTP/1.1 100 Continue\r\n\r\n" + ok, exchange(
@@ -194,29 +188,32 @@ def main():
         if seconds > 2:
             faults.append("17 and 18 a client that goes on sending: %.1f seconds" % seconds)
         want("19 status", b"ready 0 finished 0\n", status(port))
-        _, told = service.communicate(timeout=20)
-        if service.returncode != 0:
-            faults.append("exit status %d, %r" % (service.returncode, told))
+        ended = service.wait(20)
+        if ended != 0:
+            faults.append("exit status %d, %r" % (ended, service.said))
 
         # a service that can open no more files takes the connection once it can
-        service, _ = start(program, port, conf, 1, 5)
+        service = Service(program, conf=conf, port=port, connections=1, preexec_fn=few_files(5))
+        service.start()
         with connect(port) as client:
             client.sendall(b"GET /status HTTP/1.1\r\nHost: x\r\n\r\n")
             time.sleep(1)
             hard = resource.getrlimit(resource.RLIMIT_NOFILE)[1]
-            resource.prlimit(service.pid, resource.RLIMIT_NOFILE, (64, hard))
+            resource.prlimit(service.process.pid, resource.RLIMIT_NOFILE, (64, hard))
             want("20 an accept that fails for a while", ok, read_all(client))
-        _, told = service.communicate(timeout=20)
-        want("20 what is told", b"office: a connection wasn't taken: Too many open files", told)
-        if service.returncode != 0:
-            faults.append("20: exit status %d" % service.returncode)
+        ended = service.wait(20)
+        want("20 what is told", "office: a connection wasn't taken: Too many open files", service.said)
+        if ended != 0:
+            faults.append("20: exit status %d" % ended)
 
         # and where it never can it ends
-        service, _ = start(program, port, conf, 1, 5)
+        service = Service(program, conf=conf, port=port, connections=1, preexec_fn=few_files(5))
+        service.start()
         with connect(port):
-            _, told = service.communicate(timeout=60)
-        if service.returncode != 4 or told.count(b"\n") != 101:
-            faults.append("21 accepts that fail: exit status %d, %d lines" % (service.returncode, told.count(b"\n")))
+            ended = service.wait()
+        lines = service.said.count("\n")
+        if ended != 4 or lines != 101:
+            faults.append("21 accepts that fail: exit status %d, %d lines" % (ended, lines))
     for fault in faults:
         print("FAIL", fault)
     print("21 rows, %d faults" % len(faults))

@@ -9,12 +9,11 @@ each reply was one, with its code, and if no more was kept than the replies say.
 """
 import os
 import socket
-import subprocess
 import sys
-import tempfile
+sys.dont_write_bytecode = True
+sys.path.insert(0, os.path.join(os.path.dirname(os.path.abspath(__file__)), ".."))
+from serving import Service
 
-TOP = os.path.join(os.path.dirname(os.path.abspath(__file__)), "..", "..")
-SETUP = os.path.join(TOP, "examples", "setup.conf")
 BODY = b"From: ftp\nNumber: 1\nKind: none\n"
 SECOND = b"POST /mail HTTP/1.1\r\nHost: x\r\nContent-Length: 31\r\n\r\nFrom: ftp\nNumber: 7\nKind: none\n"
 MAIL, HOST, LENGTH = b"POST /mail HTTP/1.1", b"Host: x", b"Content-Length: 31"
@@ -81,15 +80,8 @@ def try_heads(port):
 def main():
     program = os.path.abspath(sys.argv[1])
     port = int(sys.argv[2]) if len(sys.argv) > 2 else 18790
-    with tempfile.TemporaryFile() as told:
-        service = subprocess.Popen([program, "serve", "--conf", SETUP, "--port", str(port)],
-                                   stdout=subprocess.PIPE, stderr=told)
-        try:
-            service.stdout.readline()
-            try_heads(port)
-        finally:
-            service.kill()
-            service.wait()
+    with Service(program, port=port):
+        try_heads(port)
     for fault in faults:
         print("FAIL", fault)
     print("%d tried, %d faults" % (2 * len(HEADS) + 1, len(faults)))

@@ -13,9 +13,10 @@ import subprocess
 import sys
 import tempfile
 import time
+sys.dont_write_bytecode = True
+sys.path.insert(0, os.path.join(os.path.dirname(os.path.abspath(__file__)), ".."))
+from serving import CONF, Service
 
-TOP = os.path.join(os.path.dirname(os.path.abspath(__file__)), "..", "..")
-SETUP = os.path.join(TOP, "examples", "setup.conf")
 STATUS = b"GET /status HTTP/1.1\r\nHost: localhost\r\n\r\n"
 UNSTABLE = b"GET /unstable HTTP/1.1\r\nHost: localhost\r\n\r\n"
 BOUND = 1.0
@@ -156,18 +157,11 @@ def main():
     port = int(sys.argv[2]) if len(sys.argv) > 2 else 18770
     with tempfile.TemporaryDirectory() as folder:
         store = os.path.join(folder, "store.db")
-        subprocess.run([program, "replay", "--conf", SETUP, "--db", store], input=builds(700), check=True,
+        subprocess.run([program, "replay", "--conf", CONF, "--db", store], input=builds(700), check=True,
                        stdout=subprocess.DEVNULL)
-        with open(os.path.join(folder, "told"), "wb") as told:
-            service = subprocess.Popen([program, "serve", "--conf", SETUP, "--db", store, "--port", str(port)],
-                                       stdout=subprocess.PIPE, stderr=told)
-            try:
-                service.stdout.readline()
-                run(port)
-                want("the service goes on", service.poll() is None, "it ended")
-            finally:
-                service.kill()
-                service.wait()
+        with Service(program, "--db", store, port=port) as service:
+            run(port)
+            want("the service goes on", service.runs, "it ended")
     for fault in faults:
         print("FAIL", fault)
     print("%d tried, %d faults" % (tried, len(faults)))

@@ -5,14 +5,12 @@
 
 PROGRAM is the built program, `crates/office/out/office`. Exit status 0 if each line is as it is due.
 """
-import http.client
 import os
-import subprocess
 import sys
-import tempfile
+sys.dont_write_bytecode = True
+sys.path.insert(0, os.path.join(os.path.dirname(os.path.abspath(__file__)), ".."))
+from serving import Service
 
-TOP = os.path.join(os.path.dirname(os.path.abspath(__file__)), "..", "..")
-SETUP = os.path.join(TOP, "examples", "setup.conf")
 NONE = "From: %s\nNumber: %d\nKind: none\n"
 # A path, a body, further fields; the line about what is held, and the line about what is refused.
 ROWS = [
@@ -31,21 +29,10 @@ ROWS = [
 
 def lines(program, port, level):
     """What a service prints of all rows, at this level."""
-    with tempfile.TemporaryFile() as told:
-        service = subprocess.Popen([program, "serve", "--conf", SETUP, "--port", str(port)], stdout=subprocess.PIPE,
-                                   stderr=told, env={**os.environ, "OFFICE_LOG": level})
-        try:
-            service.stdout.readline()
-            for path, body, fields, _, _ in ROWS:
-                connection = http.client.HTTPConnection("127.0.0.1", port, timeout=30)
-                connection.request("POST", path, body, fields)
-                connection.getresponse().read()
-                connection.close()
-        finally:
-            service.kill()
-            service.wait()
-        told.seek(0)
-        return told.read().decode().splitlines()
+    with Service(program, port=port, env={**os.environ, "OFFICE_LOG": level}) as service:
+        for path, body, fields, _, _ in ROWS:
+            service.ask("POST", path, body.encode(), fields)
+    return service.said.splitlines()
 
 
 def main():

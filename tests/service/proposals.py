@@ -351,7 +351,7 @@ def by_service(what, behind, texts, bag):
             for number, hint in numbered(behind, hints):
                 want("%s: %s in the run" % (what, hint), True, is_done(update, number))
                 counts["in a service"] += 1
-            service.process.terminate()
+            service.end()
 
 
 def one(seed):

@@ -17,9 +17,11 @@ import subprocess
 import sys
 import tempfile
 import time
-
 TOP = os.path.join(os.path.dirname(os.path.abspath(__file__)), "..", "..")
-CONF = os.path.join(TOP, "examples", "setup.conf")
+sys.dont_write_bytecode = True
+sys.path.insert(0, os.path.join(TOP, "tests"))
+from serving import CONF, Service
+
 program = os.path.abspath(sys.argv[1])
 port = int(sys.argv[2]) if len(sys.argv) > 2 else 18760
 PAGE = sys.argv[3] if len(sys.argv) > 3 else os.path.join(TOP, "share", "README.md")
@@ -240,22 +242,19 @@ def over_a_service():
             conf.write(AROUND % (" user root;" if os.geteuid() == 0 else "", text_of_the_page()))
         with open(os.path.join(folder, "users"), "w", encoding="utf-8") as users:
             users.write("".join("%s:{PLAIN}secret\n" % user for user in USERS))
-        words = [program, "serve", "--conf", CONF, "--port", str(port), "--host", "localhost"]
-        service = subprocess.Popen(words, stdout=subprocess.PIPE, stderr=subprocess.DEVNULL)
-        service.stdout.readline()
-        words = [NGINX, "-p", folder, "-e", "error.log", "-c", "conf"]
-        proxy = subprocess.Popen(words, stdout=subprocess.DEVNULL, stderr=subprocess.PIPE, cwd=folder)
-        try:
-            started(proxy)
-            if proxy.poll() is None:
-                requests()
-                tools(folder)
-            else:
-                want("nginx", "", proxy.stderr.read().decode())
-        finally:
-            for process in (proxy, service):
-                process.terminate()
-                process.wait()
+        with Service(program, "--host", "localhost", port=port):
+            words = [NGINX, "-p", folder, "-e", "error.log", "-c", "conf"]
+            proxy = subprocess.Popen(words, stdout=subprocess.DEVNULL, stderr=subprocess.PIPE, cwd=folder)
+            try:
+                started(proxy)
+                if proxy.poll() is None:
+                    requests()
+                    tools(folder)
+                else:
+                    want("nginx", "", proxy.stderr.read().decode())
+            finally:
+                proxy.terminate()
+                proxy.wait()
 
 
 def main():

@@ -17,19 +17,16 @@ import re
 import subprocess
 import sys
 import tempfile
-import urllib.error
-import urllib.request
 sys.dont_write_bytecode = True
 TESTS = os.path.join(os.path.dirname(os.path.abspath(__file__)), "..")
-sys.path.insert(0, os.path.join(TESTS, "rows"))
+sys.path[:0] = [TESTS, os.path.join(TESTS, "rows")]
 from model import SENDERS, paragraphs
 from reopened_rows import row_of
 from rows import mail, rows_of, steps_of
+from serving import CONF, Service
 
-CONF = os.path.join(TESTS, "..", "examples", "setup.conf")
 MIRROR = os.path.join(TESTS, "..", "tools", "bin", "office-mirror")
 OFFICES = range(3)
-KEPT = re.compile(r"(?m)^mail (\S+) (\d+) kept(?:, 1 to (\d+))?")
 program = os.path.abspath(sys.argv[1])
 seeds = sys.argv[2] if len(sys.argv) > 2 else "1-12"
 first_port = int(sys.argv[3]) if len(sys.argv) > 3 else 18740
@@ -55,35 +52,20 @@ def history(seed):
     return list({label(text): text for text in texts}.values())
 
 
-class Office:
+class Office(Service):
     """A service over a store of its own."""
 
     def __init__(self, place, folder):
-        self.port = first_port + place
-        self.url = "http://127.0.0.1:%d" % self.port
-        self.store = os.path.join(folder, "store-%d" % place)
-        self.process = None
-        self.start()
+        super().__init__(program, "--db", os.path.join(folder, "store-%d" % place), port=first_port + place)
+        self.begin()
 
-    def start(self):
-        words = [program, "serve", "--conf", CONF, "--port", str(self.port), "--db", self.store]
-        self.process = subprocess.Popen(words, stdout=subprocess.PIPE, stderr=subprocess.PIPE)
-        want("first line", b"listening %d\n" % self.port, self.process.stdout.readline())
+    def begin(self):
+        want("first line", True, self.start())
 
-    def kill(self):
-        self.process.kill()
-        self.process.communicate()
-        self.process = None
-
-    def ask(self, path, body=None):
-        try:
-            with urllib.request.urlopen(self.url + path, body and body.encode(), timeout=20) as reply:
-                return reply.status, reply.read().decode()
-        except urllib.error.HTTPError as refused:
-            return refused.code, refused.read().decode()
-
-    def text(self, path):
-        return self.ask(path)[1]
+    def answer(self, path, body=None):
+        """The code and the text of an answer."""
+        code, told = self.ask("GET", path) if body is None else self.ask("POST", path, body.encode())
+        return code, told.decode()
 
 
 def mirror(source, target, folder, *more):
@@ -98,16 +80,16 @@ def mirror(source, target, folder, *more):
 
 def pages(office, sources, with_mail):
     """What an office answers to each GET. Of why the numbered lines are left out: they may be any that show it."""
-    runs = int(office.text("/status").split()[3])
+    runs = int(office.get("/status").split()[3])
     paths = ["/status", "/testing", "/runs", "/kept", "/waiting"]
     paths += ["/%s/%d" % (report, run) for run in range(1, runs + 1) for report in ("excuses", "update")]
-    told = {path: office.ask(path) for path in paths}
+    told = {path: office.answer(path) for path in paths}
     for name in sources:
-        code, text = office.ask("/why/" + name)
+        code, text = office.answer("/why/" + name)
         told["/why/" + name] = code, re.split(r"(?m)^\d+ ", text)[0]
-    for sender, upto in re.findall(r"(?m)^mail (\S+) .*greatest (\d+)$", office.text("/kept")) if with_mail else []:
+    for sender, upto in re.findall(r"(?m)^mail (\S+) .*greatest (\d+)$", office.get("/kept")) if with_mail else []:
         for number in range(1, int(upto) + 1):
-            told["/kept/%s/%s" % (sender, number)] = office.ask("/kept/%s/%d" % (sender, number))
+            told["/kept/%s/%s" % (sender, number)] = office.answer("/kept/%s/%d" % (sender, number))
     return told
 
 
@@ -132,7 +114,7 @@ class Draw:
         return "seed %d, %s" % (self.seed, what)
 
     def up(self):
-        return [office for office in self.offices if office.process]
+        return [office for office in self.offices if office.runs]
 
     def two_texts(self):
         """Two offices get different texts under the release team's next number."""
@@ -140,7 +122,7 @@ class Draw:
         form = "From: rt\nNumber: %d\nKind: hint\nHint: block %s\n"
         pair = self.draw.sample(OFFICES, 2)
         for place, name in zip(pair, ("aa", "bb")):
-            self.offices[place].ask("/mail", form % (number, name))
+            self.offices[place].post("/mail", form % (number, name))
         self.conflict = "rt %d" % number
         counts["conflicts"] += 1
 
@@ -152,13 +134,13 @@ class Draw:
         for place, text in enumerate(left):
             if place == end:
                 self.down = self.draw.choice(self.offices)
-                self.down.kill()
+                self.down.end()
                 counts["ended"] += 1
             office = self.draw.choice(self.up())
-            want(self.name("a delivery"), (200, "held %s %d\n" % label(text)), office.ask("/mail", text))
+            want(self.name("a delivery"), (200, "held %s %d\n" % label(text)), office.answer("/mail", text))
             self.move()
-        if not self.down.process:
-            self.down.start()
+        if not self.down.runs:
+            self.down.begin()
 
     def move(self):
         """Now and then a link is cut or mended, a mirror carries mail, or the office that was ended starts again."""
@@ -169,24 +151,24 @@ class Draw:
             if (min(i, j), max(i, j)) not in self.whole:
                 counts["cut"] += 1
                 return
-            is_up = self.offices[i].process and self.offices[j].process
+            is_up = self.offices[i].runs and self.offices[j].runs
             status, _, told = mirror(self.offices[i], self.offices[j], self.folder)
             want(self.name("status of a mirror"), 4 if not is_up else 1 if told else 0, status)
-        elif self.draw.random() < .1 and not all(office.process for office in self.offices):
-            self.down.start()
+        elif self.draw.random() < .1 and not all(office.runs for office in self.offices):
+            self.down.begin()
 
     def rounds(self):
         """All links are whole: mirrors go round until no office keeps more than before."""
         before = None
-        while before != [office.text("/kept") for office in self.offices]:
-            before = [office.text("/kept") for office in self.offices]
+        while before != [office.get("/kept") for office in self.offices]:
+            before = [office.get("/kept") for office in self.offices]
             for i in OFFICES:
                 for j in OFFICES:
                     if i != j:
                         mirror(self.offices[i], self.offices[j], self.folder)
 
     def last_turns(self):
-        """One more turn sends what follows a gap, and the conflict, which is printed; with --all it sends all."""
+        """One more turn sends the conflict alone, which is printed; with --all it sends all."""
         for i in OFFICES:
             for j in OFFICES:
                 if i != j:
@@ -197,14 +179,11 @@ class Draw:
         want(self.name("a turn over all"), every, turn[1])
 
     def due_of_a_turn(self, one, other):
-        """The status of such a turn, how much is sent, and what is printed."""
-        kept = {sender: (int(count), int(upto or 0)) for sender, count, upto in KEPT.findall(one.text("/kept"))}
-        sent = sum(count - upto for count, upto in kept.values())
+        """The status of such a turn, how much is sent, and what is printed. What the other held is remembered."""
         path = self.conflict and "/kept/" + self.conflict.replace(" ", "/")
-        if not path or one.ask(path) == other.ask(path):
-            return 0, sent, []
-        sender, number = self.conflict.split()
-        return 1, sent + (int(number) <= kept[sender][1]), [self.conflict]
+        if not path or one.answer(path) == other.answer(path):
+            return 0, 0, []
+        return 1, 1, [self.conflict]
 
     def compare(self):
         """The three offices compared with each other, and with a plain replay of what was sent."""
@@ -225,7 +204,7 @@ class Draw:
 
     def end(self):
         for office in self.up():
-            office.kill()
+            office.end()
 
 
 def one(seed):

@@ -8,13 +8,13 @@ sqlite3, and writes in a folder of its own. Exit status 0 where each store was a
 """
 import hashlib
 import os
-import signal
 import sqlite3
 import subprocess
 import sys
 import tempfile
-import urllib.error
-import urllib.request
+sys.dont_write_bytecode = True
+sys.path.insert(0, os.path.join(os.path.dirname(os.path.abspath(__file__)), ".."))
+from serving import Service
 
 EXAMPLES = os.path.join(os.path.dirname(os.path.abspath(__file__)), "..", "..", "examples")
 ARCHIVE = os.path.join(EXAMPLES, "archive")
@@ -60,24 +60,9 @@ def asked(db, words):
     return found
 
 
-class Service:
-    """The service over a store, which is ended by force."""
-
-    def __init__(self, conf, db):
-        words = [program, "serve", "--conf", conf, "--port", str(port), "--db", db]
-        self.process = subprocess.Popen(words, stdout=subprocess.PIPE, stderr=subprocess.PIPE)
-        want("first line", b"listening %d\n" % port, self.process.stdout.readline())
-
-    def ask(self, path, body=None):
-        try:
-            with urllib.request.urlopen("http://127.0.0.1:%d%s" % (port, path), body, timeout=20) as reply:
-                return reply.read()
-        except urllib.error.HTTPError as refused:
-            return refused.read()
-
-    def kill(self):
-        self.process.send_signal(signal.SIGKILL)
-        self.process.communicate()
+def over(conf, db):
+    """The service over a store, for a `with`, which ends it by force."""
+    return Service(program, "--db", db, conf=conf, port=port)
 
 
 def parts(folder, conf):
@@ -105,18 +90,18 @@ def ended_by_force(folder, conf):
     db = os.path.join(folder, "service")
     whole, _, _ = replay(conf, None, bag_of(MESSAGES))
     for text, line in zip(MESSAGES, whole.splitlines(True)):
-        service = Service(conf, db)
-        want("a message", line, service.ask("/mail", text))
-        service.kill()
-    service = Service(conf, db)
-    want("the first message again", whole.splitlines(True)[0], service.ask("/mail", MESSAGES[0]))
-    want("status", b"ready 2 finished 2\n", service.ask("/status"))
-    told = b"".join(service.ask(path) for path in ("/excuses/1", "/update/1", "/excuses/2", "/update/2", "/testing"))
-    want("the texts", whole[whole.index(b"excuses 1"):], told)
-    in_use = replay(conf, db, b"")
-    want("in use", (b"", 4), in_use[:2])
-    want("in use, told", True, "end the program that has it open" in in_use[2])
-    service.kill()
+        with over(conf, db) as service:
+            want("it listens", True, service.runs)
+            want("a message", line, service.ask("POST", "/mail", text)[1])
+    with over(conf, db) as service:
+        want("it listens", True, service.runs)
+        want("the first message again", whole.splitlines(True)[0], service.ask("POST", "/mail", MESSAGES[0])[1])
+        want("status", "ready 2 finished 2\n", service.get("/status"))
+        told = "".join(map(service.get, ("/excuses/1", "/update/1", "/excuses/2", "/update/2", "/testing")))
+        want("the texts", whole[whole.index(b"excuses 1"):], told.encode())
+        in_use = replay(conf, db, b"")
+        want("in use", (b"", 4), in_use[:2])
+        want("in use, told", True, "end the program that has it open" in in_use[2])
 
 
 def refused_setups(folder, conf):

@@ -1,38 +1,20 @@
 """What the scripts of this folder share that ask a program and a service many questions: counts, calls, requests."""
-import http.client
 import os
 import subprocess
 import sys
+sys.path.insert(0, os.path.join(os.path.dirname(os.path.abspath(__file__)), ".."))
+import serving
 
-TOP = os.path.join(os.path.dirname(os.path.abspath(__file__)), "..", "..")
-CONF = os.path.join(TOP, "examples", "setup.conf")
+CONF = serving.CONF
 
 
-class Service:
-    """A running service, for a `with`, which waits for its end if that is due after that many connections."""
-
-    def __init__(self, words, port):
-        self.words, self.port, self.process, self.said = words, port, None, ""
-
-    def __enter__(self):
-        self.process = subprocess.Popen(self.words, stdout=subprocess.PIPE, stderr=subprocess.PIPE)
-        line = self.process.stdout.readline()
-        assert line == b"listening %d\n" % self.port, line
-        return self
-
-    def __exit__(self, kind, *_):
-        if kind is not None:
-            self.process.kill()
-        self.said = self.process.communicate(timeout=60)[1].decode()
+class Service(serving.Service):
+    """A running service whose questions and answers are texts."""
 
     def ask(self, method, path, body=None):
         """The code and the text of an answer."""
-        connection = http.client.HTTPConnection("127.0.0.1", self.port, timeout=60)
-        connection.request(method, path, body if body is None else body.encode())
-        reply = connection.getresponse()
-        told = reply.read().decode()
-        connection.close()
-        return reply.status, told
+        code, told = super().ask(method, path, body if body is None else body.encode())
+        return code, told.decode()
 
 
 class Tries:
@@ -65,18 +47,7 @@ class Tries:
 
     def serving(self, connections, *more):
         """A service that ends after that many connections."""
-        words = [
-            self.program,
-            "serve",
-            "--conf",
-            CONF,
-            "--port",
-            str(self.port),
-            "--connections",
-            str(connections),
-            *more,
-        ]
-        return Service(words, self.port)
+        return Service(self.program, *more, port=self.port, connections=connections)
 
     @staticmethod
     def bytes_of(path):

@@ -20,9 +20,12 @@ import tempfile
 import time
 
 HERE = os.path.dirname(os.path.abspath(__file__))
-EXAMPLES = os.path.join(HERE, "..", "..", "examples")
-ARCHIVE = os.path.join(EXAMPLES, "archive")
-CONF = os.path.join(EXAMPLES, "setup.conf")
+sys.dont_write_bytecode = True
+sys.path.insert(0, os.path.dirname(HERE))
+import serving
+from serving import CONF
+
+ARCHIVE = os.path.join(os.path.dirname(CONF), "archive")
 program = os.path.abspath(sys.argv[1])
 step = int(sys.argv[2]) if len(sys.argv) > 2 else 1
 NOBODY = 65534
@@ -114,26 +117,15 @@ def refused(what, told, ran, status=4):
     want(what + ", told", True, ran[2].startswith("office: ") and any(words in ran[2] for words in told))
 
 
-def free_port():
-    with socket.socket() as s:
-        s.bind(("127.0.0.1", 0))
-        return s.getsockname()[1]
-
-
-class Service:
+class Service(serving.Service):
     """The service over a store, ended by force."""
 
-    def __init__(self, db, **how):
-        self.port = free_port()
-        words = [program, "serve", "--conf", CONF, "--port", str(self.port), "--connections", "200"] + (["--db", db] if db else [])
-        self.process = subprocess.Popen(words, stdout=subprocess.PIPE, stderr=subprocess.PIPE, **how)
-        self.listens = self.process.stdout.readline() == b"listening %d\n" % self.port
+    def __init__(self, db):
+        super().__init__(program, "--connections", "200", "--db", db)
+        self.listens = self.start()
 
     def __enter__(self):
         return self
-
-    def __exit__(self, *unused):
-        self.kill()
 
     def post(self, text):
         return self.ask(b"POST /mail HTTP/1.1\r\nHost: x\r\nContent-Length: %d\r\n\r\n" % len(text) + text)
@@ -151,11 +143,6 @@ class Service:
                 if not piece:
                     return taken.split(b"\r\n\r\n", 1)[-1]
                 taken += piece
-
-    def kill(self):
-        if self.process.poll() is None:
-            self.process.send_signal(signal.SIGKILL)
-        return self.process.communicate()
 
 
 def made(folder, name, texts=MESSAGES):
@@ -334,8 +321,7 @@ def two_programs(folder):
         for name in (db, link):
             refused("the second of two", ["database is locked"], replay(name, MESSAGES))
         with Service(db) as second:
-            second.process.wait(30)
-            want("a second service", (False, 4), (second.listens, second.process.returncode))
+            want("a second service", (False, 4), (second.listens, second.wait(30)))
         want("the first goes on", b"held ftp 2\n", service.post(MESSAGES[1]))
     want("what the first held", (0, 2), (replay(db, [])[1], mail_in(db)))
     return "3 cases"
@@ -433,28 +419,21 @@ def inputs_and_setups(folder):
 def few_descriptors(folder):
     """Too few files for a client: reported, and no end with status 0 while clients wait (a failed accept isn't one)."""
     limit = lambda: resource.setrlimit(resource.RLIMIT_NOFILE, (4, 4))
-    port = free_port()
-    words = [program, "serve", "--conf", CONF, "--port", str(port), "--connections", "50"]
-    errors = os.path.join(folder, "errors")
-    with open(errors, "wb") as told:
-        process = subprocess.Popen(words, stdout=subprocess.PIPE, stderr=told, preexec_fn=limit)
-    listens = process.stdout.readline() == b"listening %d\n" % port
+    service = serving.Service(program, "--connections", "50", preexec_fn=limit)
     clients = []
-    if listens:
+    if service.start():
         for _ in range(3):
             try:
-                clients.append(socket.create_connection(("127.0.0.1", port), timeout=5))
+                clients.append(socket.create_connection(("127.0.0.1", service.port), timeout=5))
             except OSError:
                 break
         time.sleep(1)
-    status = process.poll()
-    if status is None:
-        process.kill()
-    process.communicate()
+    status = service.process.poll()
+    service.end()
     for client in clients:
         client.close()
     within("too few files, status", [None, 4], status)
-    within("too few files, lines told", range(1000), bytes_of(errors).count(b"\n"))
+    within("too few files, lines told", range(1000), service.said.count("\n"))
     return "status %s within a second" % status
 
 
@@ -479,7 +458,7 @@ def killed_at_moments(folder):
                 break
             held.append(text)
         os.waitpid(child, 0)
-        service.kill()
+        service.end()
         want("ended at a moment, opened again", 0, replay(db, [])[1])
         with sqlite3.connect(db) as reader:
             kept = set(bytes(body) for body, in reader.execute("SELECT body FROM mail"))

@@ -10,19 +10,20 @@ round. In the end the store is whole, and office-ask has answered as the program
 """
 import datetime
 import os
-import socket
+import signal
 import subprocess
 import sys
 import tempfile
 from pathlib import Path
-from typing import Optional, Sequence
+from typing import Sequence
 
 from world import ARCHITECTURES, TESTING, Binary, common, every, packages, sources
 
 TOP = Path(__file__).resolve().parents[2]
 os.environ.setdefault("OFFICE_PLAN", str(TOP / "crates/office_plan/out/office_plan"))
-sys.path.insert(0, str(TOP / "tools"))
+sys.path[:0] = [str(TOP / "tools"), str(TOP / "tests")]
 sys.dont_write_bytecode = True
+import serving  # noqa: E402
 from office_tools.service import Service  # noqa: E402
 
 BEGIN = datetime.date(2026, 1, 7)
@@ -64,12 +65,9 @@ class Archive:
     def __init__(self, program: str, folder: str, counts: Counts) -> None:
         self.program, self.counts = program, counts
         self.setup, self.store = f"{folder}/week/setup.conf", f"{folder}/store.db"
-        with socket.socket() as free:
-            free.bind(("127.0.0.1", 0))
-            self.port = free.getsockname()[1]
-        self.service = Service(f"http://127.0.0.1:{self.port}")
+        self.served = serving.Service(program, "--db", self.store, conf=self.setup)
+        self.service = Service(self.served.url)
         self.day = 0
-        self.process: Optional["subprocess.Popen[str]"] = None
 
     def tool(self, name: str, *words: str, given: str = "") -> "subprocess.CompletedProcess[str]":
         """Runs a tool."""
@@ -95,16 +93,12 @@ class Archive:
 
     def serve(self) -> None:
         """Starts the service."""
-        self.process = subprocess.Popen([self.program, "serve", "--conf", self.setup, "--db", self.store, "--port",
-                                         str(self.port)], stdout=subprocess.PIPE, text=True)
-        assert self.process.stdout is not None
-        self.process.stdout.readline()
+        assert self.served.start()
 
     def end(self) -> None:
         """Ends the service."""
-        if self.process:
-            self.process.terminate()
-            self.process.wait()
+        if self.served.runs:
+            self.served.end(signal.SIGTERM)
 
     def mail(self, sender: str, kind: str, *lines: str) -> str:
         """Mails a message under the sender's next number: the reply."""

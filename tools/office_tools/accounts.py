@@ -2,10 +2,8 @@
 import netrc
 from typing import Optional
 
-from office_tools.faults import Fault, cause_of
+from office_tools.faults import Exit, Fault, cause_of
 from office_tools.service import SECONDS, Service
-
-WORDS_ARE_WRONG = 2
 
 
 def service_at(url: str, user: Optional[str] = None, seconds: float = SECONDS) -> Service:
@@ -18,8 +16,8 @@ def service_at(url: str, user: Optional[str] = None, seconds: float = SECONDS) -
         return service
     try:
         known = netrc.netrc().authenticators(service.host)
-    except (OSError, netrc.NetrcParseError) as fault:
-        raise Fault(f"the password of {service.user}: ~/.netrc: {cause_of(fault)}", WORDS_ARE_WRONG) from fault
+    except (OSError, ValueError, netrc.NetrcParseError) as fault:
+        raise Fault(f"the password of {service.user}: ~/.netrc: {cause_of(fault)}", Exit.USAGE) from fault
     if known is None or known[0] != service.user:
-        raise Fault(f"~/.netrc has no password of {service.user} at {service.host}", WORDS_ARE_WRONG)
+        raise Fault(f"~/.netrc has no password of {service.user} at {service.host}", Exit.USAGE)
     return Service(url, service.user, known[2], seconds)

@@ -1,10 +1,22 @@
 """How a command of this package ends: its messages on standard error, and its exit status."""
+import enum
 import os
 import sys
 from types import TracebackType
 from typing import Callable, NoReturn, Optional, Sequence
 
 Main = Callable[[Sequence[str]], int]
+
+
+class Exit(enum.IntEnum):
+    """The exit statuses of the commands. Each manual page says what they mean for its command."""
+
+    DONE = 0
+    NEGATIVE = 1  # the answer is no, something waits for a person, or a file can't be read
+    USAGE = 2  # the words, or what the command keeps, aren't as required
+    REFUSED = 3  # nothing was done: it would do harm, or somebody refused it
+    FAILED = 4  # the office doesn't answer, or a program or the disk failed
+
 
 INTERRUPTED = 130  # what a shell says of a command that SIGINT ended
 PIPE_BROKEN = 141  # what a shell says of a command that SIGPIPE ended
@@ -16,7 +28,7 @@ class Fault(Exception):
     `run` prints it as `office-NAME: cause`, and the command ends with `status`.
     """
 
-    def __init__(self, cause: str, status: int = 1) -> None:
+    def __init__(self, cause: str, status: int = Exit.NEGATIVE) -> None:
         super().__init__(cause)
         self.cause = cause
         self.status = status
@@ -48,7 +60,7 @@ def run(name: str, main: Main) -> NoReturn:
     except OSError as fault:
         drop_output()
         tell(name, cause_of(fault) if fault.filename is None else f"{fault.filename}: {cause_of(fault)}")
-        status = 1
+        status = Exit.NEGATIVE
     sys.exit(status)
 
 

@@ -2,9 +2,9 @@
 from typing import Iterator, Protocol
 
 from office_tools import bags
-from office_tools.faults import Fault
+from office_tools.faults import Exit, Fault
 from office_tools.messages import Label, label_of
-from office_tools.service import UNANSWERED, Service
+from office_tools.service import Service
 
 GREATEST = 999_999_999  # the greatest number of a message
 
@@ -41,7 +41,7 @@ def letters(service: Service, sender: str, first: int = 1, done: Done = Nothing(
         for text in bags.messages_in(service.bag(sender, first)):
             label = label_of(text)
             if label is None or label.sender != sender or label.number < last:
-                raise Fault(f"{service.url}/bag/{sender}/{first}: no office answers there", UNANSWERED)
+                raise Fault(f"{service.url}/bag/{sender}/{first}: no office answers there", Exit.FAILED)
             last = label.number + 1
             if not done.has(label.number):
                 yield label, text

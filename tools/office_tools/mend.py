@@ -4,13 +4,12 @@ import sys
 from typing import Iterator, Sequence
 
 from office_tools import bags, counts
-from office_tools.faults import Fault
+from office_tools.faults import Exit, Fault
 from office_tools.files import read_bytes
 from office_tools.messages import Label, label_of
 from office_tools.undo import command as undo
 from office_tools.undo.selection import slip
 
-ABSENT, REFUSED = 1, 3
 USAGE = """office-mend SENDER NUMBER FILE < BAG > BAG
        office-mend --undo SLIP [--undo SLIP ..] --conf SETUP --db STORE [--url URL] [--cache PATH ..] [--yes]"""
 
@@ -24,9 +23,9 @@ def mended(bag: bytes, label: Label, text: bytes) -> Iterator[bytes]:
             found = found or is_meant
             yield text if is_meant else message
     except bags.BagFault as fault:
-        raise Fault(f"standard input: {fault.cause}", REFUSED) from fault
+        raise Fault(f"standard input: {fault.cause}", Exit.REFUSED) from fault
     if not found:
-        raise Fault(f"standard input: the bag has no message {label.sender} {label.number}", ABSENT)
+        raise Fault(f"standard input: the bag has no message {label.sender} {label.number}", Exit.NEGATIVE)
 
 
 def parser() -> argparse.ArgumentParser:
@@ -66,6 +65,6 @@ def main(words: Sequence[str]) -> int:
     stated = label_of(text)
     if stated != label:
         told = f"{stated.sender} {stated.number}" if stated else "no message"
-        raise Fault(f"{path}: it is {told}, and not {label.sender} {label.number}", REFUSED)
+        raise Fault(f"{path}: it is {told}, and not {label.sender} {label.number}", Exit.REFUSED)
     sys.stdout.buffer.write(b"".join(map(bags.framed, mended(sys.stdin.buffer.read(), label, text))))
     return 0

@@ -7,13 +7,10 @@ from typing import Iterator, Mapping, Sequence
 from office_tools import reports
 from office_tools.accounts import service_at
 from office_tools.days import day, today
-from office_tools.faults import Fault
+from office_tools.faults import Exit, Fault
 from office_tools.mailing import is_held, mailed
 from office_tools.messages import label_of, paragraphs
-from office_tools.service import Kept, Service
-
-URL = "http://127.0.0.1:8080"
-REFUSED = 3
+from office_tools.service import DEFAULT_URL, Kept, Service
 
 
 def parser() -> argparse.ArgumentParser:
@@ -25,7 +22,7 @@ def parser() -> argparse.ArgumentParser:
                "since the day or a gap isn't allowed. 4: no office answers.")
     words.add_argument("day", nargs="?", type=day, default=today(), metavar="DAY",
                        help="the day of the run, as 2025-03-20 (today by the system's clock, in UTC)")
-    words.add_argument("--url", metavar="URL", default=URL, help=f"the service ({URL})")
+    words.add_argument("--url", metavar="URL", default=DEFAULT_URL, help=f"the service ({DEFAULT_URL})")
     words.add_argument("--send", action="store_true", help="mails the order, and prints the reply in its place")
     words.add_argument("--force", action="store_true",
                        help="send an order of a day after today, or before the last order's")
@@ -47,28 +44,29 @@ def main(words: Sequence[str]) -> int:
         check_day(service, text, asked.day)
     reply = mailed(service, text)
     print(reply)
-    return 0 if is_held(reply) else REFUSED
+    return Exit.DONE if is_held(reply) else Exit.REFUSED
 
 
 def check_gaps(kept: Mapping[str, Kept], allowed: Sequence[str]) -> None:
     """Refuses an order over a gap: kept mail of a sender that follows missing mail."""
     unknown = [sender for sender in allowed if sender not in kept]
     if unknown:
-        raise Fault(f"--gap {unknown[0]}: the office has no such sender", 2)
+        raise Fault(f"--gap {unknown[0]}: the office has no such sender", Exit.USAGE)
     for sender, count in kept.items():
         if count.greatest != count.unbroken and sender not in allowed:
             raise Fault(f"{sender} {count.unbroken + 1} is missing, and {sender} {count.greatest} is kept: send what "
-                        f"is missing, or allow the gap by --gap {sender}", REFUSED)
+                        f"is missing, or allow the gap by --gap {sender}", Exit.REFUSED)
 
 
 def check_day(service: Service, text: bytes, asked: datetime.date) -> None:
     """Refuses a day after today, or before the last order's."""
     if asked > today():
-        raise Fault(f"{asked} is after today, and no later run could have an earlier day: --force sends it", REFUSED)
+        raise Fault(f"{asked} is after today, and no later run could have an earlier day: --force sends it",
+                    Exit.REFUSED)
     last = max(ordered(service, text), default=asked)
     if asked < last:
         raise Fault(f"{asked} is before {last}, the day of the last order: the run would have that day. --force sends "
-                    "it", REFUSED)
+                    "it", Exit.REFUSED)
 
 
 def ordered(service: Service, text: bytes) -> Iterator[datetime.date]:

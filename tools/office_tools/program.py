@@ -4,9 +4,8 @@ import subprocess
 from typing import Sequence
 
 from office_tools import bags, reports
-from office_tools.faults import Fault, cause_of
+from office_tools.faults import Exit, Fault, cause_of
 
-UNANSWERED = 4  # status of a command whose office didn't answer
 SECONDS = 3600
 
 
@@ -20,7 +19,7 @@ def run(words: Sequence[str], given: bytes = b"") -> subprocess.CompletedProcess
     try:
         return subprocess.run([name(), *words], input=given, capture_output=True, timeout=SECONDS, check=False)
     except (OSError, subprocess.TimeoutExpired) as fault:
-        raise Fault(f"{name()}: {cause_of(fault)}", UNANSWERED) from fault
+        raise Fault(f"{name()}: {cause_of(fault)}", Exit.FAILED) from fault
 
 
 def output(words: Sequence[str], given: bytes = b"") -> bytes:
@@ -28,7 +27,7 @@ def output(words: Sequence[str], given: bytes = b"") -> bytes:
     ran = run(words, given)
     if ran.returncode:
         told = ran.stderr.decode(errors="backslashreplace").strip().split("\n")[-1]
-        raise Fault(told or f"{name()} {words[0]}: status {ran.returncode}", UNANSWERED)
+        raise Fault(told or f"{name()} {words[0]}: status {ran.returncode}", Exit.FAILED)
     return ran.stdout
 
 
@@ -38,7 +37,7 @@ def replies(setup: str, texts: Sequence[bytes]) -> Sequence[str]:
     found = told.decode(errors="backslashreplace").split("\n")[:len(texts)]
     for reply in found:
         if not reply.startswith(("held ", "refused ")) or reply in ("refused NoMemory", "refused Store"):
-            raise Fault(f"{name()} replay: {reply}", UNANSWERED)
+            raise Fault(f"{name()} replay: {reply}", Exit.FAILED)
     return found
 
 
@@ -72,5 +71,5 @@ def proposed(setup: str, bag: bytes, day: str) -> tuple[Sequence[str], Sequence[
     ran = run(["propose", "--all", "--day", day, "--conf", setup], bag)
     told = ran.stderr.decode(errors="backslashreplace").splitlines()
     if ran.returncode not in (0, 1):
-        raise Fault(told[-1] if told else f"{name()} propose: status {ran.returncode}", UNANSWERED)
+        raise Fault(told[-1] if told else f"{name()} propose: status {ran.returncode}", Exit.FAILED)
     return ran.stdout.decode().splitlines(), [line for line in told if not line.startswith("office: run ")]

@@ -9,9 +9,9 @@ from dataclasses import dataclass
 from typing import Mapping, Optional
 
 from office_tools import reports
-from office_tools.faults import Fault, cause_of
+from office_tools.faults import Exit, Fault, cause_of
 
-UNANSWERED = 4  # status of a command whose office didn't answer
+DEFAULT_URL = "http://127.0.0.1:8080"  # where a service answers if none is named
 SECONDS = 60.0  # how long a connection waits for its peer
 LONGEST_TOLD = 200  # characters of an answer that are told
 
@@ -98,7 +98,7 @@ class Service:
             answer = connection.getresponse()
             return Reply(answer.status, answer.read())
         except (OSError, http.client.HTTPException, ValueError) as fault:
-            raise Fault(f"{self.url}{path}: {cause_of(fault)}", UNANSWERED) from fault
+            raise Fault(f"{self.url}{path}: {cause_of(fault)}", Exit.FAILED) from fault
         finally:
             connection.close()
 
@@ -127,7 +127,7 @@ class Service:
     def bad(self, path: str, reply: Reply) -> Fault:
         """The fault of an answer that isn't the wanted one. An office of an earlier version has fewer pages."""
         is_older = reply.status == http.client.NOT_FOUND and reply.text == NO_ROUTE
-        return Fault(f"{self.url}{path}: {reply.told}{f': {OLDER}' if is_older else ''}", UNANSWERED)
+        return Fault(f"{self.url}{path}: {reply.told}{f': {OLDER}' if is_older else ''}", Exit.FAILED)
 
     def good_text(self, path: str) -> str:
         """The same as characters."""
@@ -138,7 +138,7 @@ class Service:
 
     def strange(self, path: str) -> Fault:
         """The fault of an answer that no office gives."""
-        return Fault(f"{self.url}{path}: no office answers there", UNANSWERED)
+        return Fault(f"{self.url}{path}: no office answers there", Exit.FAILED)
 
     def status(self) -> Status:
         """How far the office's runs are."""
@@ -183,7 +183,7 @@ class Service:
     def proposed(self, day: Optional[datetime.date] = None) -> Optional[str]:
         """The hints for groups that the office proposes, one a line; None if no run is finished and no day is stated.
 
-        With a day they are those for a run on that day or later over all mail without a gap, as its order would have it.
+        With a day they are those for a run on that day or later over all mail without a gap, as its order has it.
         """
         path = f"/propose/{day.isoformat()}" if day else "/propose"
         reply = self.get(path)
@@ -224,7 +224,7 @@ def split_url(url: str) -> urllib.parse.SplitResult:
         good = None
     if not good or parts.query or parts.fragment:
         shown = re.sub(r"//[^/@]*@", "//", url)
-        raise Fault(f"{shown!r} is no URL of a service, such as http://127.0.0.1:8080", 2)
+        raise Fault(f"{shown!r} is no URL of a service, such as {DEFAULT_URL}", Exit.USAGE)
     return parts
 
 

@@ -13,14 +13,12 @@ from typing import Sequence
 
 from office_tools import bags
 from office_tools.accounts import service_at
-from office_tools.faults import Fault, cause_of
+from office_tools.faults import Exit, Fault, cause_of
 from office_tools.files import read_bytes, write_whole
 from office_tools.mailing import is_held, mailed
 from office_tools.messages import ParagraphFault, label_of, paragraphs
 from office_tools.openpgp import is_one_message
-from office_tools.service import UNANSWERED
 
-UNSIGNED, REFUSED = 1, 3
 LONGEST = 1048576  # bytes of a signed message that are read
 
 
@@ -50,9 +48,9 @@ def opened(signed: bytes, keys: Path) -> Opened:
         text = checked(letter, rings) if rings else None
         senders = [ring.stem for ring in rings if text is not None and is_signed_by(letter, ring)]
     if text is None or not senders:
-        raise Fault("no key fits", UNSIGNED)
+        raise Fault("no key fits", Exit.NEGATIVE)
     if not is_one_message(signed):
-        raise Fault("it isn't one signed message alone: send each on its own", REFUSED)
+        raise Fault("it isn't one signed message alone: send each on its own", Exit.REFUSED)
     return Opened(senders, text)
 
 
@@ -61,9 +59,9 @@ def checked(letter: Path, rings: Sequence[Path]) -> bytes:
     output = letter.with_name("text")
     ran = gpgv([*(word for ring in rings for word in ("--keyring", str(ring))), "--output", str(output), str(letter)])
     if ran.returncode == -signal.SIGXFSZ:
-        raise Fault(f"no key fits\nthe text has more than {bags.LONGEST} bytes", UNSIGNED)
+        raise Fault(f"no key fits\nthe text has more than {bags.LONGEST} bytes", Exit.NEGATIVE)
     if ran.returncode:
-        raise Fault(f"no key fits\n{ran.stderr.decode(errors='backslashreplace').strip()}", UNSIGNED)
+        raise Fault(f"no key fits\n{ran.stderr.decode(errors='backslashreplace').strip()}", Exit.NEGATIVE)
     return read_bytes(str(output))
 
 
@@ -79,7 +77,7 @@ def gpgv(words: Sequence[str]) -> "subprocess.CompletedProcess[bytes]":
         return subprocess.run(["gpgv", "-q", *words], stdin=subprocess.DEVNULL, capture_output=True, check=False,
                               preexec_fn=limited)
     except OSError as fault:
-        raise Fault(f"gpgv: {cause_of(fault)}", UNANSWERED) from fault
+        raise Fault(f"gpgv: {cause_of(fault)}", Exit.FAILED) from fault
 
 
 def limited() -> None:
@@ -92,10 +90,10 @@ def look_at(found: Opened, office: str) -> None:
     try:
         first = next(paragraphs(found.text), None)
     except ParagraphFault as fault:
-        raise Fault(fault.cause, REFUSED) from fault
+        raise Fault(fault.cause, Exit.REFUSED) from fault
     named = first.value("Office") if first else None
     if named != office:
-        raise Fault(f"it is for {named or 'no named office'}, and not for {office}", REFUSED)
+        raise Fault(f"it is for {named or 'no named office'}, and not for {office}", Exit.REFUSED)
 
 
 def parser() -> argparse.ArgumentParser:
@@ -120,21 +118,21 @@ def main(words: Sequence[str]) -> int:
     """Checks the message, posts its text, and keeps what was signed."""
     asked = parser().parse_args(words)
     if not asked.keys.is_dir():
-        raise Fault(f"{asked.keys}: there is no such folder", 2)
+        raise Fault(f"{asked.keys}: there is no such folder", Exit.USAGE)
     service = service_at(asked.url)
     signed = sys.stdin.buffer.read(LONGEST + 1)
     if len(signed) > LONGEST:
-        raise Fault(f"it has more than {LONGEST} bytes", REFUSED)
+        raise Fault(f"it has more than {LONGEST} bytes", Exit.REFUSED)
     found = opened(signed, asked.keys)
     look_at(found, asked.office)
     reply = mailed(service, found.text, found.sender)
     print(reply)
     if not is_held(reply):
-        return REFUSED
+        return Exit.REFUSED
     keep = asked.keep or asked.keys.resolve().parent / "signed"
     kept = os.path.join(keep, f"{found.sender}-{hashlib.sha256(found.text).hexdigest()}")
     try:
         write_whole(kept, signed)
     except Fault as fault:
-        raise Fault(fault.cause, UNANSWERED) from fault
+        raise Fault(fault.cause, Exit.FAILED) from fault
     return 0

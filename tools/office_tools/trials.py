@@ -5,11 +5,10 @@ import re
 from dataclasses import dataclass
 from typing import Sequence
 
-from office_tools.faults import Fault
+from office_tools.faults import Exit, Fault
 from office_tools.messages import Label
 from office_tools.service import Service
 
-REFUSED = 3
 HEAD = re.compile(r"try ([0-9]{1,9}) ([0-9]{4}-[0-9]{2}-[0-9]{2}) (\S+) ([0-9]{1,9}) (.*)")
 CHANGE = re.compile(r"[-+](excuse|update|testing) ")
 REFUSAL = re.compile(r"\+update ((?:easy|remove) [0-9]{1,9} refuse .*)")
@@ -50,7 +49,7 @@ def trial(service: Service, hints: Sequence[str], day: datetime.date) -> Trial:
     path = f"/try/{day.isoformat()}"
     reply = service.post(path, lines_of(hints))
     if reply.status == http.client.BAD_REQUEST and reply.text.startswith("'"):
-        raise Fault(reply.text, REFUSED)
+        raise Fault(reply.text, Exit.REFUSED)
     if not reply.is_good:
         raise service.bad(path, reply)
     lines = reply.body.decode(errors="backslashreplace").splitlines()

@@ -213,6 +213,16 @@ class Changes(Folder):
         self.changes("one_1.0-1_source.changes")
         self.assertEqual(self.arrivals(), ([("high", "2025-03-03"), ("low", "2025-03-01")], []))
 
+    def test_folders_below(self):
+        """reprepro's Logdir has a folder for each file. One that can't be read is reported."""
+        os.makedirs(self.path("changes/one_1.0-1_source.0000000"))
+        self.changes("one_1.0-1_source.0000000/one_1.0-1_source.changes")
+        os.makedirs(self.path("changes/two.changes/three"))
+        self.changes("two.changes/three/one.changes", Urgency="critical")
+        arrived, told = self.arrivals()
+        self.assertEqual((arrived[0], told), (("high", "2025-03-03"), [
+            f"office-from-packages: {self.path('changes/two.changes')}: Is a directory: left out"]))
+
     def test_words_behind_the_urgency(self):
         self.changes("one.changes", Urgency="EMERGENCY (security)", Source="one (1.0-1)")
         self.assertEqual(self.arrivals()[0][0], ("emergency", "2025-03-03"))

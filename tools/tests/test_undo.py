@@ -10,6 +10,7 @@ from unittest import mock
 from helpers import OFFICE, SETUP, Serving, needs_office, office, tool
 from office_tools import bags, messages, program
 from office_tools.messages import Kind, Label, Urgency
+from office_tools.service import DEFAULT_URL
 from office_tools.undo import command, exchange, outcome, selection
 
 NAMES = ("app", "base", "tool")
@@ -152,7 +153,7 @@ class Undo(unittest.TestCase):
         for path in (*due, f"{day}/other"):
             os.makedirs(path)
         letters = selection.read(world())
-        asked = argparse.Namespace(url=command.URL, cache=[pages, os.path.join(self.folder, "state")])
+        asked = argparse.Namespace(url=DEFAULT_URL, cache=[pages, os.path.join(self.folder, "state")])
         with mock.patch.object(command, "DAY", day), mock.patch.object(command, "PAGES", pages), \
                 mock.patch.dict(os.environ, {"XDG_CACHE_HOME": self.folder + "/cache"}):
             others = [b"From: x\nNumber: 1\nKind: none\n", *world()]

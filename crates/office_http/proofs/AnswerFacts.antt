@@ -100,9 +100,9 @@ seen_page p (inr e) = inr (ap (λ (q : Page). asks.Tell q) e)
 
 pub one_answer : (s : OfficeState) (asked : Asked) (rest : List ℕ) (x y : Found) → IsFound s x asked rest → IsFound s y asked rest → ((source : List ℕ) → asked ≡ asks.Tell (page.Why source) → x.why ≡ y.why)
     → ((p : Posted) → asked ≡ asks.Post p → terms_of p.action ≢ None → x.trial ≡ y.trial) → ((asked ≡ asks.Tell page.Hints) ⊎ (asked ≡ asks.Tell page.Unstable) → HasPlaces s.setup s.kept) → (AsksProposal asked → x.proposal ≡ y.proposal) → (AsksBreaks asked → x.breaks ≡ y.breaks) → answer_of s x asked rest ≡ answer_of s y asked rest
-one_answer s (asks.Refused r) rest x y h g told tried places proposed = refl
-one_answer s (asks.Tell p) rest x y h g told tried places proposed =
+one_answer s (asks.Refused r) rest x y h g told tried places proposed broken = refl
+one_answer s (asks.Tell p) rest x y h g told tried places proposed broken =
     page_is s x p
     ∙ ap (λ (a : Answer). short_page p a) (one_page s p x y h g (λ source e. told source (ap (λ (q : Page). asks.Tell q) e)) (λ seen. places (seen_page p seen)) proposed broken)
     ∙ sym (page_is s y p)
-one_answer s (asks.Post p) rest x y h g told tried places proposed = one_post s p.action (body_of p.length rest) x y h g (tried p refl) (λ e. broken (inr (p, refl, e)))
+one_answer s (asks.Post p) rest x y h g told tried places proposed broken = one_post s p.action (body_of p.length rest) x y h g (tried p refl) (λ e. broken (inr (p, refl, e)))

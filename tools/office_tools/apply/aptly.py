@@ -1,14 +1,15 @@
 """Local repositories of aptly. Packages of installers (udeb) are left alone."""
 import dataclasses
+import functools
 import json
 import os
 import re
 from typing import Sequence
 
-from office_tools.apply.contents import REFUSED, Contents, Indexes, Row, Source
+from office_tools.apply.contents import Contents, Indexes, Row, Source
 from office_tools.apply.managers import parts, run
 from office_tools.apply.published import shows, source_of
-from office_tools.faults import Fault
+from office_tools.faults import Exit, Fault
 from office_tools.files import read_bytes
 
 FORMAT = "{{.ShortKey}} {{.Source}}"
@@ -32,27 +33,36 @@ class Aptly:
         """What a command prints."""
         return run(["aptly", f"-config={self.config}", *words])
 
+    @functools.cached_property
+    def root(self) -> str:
+        """The folder that has all of aptly's, by the configuration as aptly itself reads it."""
+        try:
+            return os.path.expanduser(str(json.loads(self.aptly("config", "show"))["rootDir"]))
+        except (ValueError, TypeError, KeyError) as fault:
+            raise Fault(f"{self.config}: aptly shows no rootDir of it", Exit.REFUSED) from fault
+
     def folder(self) -> str:
         """Where aptly publishes testing."""
-        root = json.loads(read_bytes(self.config)).get("rootDir") or os.path.expanduser("~/.aptly")
-        return os.path.join(root, "public", self.prefix, "dists", self.testing_name)
+        return os.path.join(self.root, "public", self.prefix, "dists", self.testing_name)
 
     def architectures(self) -> Sequence[str]:
         """The architectures that testing is published with; a missing repository is refused."""
         release = os.path.join(self.folder(), "Release")
         if not os.path.exists(release):
-            raise Fault(f"{release}: {self.testing_name} isn't published yet: aptly publish repo does it once", REFUSED)
+            raise Fault(f"{release}: {self.testing_name} isn't published yet: aptly publish repo does it once",
+                        Exit.REFUSED)
         for name in (self.origin_name, self.testing_name):
             self.shown(name)
-        found = re.search(r"^Architectures:(.*)$", read_bytes(release).decode(), re.MULTILINE)
-        return sorted(set(found[1].split() if found else []) - {"source", "all"})
+        found = re.search(rb"^Architectures:(.*)$", read_bytes(release), re.MULTILINE)
+        names = found[1].decode(errors="backslashreplace").split() if found else []
+        return sorted(set(names) - {"source", "all"})
 
     def shown(self, repository: str) -> str:
         """What aptly prints of a repository; a missing one is refused."""
         try:
             return self.aptly("repo", "show", repository)
         except Fault as fault:
-            raise Fault(fault.cause, REFUSED) from fault
+            raise Fault(fault.cause, Exit.REFUSED) from fault
 
     def search(self, repository: str, query: str) -> Sequence[str]:
         """The lines by which aptly prints the packages that a query finds."""
@@ -72,7 +82,7 @@ class Aptly:
         for line in self.search(repository, f"!{INSTALLERS}"):
             found = KEY.fullmatch(line)
             if found is None:
-                raise Fault(f"aptly: it lists a package as {line!r}", REFUSED)
+                raise Fault(f"aptly: it lists a package as {line!r}", Exit.REFUSED)
             architecture, name, version, source = found.groups()
             if architecture == "source":
                 sources.add(Source(name, version))

@@ -6,9 +6,9 @@ from dataclasses import dataclass
 from typing import Optional, Sequence
 
 from office_tools import versions
-from office_tools.apply.contents import REFUSED, Contents, Item, Target
+from office_tools.apply.contents import Contents, Item, Target
 from office_tools.apply.plans import Lists, Plan, ask, key_of, listed
-from office_tools.faults import Fault
+from office_tools.faults import Exit, Fault
 
 MOST_GONE = 40  # packages and sources
 SHARE_GONE = 50  # one of this many is 2 %
@@ -36,9 +36,9 @@ class Terms:
         if found.leaving:
             names = named(sorted(f"{name} {architecture}" for architecture, name in lists.gone))
             raise Fault(f"{found.leaving} of {len(lists.first)} packages and sources would leave testing: {names}: "
-                        f"nothing is changed unless --gone {found.leaving} allows it", REFUSED)
+                        f"nothing is changed unless --gone {found.leaving} allows it", Exit.REFUSED)
         if found.plan is None:
-            raise Fault(f"there is nothing to copy from: {named(list(found.lacks.lines()))}", REFUSED)
+            raise Fault(f"there is nothing to copy from: {named(list(found.lacks.lines()))}", Exit.REFUSED)
         return found.plan
 
 
@@ -49,7 +49,7 @@ def check_back(lists: Lists, lower: Sequence[Item], want: Contents) -> None:
     if back:
         raise Fault(f"testing would go back to lower versions: {named(sorted(back))}: if the office's store was "
                     "restored, send its mail again (office-feed --restore); nothing is changed unless --back allows it",
-                    REFUSED)
+                    Exit.REFUSED)
 
 
 def named(names: Sequence[str]) -> str:

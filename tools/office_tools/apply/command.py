@@ -9,7 +9,7 @@ from office_tools.accounts import service_at
 from office_tools.apply import heidi, marks
 from office_tools.apply.aptly import Aptly
 from office_tools.apply.brakes import Terms
-from office_tools.apply.contents import ALL, REFUSED, Contents, Indexes, Target, check_taken, target, wanted
+from office_tools.apply.contents import ALL, Contents, Indexes, Target, check_taken, target, wanted
 from office_tools.apply.holding import Evidence, Groups
 from office_tools.apply.managers import Manager, locked
 from office_tools.apply.plans import plan_to
@@ -17,14 +17,13 @@ from office_tools.apply.published import is_whole, packages_of, raw_sections, re
 from office_tools.apply.reprepro import Reprepro
 from office_tools.apply.turn import Turn, counts, tell_alone
 from office_tools.counts import count
-from office_tools.faults import Fault
+from office_tools.faults import Exit, Fault
 from office_tools.files import read_bytes
 from office_tools.look.judge import judge, read_known
 from office_tools.reports import Outcome
-from office_tools.service import Service
+from office_tools.service import DEFAULT_URL, Service
 
 NAME = "office-apply"
-URL = "http://127.0.0.1:8080"
 PUBLIC = "."
 
 tell = functools.partial(faults.tell, NAME)
@@ -37,7 +36,7 @@ def parser() -> argparse.ArgumentParser:
         epilog="Status 0: it is. 1: it isn't, since something is held back, or with --dry-run something would change; "
                "each difference is printed. 2: the words are wrong. 3: refused, and nothing was changed. 4: the office "
                "or the archive's manager failed.")
-    words.add_argument("--url", help=f"the service ({URL})")
+    words.add_argument("--url", help=f"the service ({DEFAULT_URL})")
     words.add_argument("--testing", metavar="FILE", help="the text of testing, in place of a service's")
     words.add_argument("--dry-run", action="store_true", help="print what would change, and change nothing")
     words.add_argument("--gone", type=count, metavar="N",
@@ -82,7 +81,7 @@ def manager_of(asked: argparse.Namespace) -> tuple[Manager, str]:
 def testing_of(url: Optional[str], path: Optional[str]) -> reports.Testing:
     """What is in the office's testing."""
     if path is None:
-        return service_at(url or URL).testing()
+        return service_at(url or DEFAULT_URL).testing()
     try:
         return reports.read_testing(read_bytes(path).decode(), path)
     except UnicodeDecodeError as fault:
@@ -122,7 +121,7 @@ def to_heidi(testing: reports.Testing, path: str, published: Optional[Contents],
         tell_alone(goal, tell)
     terms.plan(goal, have, goal.contents)
     if published is not None and not published.sources:
-        raise Fault("there is no file Sources: what is left alone would leave the suite", REFUSED)
+        raise Fault("there is no file Sources: what is left alone would leave the suite", Exit.REFUSED)
     due = goal.contents
     come, go = due.without(before), before.without(due)
     is_same = come.is_empty and go.is_empty and os.path.exists(path)
@@ -157,7 +156,7 @@ def indexes_of(packages: Sequence[str], sources: Sequence[str]) -> Contents:
         return read_indexes([("", path) for path in packages], sources)
     stated = read_release(packages[0])
     if stated is None or not is_whole(packages[0], stated):
-        raise Fault(f"{packages[0]}: its indexes aren't those that its file Release states", REFUSED)
+        raise Fault(f"{packages[0]}: its indexes aren't those that its file Release states", Exit.REFUSED)
     return read_folder(packages[0], stated, Indexes.ONCE)
 
 
@@ -195,7 +194,7 @@ def main(words: Sequence[str]) -> int:
         return compared(testing, asked.packages, asked.sources)
     manager, place = manager_of(asked)
     locked(place)
-    service = service_at(asked.url or URL) if asked.testing is None else None
+    service = service_at(asked.url or DEFAULT_URL) if asked.testing is None else None
     architectures = list(dict.fromkeys(row.architecture for row in testing.rows if row.architecture != ALL))
     evidence = Evidence(groups_of(service, testing.finished), judge(), architectures,
                         lambda: read_known(

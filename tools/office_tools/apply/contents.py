@@ -6,10 +6,9 @@ from typing import Iterable, Iterator, Mapping, NamedTuple, Sequence, Union
 
 from office_tools import reports, versions
 from office_tools.apply import marks
-from office_tools.faults import Fault
+from office_tools.faults import Exit, Fault
 
 ALL = "all"
-REFUSED = 3  # status of a command that changed nothing
 
 
 class Source(NamedTuple):
@@ -90,10 +89,10 @@ class Indexes(enum.Enum):
 def wanted(testing: reports.Testing, architectures: Sequence[str], indexes: Indexes) -> Contents:
     """What the suite has to have by the office's testing, if it has these architectures."""
     if not testing.finished:
-        raise Fault("no run is finished: the office has no testing yet", REFUSED)
+        raise Fault("no run is finished: the office has no testing yet", Exit.REFUSED)
     strange = sorted({row.architecture for row in testing.rows} - {*architectures, ALL})
     if strange:
-        raise Fault(f"the suite has no architecture {', '.join(strange)}: the office has another setup", REFUSED)
+        raise Fault(f"the suite has no architecture {', '.join(strange)}: the office has another setup", Exit.REFUSED)
     sources = {name: Source(name, marks.source_version(version)) for name, version in testing.sources.items()}
     told_under: dict[Row, Source] = {}
     sent: dict[Item, str] = {sources[name]: version for name, version in testing.sources.items()}
@@ -143,11 +142,11 @@ def target(want: Contents, have: Contents) -> Target:
 def check_taken(want: Contents, have: Contents) -> None:
     """Refuses to take out all that a suite has, or all that it has of an architecture."""
     if want.is_empty and not have.is_empty:
-        raise Fault("the office's testing is empty, and the archive's isn't: nothing is taken out", REFUSED)
+        raise Fault("the office's testing is empty, and the archive's isn't: nothing is taken out", Exit.REFUSED)
     lost = {row.architecture for row in have.rows} - {row.architecture for row in want.rows} - {ALL}
     if lost:
         raise Fault(f"testing has packages of {', '.join(sorted(lost))}, and the office's has none: the office has "
-                    "another setup", REFUSED)
+                    "another setup", Exit.REFUSED)
 
 
 def older_of_all(want: Contents, have: Contents, rows: frozenset[Row]) -> Iterator[Row]:

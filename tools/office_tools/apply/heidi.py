@@ -2,8 +2,8 @@
 import os
 
 from office_tools import versions
-from office_tools.apply.contents import REFUSED, Contents, Row, Source
-from office_tools.faults import Fault
+from office_tools.apply.contents import Contents, Row, Source
+from office_tools.faults import Exit, Fault
 from office_tools.files import read_bytes, write_whole
 
 SOURCE = "source"
@@ -25,7 +25,7 @@ def read(path: str) -> Contents:
     for number, line in enumerate(read_bytes(path).decode(errors="backslashreplace").splitlines(), 1):
         words = line.split()
         if len(words) != 3 or not versions.is_version(words[1]):
-            raise Fault(f"{path}:{number}: it isn't PACKAGE VERSION ARCHITECTURE", REFUSED)
+            raise Fault(f"{path}:{number}: it isn't PACKAGE VERSION ARCHITECTURE", Exit.REFUSED)
         name, version, architecture = words
         if architecture == SOURCE:
             sources.add(Source(name, version))

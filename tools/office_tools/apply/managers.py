@@ -4,10 +4,9 @@ import os
 import subprocess
 from typing import Iterator, Protocol, Sequence
 
-from office_tools.apply.contents import REFUSED, Contents, Indexes
-from office_tools.faults import Fault, cause_of
+from office_tools.apply.contents import Contents, Indexes
+from office_tools.faults import Exit, Fault, cause_of
 
-UNANSWERED = 4  # status of a command whose office or manager failed
 BATCH = 200  # sources or rows in one command of a manager
 LONGEST = 500  # characters of what a manager tells
 
@@ -48,11 +47,11 @@ def run(words: Sequence[str]) -> str:
         ran = subprocess.run(words, stdin=subprocess.DEVNULL, capture_output=True, check=False, text=True,
                              errors="backslashreplace")
     except OSError as fault:
-        raise Fault(f"{words[0]}: {cause_of(fault)}", UNANSWERED) from fault
+        raise Fault(f"{words[0]}: {cause_of(fault)}", Exit.FAILED) from fault
     if ran.returncode:
         told = " ".join(line.strip() for line in (ran.stderr or ran.stdout).splitlines()
                         if line != "There have been errors!").strip()
-        raise Fault(f"{words[0]}: {told[-LONGEST:] or f'status {ran.returncode}'}", UNANSWERED)
+        raise Fault(f"{words[0]}: {told[-LONGEST:] or f'status {ran.returncode}'}", Exit.FAILED)
     return ran.stdout
 
 
@@ -74,6 +73,6 @@ def locked_for(path: str, name: str, where: str = "") -> int:
         fcntl.flock(number, fcntl.LOCK_EX | fcntl.LOCK_NB)
         return number
     except BlockingIOError as fault:
-        raise Fault(f"{path}: another {name} works{where}", REFUSED) from fault
+        raise Fault(f"{path}: another {name} works{where}", Exit.REFUSED) from fault
     except OSError as fault:
-        raise Fault(f"{path}: {cause_of(fault)}", REFUSED) from fault
+        raise Fault(f"{path}: {cause_of(fault)}", Exit.REFUSED) from fault

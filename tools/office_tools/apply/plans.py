@@ -13,9 +13,8 @@ from dataclasses import dataclass
 from typing import Iterable, Iterator, Mapping, Optional, Sequence
 
 from office_tools import versions
-from office_tools.apply.contents import REFUSED, Contents, Item, Source, Target, contents_of
-from office_tools.apply.managers import UNANSWERED
-from office_tools.faults import Fault, cause_of
+from office_tools.apply.contents import Contents, Item, Source, Target, contents_of
+from office_tools.faults import Exit, Fault, cause_of
 
 SECONDS = 3600
 SOURCE = "source"
@@ -135,7 +134,7 @@ def ask(lists: Lists, gone: int, is_back: bool) -> Answer:
     try:
         return answer_of(told, lists)
     except (KeyError, ValueError) as fault:
-        raise Fault(f"{program()}: it prints {fault.args[0]!r}", UNANSWERED) from fault
+        raise Fault(f"{program()}: it prints {fault.args[0]!r}", Exit.FAILED) from fault
 
 
 def answer_of(told: Sequence[str], lists: Lists) -> Answer:
@@ -165,12 +164,12 @@ def run(lists: Sequence[Sequence[str]], words: Sequence[str]) -> Sequence[str]:
             ran = subprocess.run([program(), *paths, *words], stdin=subprocess.DEVNULL, capture_output=True,
                                  timeout=SECONDS, check=False, pass_fds=numbers)
         except (OSError, subprocess.TimeoutExpired) as fault:
-            raise Fault(f"{program()}: {cause_of(fault)}", UNANSWERED) from fault
-    if ran.returncode == 0 or (ran.returncode == REFUSED and ran.stdout):
+            raise Fault(f"{program()}: {cause_of(fault)}", Exit.FAILED) from fault
+    if ran.returncode == 0 or (ran.returncode == Exit.REFUSED and ran.stdout):
         return ran.stdout.decode().split("\n")[:-1]
     told = ran.stderr.decode(errors="backslashreplace").strip().split("\n")[-1] or f"status {ran.returncode}"
     cause = cause_in(told.removeprefix("office-plan: "), paths, lists)
-    raise Fault(f"{program()}: {cause}", REFUSED if ran.returncode == REFUSED else UNANSWERED)
+    raise Fault(f"{program()}: {cause}", Exit.REFUSED if ran.returncode == Exit.REFUSED else Exit.FAILED)
 
 
 def cause_in(told: str, paths: Sequence[str], lists: Sequence[Sequence[str]]) -> str:
@@ -191,5 +190,5 @@ def plan_to(goal: Target, have: Contents) -> Plan:
     """How a suite becomes what it is to be, if all can be copied and all is allowed."""
     found = ask(listed(goal, have, goal.contents), MOST, True).plan
     if found is None:
-        raise Fault(f"{program()}: it has no plan where all can be copied", UNANSWERED)
+        raise Fault(f"{program()}: it has no plan where all can be copied", Exit.FAILED)
     return found

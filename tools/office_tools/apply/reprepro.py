@@ -3,10 +3,10 @@ import os
 from collections import Counter
 from typing import Iterator, Optional, Sequence
 
-from office_tools.apply.contents import REFUSED, Contents, Indexes, Row, Source
-from office_tools.apply.managers import UNANSWERED, parts, run
+from office_tools.apply.contents import Contents, Indexes, Row, Source
+from office_tools.apply.managers import parts, run
 from office_tools.apply.published import shows
-from office_tools.faults import Fault
+from office_tools.faults import Exit, Fault
 
 LIST = r"${$architecture} ${$type} ${package} ${version} ${$source} ${$sourceversion} ${architecture}\n"
 PUBLISH_LATER = ("--export=silent-never", "--keepunreferencedfiles")
@@ -34,20 +34,20 @@ class Reprepro:
                 raise
             raise Fault(f"{lock}: it was left by a reprepro that was ended, and no reprepro runs here: remove it "
                         "(unless another machine works on this archive), and run this command again",
-                        UNANSWERED) from fault
+                        Exit.FAILED) from fault
 
     def architectures(self) -> Sequence[str]:
         """The architectures of testing; a missing suite is refused."""
         if not os.path.isdir(os.path.join(self.base, "conf")):
-            raise Fault(f"{self.base}: it is no archive of reprepro: it has no folder conf", REFUSED)
+            raise Fault(f"{self.base}: it is no archive of reprepro: it has no folder conf", Exit.REFUSED)
         try:
             told = [self.reprepro("_listconfidentifiers", suite) for suite in (self.testing_name, self.origin_name)]
         except Fault as fault:
-            raise Fault(fault.cause, REFUSED) from fault
+            raise Fault(fault.cause, Exit.REFUSED) from fault
         suites = [{line.split("|")[-1] for line in part.splitlines()} for part in told]
         for name, found in zip((self.testing_name, self.origin_name), suites):
             if not found:
-                raise Fault(f"{self.base}: it has no suite {name}", REFUSED)
+                raise Fault(f"{self.base}: it has no suite {name}", Exit.REFUSED)
         return sorted(suites[0] - {"source"})
 
     def listed(self, suite: str) -> Contents:

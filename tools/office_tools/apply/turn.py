@@ -6,11 +6,9 @@ from office_tools import reports
 from office_tools.apply.brakes import Terms, named
 from office_tools.apply.contents import Contents, Item, Target, check_taken, target, wanted
 from office_tools.apply.holding import Evidence, Held, Holding, incomplete, without_source
-from office_tools.apply.managers import UNANSWERED, Manager
+from office_tools.apply.managers import Manager
 from office_tools.apply.plans import Plan, lacking, plan_to
-from office_tools.faults import Fault
-
-HELD = 1  # status where testing isn't what the office says
+from office_tools.faults import Exit, Fault
 
 
 @dataclass(frozen=True)
@@ -52,10 +50,10 @@ class Turn:
         self.terms.plan(work.goal, work.have, work.origin)
         if plan.is_empty and not self.manager.is_published(work.have):
             self.show("would be published: testing as it is")
-            return HELD
+            return Exit.NEGATIVE
         self.show(f"testing {self.testing.finished}: {counts(work.goal.want)}; would come {counts(plan.come)}; "
                   f"would go {counts(plan.go)}{work.held_back}")
-        return HELD if work.held or not plan.is_empty else 0
+        return Exit.NEGATIVE if work.held or not plan.is_empty else Exit.DONE
 
     def apply(self) -> int:
         """Makes testing what the office wants: status 0 if it then is, 1 if something is held back.
@@ -75,13 +73,13 @@ class Turn:
             for line in plan.lines():
                 self.show(line)
             self.tell("testing isn't published: it isn't what the office wants")
-            return HELD
+            return Exit.NEGATIVE
         self.publish(work.have)
         for line in moves(first, "came", "went"):
             self.show(line)
         self.show(f"testing {self.testing.finished}: {counts(work.goal.want)}; came {counts(first.come)}; "
                   f"went {counts(first.go)}{work.held_back}")
-        return HELD if work.held else 0
+        return Exit.NEGATIVE if work.held else Exit.DONE
 
     def again(self, work: Work) -> tuple[Work, Plan]:
         """The plan over what testing has now. What is refused now wasn't before: something else changed testing."""
@@ -89,7 +87,7 @@ class Turn:
         try:
             return found, self.terms.plan(found.goal, found.have, found.origin)
         except Fault as fault:
-            raise Fault(f"testing isn't published: {fault.cause}", UNANSWERED) from fault
+            raise Fault(f"testing isn't published: {fault.cause}", Exit.FAILED) from fault
 
     def publish(self, have: Contents) -> None:
         """Publishes testing, if clients see something else."""
@@ -97,7 +95,7 @@ class Turn:
             self.manager.publish()
             if not self.manager.is_published(have):
                 raise Fault("testing is published, but its indexes are incomplete or not in the expected place",
-                            UNANSWERED)
+                            Exit.FAILED)
 
     def work(self) -> Work:
         """What testing is made, and of what. What is held back, has no source or is left alone is printed."""
@@ -136,7 +134,7 @@ class Turn:
         for line in lines:
             self.tell(f"the manager didn't copy {line}")
         if lines:
-            raise Fault("nothing is taken out of testing, and nothing is published", UNANSWERED)
+            raise Fault("nothing is taken out of testing, and nothing is published", Exit.FAILED)
 
 
 def moves(plan: Plan, come: str, go: str) -> Iterator[str]:

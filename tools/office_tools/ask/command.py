@@ -9,8 +9,8 @@ from office_tools.ask.answer import Answer
 from office_tools.ask.copy import Copy
 from office_tools.ask.questions import Next, Questions, path_of
 from office_tools.days import day
+from office_tools.service import DEFAULT_URL
 
-URL = "http://127.0.0.1:8080"
 CONF = "/etc/office/setup.conf"
 SECONDS = 600.0  # a proposal over a large archive takes long, and the service answers one request at a time
 
@@ -39,7 +39,7 @@ def parser() -> argparse.ArgumentParser:
                     "text, and the same exit status.",
         epilog="Status 0: done. 1: no, as the command of the program has it. 2: the words are wrong. 3: a hint was "
                "refused, or the next run has no day. 4: no office answers.")
-    words.add_argument("--url", metavar="URL", default=URL, help=f"the service ({URL})")
+    words.add_argument("--url", metavar="URL", default=DEFAULT_URL, help=f"the service ({DEFAULT_URL})")
     words.add_argument("--conf", metavar="SETUP", default=CONF,
                        help=f"the office's setup, for questions that no route answers ({CONF})")
     words.add_argument("--run", type=number, metavar="RUN", help="why, breaks: a finished run; without it the last one")

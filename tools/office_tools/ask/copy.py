@@ -5,10 +5,10 @@ from typing import Optional, Sequence
 
 from office_tools import bags, program, setups
 from office_tools.ask.answer import Answer
-from office_tools.faults import Fault
+from office_tools.faults import Exit, Fault
 from office_tools.letters import letters
 from office_tools.senders import runs_sender
-from office_tools.service import UNANSWERED, Service
+from office_tools.service import Service
 
 
 class Copy:
@@ -34,9 +34,9 @@ class Copy:
             setup = setups.read_setup(self.conf)
         except Fault as fault:
             raise Fault(f"no route answers this: it needs the program and the office's setup (--conf): {fault.cause}",
-                        UNANSWERED) from fault
+                        Exit.FAILED) from fault
         if list(setup.senders) != list(self.service.kept()):
-            raise Fault(f"{self.conf}: the office has other senders: {' '.join(self.service.kept())}", UNANSWERED)
+            raise Fault(f"{self.conf}: the office has other senders: {' '.join(self.service.kept())}", Exit.FAILED)
 
     def ask(self, words: Sequence[str]) -> Answer:
         """What a command prints that reads a bag on standard input."""

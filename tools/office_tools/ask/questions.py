@@ -10,11 +10,10 @@ from typing import Optional, Sequence
 
 from office_tools.ask.answer import Answer
 from office_tools.ask.copy import Copy
-from office_tools.faults import Fault
+from office_tools.faults import Exit, Fault
 from office_tools.service import Reply, Service
 from office_tools.trials import lines_of
 
-NO, WORDS_ARE_WRONG, REFUSED = 1, 2, 3
 LONGEST_BODY = 65536  # bytes of a request's body
 SHORTEST_CUT = 3_900_000  # an answer that the service cuts has more bytes
 CUT = re.compile(rb"\nleft out \d+ lines\n\Z")
@@ -76,13 +75,13 @@ class Questions:
     def waiting(self) -> Answer:
         """What the first run that isn't ready waits for: status 1 if an ordered run waits for mail."""
         body = self.service.good("/waiting")
-        return Answer(body, NO if WAITS_FOR_MAIL.search(body) else 0)
+        return Answer(body, Exit.NEGATIVE if WAITS_FOR_MAIL.search(body) else Exit.DONE)
 
     def report(self, path: str) -> Answer:
         """A report: nothing and status 1 if its run isn't finished."""
         reply = self.service.get(path)
         if is_refused(reply, "NoRun"):
-            return Answer(b"", NO, self.unfinished(path.rpartition("/")[2]))
+            return Answer(b"", Exit.NEGATIVE, self.unfinished(path.rpartition("/")[2]))
         return Answer(self.good(path, reply))
 
     def unfinished(self, run: str) -> str:
@@ -95,7 +94,7 @@ class Questions:
         if run is not None and run < finished:
             return self.copy.ask(["why", "--run", str(run), *sources])
         if not finished or (run is not None and run > finished):
-            return Answer(b"", NO, self.unfinished(str(run or 1)))
+            return Answer(b"", Exit.NEGATIVE, self.unfinished(str(run or 1)))
         parts = [self.why_source(source, finished) for source in sources]
         if any(is_cut(part.text) for part in parts):
             return self.copy.ask(["why", *sources])
@@ -103,7 +102,7 @@ class Questions:
 
     def why_source(self, source: str, finished: int) -> Answer:
         """Why a source is where the last run left it. No route has a word that is no name of a source."""
-        unknown = Answer(f"why {finished} {source}\nunknown {source}\n".encode(), NO)
+        unknown = Answer(f"why {finished} {source}\nunknown {source}\n".encode(), Exit.NEGATIVE)
         if not SOURCE.fullmatch(source):
             return unknown
         reply = self.service.get(f"/why/{source}")
@@ -121,14 +120,14 @@ class Questions:
         if run is not None and run < finished:
             return self.copy.ask(words)
         if not finished or (run is not None and run > finished):
-            return Answer(b"", NO, self.unfinished(str(run or 1)))
+            return Answer(b"", Exit.NEGATIVE, self.unfinished(str(run or 1)))
         parts: list[Answer] = []
         for change in changes:
             part = self.breaks_by(change)
             if part is None or is_cut(part.text):
                 return self.copy.ask(words)
             parts.append(part)
-            if part.status == REFUSED:
+            if part.status == Exit.REFUSED:
                 break
         return joined(parts)
 
@@ -141,9 +140,9 @@ class Questions:
         if is_refused(reply, "NoRoute"):
             return None
         if reply.status == http.client.BAD_REQUEST and HINT_REFUSED.match(reply.text):
-            return Answer(b"", REFUSED, f"office-ask: {reply.text}\n")
+            return Answer(b"", Exit.REFUSED, f"office-ask: {reply.text}\n")
         told = self.good("/breaks", reply)
-        return Answer(told, NO if UNKNOWN.search(told) else 0)
+        return Answer(told, Exit.NEGATIVE if UNKNOWN.search(told) else Exit.DONE)
 
     def trial(self, hints: Sequence[str], on: Next) -> Answer:
         """What hints would change in the next run: status 1 if nothing, 3 if one of them is refused."""
@@ -152,31 +151,31 @@ class Questions:
         if has_line_ends or len(body) > LONGEST_BODY or (on.day and not on.is_all):
             return self.copy.ask(["try", *on.words, *hints])
         if not on.day and not self.service.status().finished:
-            return Answer(b"", REFUSED, UNDATED)
+            return Answer(b"", Exit.REFUSED, UNDATED)
         path = f"/try/{on.day or LAST_RUNS_DAY}" if on.is_all else "/try"
         reply = self.service.post(path, body)
         if reply.status == http.client.BAD_REQUEST and HINT_REFUSED.match(reply.text):
-            return Answer(b"", REFUSED, f"office-ask: {reply.text}\n")
+            return Answer(b"", Exit.REFUSED, f"office-ask: {reply.text}\n")
         if is_refused(reply, "TooManyHints"):
             return self.copy.ask(["try", *on.words, *hints])
         told = self.good(path, reply)
         if is_cut(told):
             return self.copy.ask(["try", *on.words, *hints])
-        return Answer(told, 0 if CHANGE.search(told) else NO)
+        return Answer(told, Exit.DONE if CHANGE.search(told) else Exit.NEGATIVE)
 
     def propose(self, sources: Sequence[str], on: Next) -> Answer:
         """Hints for groups that would move: status 1 if there is none, or if the run doesn't move a named source."""
         words = ["propose", *on.words, *sources]
         for source in sources:
             if not SOURCE.fullmatch(source):
-                return Answer(b"", WORDS_ARE_WRONG, f"office-ask: {source!r}: no name of a source\n")
+                return Answer(b"", Exit.USAGE, f"office-ask: {source!r}: no name of a source\n")
         is_dated = bool(on.is_all and not sources and (on.day or self.service.status().finished))
         if len(sources) > 1 or (on.words and not is_dated):
             return self.copy.ask(words)
         path = f"/propose/{on.day or LAST_RUNS_DAY}" if is_dated else "/".join(["/propose", *sources])
         reply = self.service.get(path)
         if is_refused(reply, "NoRun"):
-            return Answer(b"", REFUSED, UNDATED)
+            return Answer(b"", Exit.REFUSED, UNDATED)
         body = self.good(path, reply)
         status = proposal_status(body, sources)
         return self.copy.ask(words) if is_cut(body) or status is None else Answer(body, status)
@@ -196,10 +195,10 @@ def is_refused(reply: Reply, name: str) -> bool:
 def proposal_status(body: bytes, sources: Sequence[str]) -> Optional[int]:
     """The exit status of a proposal; None if its text doesn't say whether the run moves the source."""
     if not sources:
-        return 0 if body else NO
+        return Exit.DONE if body else Exit.NEGATIVE
     lines = body.decode(errors="backslashreplace").splitlines()
     if any(line.startswith("stuck ") for line in lines):
-        return NO
+        return Exit.NEGATIVE
     return 0 if any(f" {sources[0]}/" in line for line in lines if line.startswith("easy ")) else None
 
 
@@ -221,5 +220,5 @@ def path_of(words: Sequence[str]) -> str:
     found = re.fullmatch(r"\+?0*([1-9][0-9]{0,9}) (excuses|update)", " ".join(words))
     if found is None:
         raise Fault(f"{' '.join(words)!r}: no report: name testing or unstable, or a run and excuses or update",
-                    WORDS_ARE_WRONG)
+                    Exit.USAGE)
     return f"/{found[2]}/{found[1]}"

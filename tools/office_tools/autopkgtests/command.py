@@ -10,9 +10,9 @@ from office_tools.autopkgtests.changes import TEST, changes, verdicts_of
 from office_tools.autopkgtests.results import read_results
 from office_tools.bags import framed
 from office_tools.bugs.kept import read_book, send
+from office_tools.service import DEFAULT_URL
 
 NAME = "office-tests"
-URL = "http://127.0.0.1:8080"
 
 tell = functools.partial(faults.tell, NAME)
 
@@ -24,7 +24,7 @@ def parser() -> argparse.ArgumentParser:
                                "and a version in unstable fails. If the test passes later, the bug is lifted.",
         epilog="Status 0: the office has all of it. 1: with --dry-run something would be sent. 2: the words are wrong. "
                "3: refused: a file can't be read, or the office refused a message. 4: no office answers.")
-    words.add_argument("--url", default=URL, help=f"the service ({URL})")
+    words.add_argument("--url", default=DEFAULT_URL, help=f"the service ({DEFAULT_URL})")
     words.add_argument("--dry-run", action="store_true", help="print what would be sent, as a bag, and send nothing")
     words.add_argument("--testing", metavar="SUITE", default="testing",
                        help="the name of testing in the results of debci (testing)")

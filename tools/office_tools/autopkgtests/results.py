@@ -7,8 +7,7 @@ from typing import Any, Iterator, Mapping, NoReturn, Optional, Sequence
 
 from office_tools import relations, versions
 from office_tools.addresses import read_named
-from office_tools.bugs.kept import REFUSED
-from office_tools.faults import Fault
+from office_tools.faults import Exit, Fault
 
 REFERENCE = "migration-reference/0"
 """What triggers a test of testing as it is, by the word of britney and debci."""
@@ -56,9 +55,9 @@ def read_results(path: str, testing: str) -> Sequence[Result]:
     try:
         told = json.loads(read_named(path))
     except (ValueError, RecursionError) as fault:
-        raise Fault(f"{path}: it is no JSON", REFUSED) from fault
+        raise Fault(f"{path}: it is no JSON", Exit.REFUSED) from fault
     except Fault as fault:
-        raise Fault(fault.cause, REFUSED) from fault
+        raise Fault(fault.cause, Exit.REFUSED) from fault
     reader = Reader(path, testing)
     if isinstance(told, list):
         return list(reader.of_debci(told))
@@ -66,7 +65,7 @@ def read_results(path: str, testing: str) -> Sequence[Result]:
         return list(reader.of_debci(told["results"]))
     if isinstance(told, dict):
         return list(reader.of_britney(told))
-    raise Fault(f"{path}: it has no results of debci or britney", REFUSED)
+    raise Fault(f"{path}: it has no results of debci or britney", Exit.REFUSED)
 
 
 @dataclass(frozen=True)
@@ -78,7 +77,7 @@ class Reader:
 
     def bad(self, place: str, cause: str) -> NoReturn:
         """Refuses the file."""
-        raise Fault(f"{self.path}: {place}: {cause}", REFUSED)
+        raise Fault(f"{self.path}: {place}: {cause}", Exit.REFUSED)
 
     def of_debci(self, entries: Sequence[Any]) -> Iterator[Result]:
         """The results in a list of debci's. One without a date isn't finished yet."""

@@ -8,13 +8,13 @@ from office_tools import faults
 from office_tools.accounts import service_at
 from office_tools.bags import framed
 from office_tools.bugs.changes import LISTED, Change, Lists, changes, read_pairs
-from office_tools.bugs.kept import REFUSED, Book, read_book, send
+from office_tools.bugs.kept import Book, read_book, send
 from office_tools.bugs.lists import names_of, read_list
 from office_tools.counts import count
-from office_tools.faults import Fault
+from office_tools.faults import Exit, Fault
+from office_tools.service import DEFAULT_URL
 
 NAME = "office-bugs"
-URL = "http://127.0.0.1:8080"
 MOST_CLOSED, SHARE = 20, 10
 """Most bugs that are closed unasked, and one in how many of the open ones; not if both are exceeded."""
 SHOWN = 10  # names that are printed
@@ -30,7 +30,7 @@ def parser() -> argparse.ArgumentParser:
         epilog="Status 0: the office has all of it. 1: with --dry-run something would be sent. 2: the words are wrong. "
                "3: refused: a list can't be read, or closes more bugs than allowed, or the office refused a message. "
                "4: no office answers.")
-    words.add_argument("--url", default=URL, help=f"the service ({URL})")
+    words.add_argument("--url", default=DEFAULT_URL, help=f"the service ({DEFAULT_URL})")
     words.add_argument("--dry-run", action="store_true", help="print what would be sent, as a bag, and send nothing")
     words.add_argument("--close", type=count, default=0, metavar="N", help="close up to N bugs, whatever share this is")
     words.add_argument("--take-over", action="store_true",
@@ -47,7 +47,8 @@ def check(found: Sequence[Change], book: Book, lists: Lists, allowed: int) -> No
     closing = sum(change.is_closing for change in found)
     is_much = closing > MOST_CLOSED and closing * SHARE > is_open or not lists.pairs
     if closing > allowed and is_much:
-        raise Fault(f"{closing} of {is_open} open bugs are in no list any more: --close {closing} closes them", REFUSED)
+        raise Fault(f"{closing} of {is_open} open bugs are in no list any more: --close {closing} closes them",
+                    Exit.REFUSED)
 
 
 def main(words: Sequence[str]) -> int:

@@ -7,13 +7,12 @@ from dataclasses import dataclass, field
 from typing import Optional, Sequence
 
 from office_tools import messages, versions
-from office_tools.faults import Fault
+from office_tools.faults import Exit, Fault
 from office_tools.letters import GREATEST, letters
 from office_tools.mailing import is_held, mailed, verdict
 from office_tools.messages import Kind, Label, Paragraph, Range, Severity, kind_of, paragraphs
 from office_tools.service import Service
 
-REFUSED = 3
 WRONG_ROLE = ("refused WrongRole", "refused UnknownSender")
 CRITICAL = {Severity.CRITICAL.value, Severity.GRAVE.value, Severity.SERIOUS.value}
 
@@ -84,7 +83,7 @@ def read_book(service: Service, mark: str) -> Book:
     count = kept[sender]
     if count.greatest != count.unbroken:
         raise Fault(f"{service.url}: {sender} {count.unbroken + 1} isn't kept, and {sender} {count.greatest} is: send "
-                    "what is missing first, or a message of the kind none in its place", REFUSED)
+                    "what is missing first, or a message of the kind none in its place", Exit.REFUSED)
     book = Book(sender, mark)
     for label, text in letters(service, sender):
         book.last = label.number
@@ -120,4 +119,4 @@ def send(service: Service, texts: Sequence[bytes]) -> None:
             label = messages.label_of(text)
             cause = ": another process sends as this sender: run it again" if reply == "refused OtherText" else ""
             raise Fault(f"{service.url}: {label.sender if label else '?'} {label.number if label else 0}: "
-                        f"{reply}{cause}", REFUSED)
+                        f"{reply}{cause}", Exit.REFUSED)

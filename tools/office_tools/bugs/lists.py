@@ -7,8 +7,7 @@ from typing import Iterator, Mapping, Sequence, Union
 from office_tools import reports
 from office_tools.addresses import read_named
 from office_tools.apply import marks
-from office_tools.bugs.kept import REFUSED
-from office_tools.faults import Fault
+from office_tools.faults import Exit, Fault
 
 LINE = re.compile(r"(\S+)[ \t]+([0-9]+(?:,[0-9]+)*)[ \t\r]*")
 OF_SOURCE = "src:"
@@ -27,11 +26,11 @@ def read_list(path: str) -> Sequence[Entry]:
     try:
         text = read_named(path).decode()
     except UnicodeDecodeError as fault:
-        raise Fault(f"{path}: it is no text in UTF-8", REFUSED) from fault
+        raise Fault(f"{path}: it is no text in UTF-8", Exit.REFUSED) from fault
     except Fault as fault:
-        raise Fault(fault.cause, REFUSED) from fault
+        raise Fault(fault.cause, Exit.REFUSED) from fault
     if text and not text.endswith("\n"):
-        raise Fault(f"{path}: its last line has no end: the file was cut off", REFUSED)
+        raise Fault(f"{path}: its last line has no end: the file was cut off", Exit.REFUSED)
     found: list[Entry] = []
     for number, line in enumerate(text.split("\n"), 1):
         if line.strip(" \t\r"):
@@ -43,10 +42,10 @@ def entries(path: str, number: int, line: str) -> Iterator[Entry]:
     """The entries of a line."""
     found = LINE.fullmatch(line)
     if found is None:
-        raise Fault(f"{path}:{number}: it isn't NAME BUG[,BUG..]: {line[:60]!r}", REFUSED)
+        raise Fault(f"{path}:{number}: it isn't NAME BUG[,BUG..]: {line[:60]!r}", Exit.REFUSED)
     for word in found[2].split(","):
         if not 0 < len(word) <= len(str(GREATEST)) or not int(word):
-            raise Fault(f"{path}:{number}: {word[:20]} is no number of a bug", REFUSED)
+            raise Fault(f"{path}:{number}: {word[:20]} is no number of a bug", Exit.REFUSED)
         yield found[1], int(word)
 
 

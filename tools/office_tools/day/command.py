@@ -3,23 +3,24 @@ import argparse
 import datetime
 import functools
 import os
-from typing import Optional, Sequence
+from typing import Mapping, Optional, Sequence
 
 from office_tools import days, faults
 from office_tools.accounts import service_at
 from office_tools.apply.managers import locked_for
 from office_tools.day.settings import Settings, read_settings
 from office_tools.day.standing import Line, memory, standing, waiting
-from office_tools.day.steps import FAILED, REFUSED, STANDS, WELL, WRONG, Ran, Steps
-from office_tools.faults import Fault, cause_of
+from office_tools.day.steps import Ran, Steps
+from office_tools.faults import Exit, Fault, cause_of
 from office_tools.service import Service
 
 NAME = "office-day"
 CONF = "/etc/office/day.conf"
 STEPS = ("feed", "bugs", "tests", "look", "apply")
 SHOWN = 50  # lines of one part of a summary
-TITLES = {WELL: "all well", STANDS: "something stands still", WRONG: "the settings are wrong", REFUSED: "refused",
-          FAILED: "failed"}
+TITLES: Mapping[int, str] = {
+    Exit.DONE: "all well", Exit.NEGATIVE: "something stands still", Exit.USAGE: "the settings are wrong",
+    Exit.REFUSED: "refused", Exit.FAILED: "failed"}
 
 tell = functools.partial(faults.tell, NAME)
 
@@ -49,7 +50,7 @@ def prepared(settings: Settings) -> None:
     try:
         os.makedirs(settings.state, exist_ok=True)
     except OSError as fault:
-        raise Fault(f"{settings.state}: {cause_of(fault)}", REFUSED) from fault
+        raise Fault(f"{settings.state}: {cause_of(fault)}", Exit.REFUSED) from fault
     locked_for(settings.state, NAME)
 
 
@@ -102,7 +103,7 @@ def main(words: Sequence[str]) -> int:
     others = [kept.line("day", fault.cause)] if fault else patient(service, settings.patience)
     lines = [*standing(steps.last, kept), *others]
     kept.write([*(ran.name for ran in steps.done), "day"])
-    status = STANDS if status == WELL and lines else status
+    status = Exit.NEGATIVE if status == Exit.DONE and lines else status
     if asked.summary:
         print(summary(today, status, steps.done, lines), end="")
     else:

@@ -10,14 +10,13 @@ from office_tools.apply.command import manager_of, parser
 from office_tools.autopkgtests import command as autopkgtests
 from office_tools.bugs import command as bugs
 from office_tools.counts import count
-from office_tools.faults import Fault
+from office_tools.faults import Exit, Fault
 from office_tools.files import read_bytes
 from office_tools.messages import ParagraphFault, paragraphs
+from office_tools.service import DEFAULT_URL
 
-WRONG = 2
 FIELDS = ("Url", "Setup", "State", "Pull", "Feed", "Bugs", "Tests", "Apply", "Look", "Propose", "Patience")
 STEPS = ("Pull", "Feed", "Bugs", "Tests", "Apply", "Look")
-URL = "http://127.0.0.1:8080"
 SETUP = "/etc/office/setup.conf"
 PATIENCE = 30  # days
 
@@ -46,25 +45,25 @@ def read_settings(path: str, more: dict[str, Sequence[str]], left_out: Sequence[
     try:
         found = list(paragraphs(read_bytes(path)))
     except ParagraphFault as fault:
-        raise Fault(f"{path}: {fault.cause}", WRONG) from fault
+        raise Fault(f"{path}: {fault.cause}", Exit.USAGE) from fault
     except Fault as fault:
-        raise Fault(fault.cause, WRONG) from fault
+        raise Fault(fault.cause, Exit.USAGE) from fault
     if len(found) != 1:
-        raise Fault(f"{path}: it has {len(found)} paragraphs, and has to have one", WRONG)
+        raise Fault(f"{path}: it has {len(found)} paragraphs, and has to have one", Exit.USAGE)
     for entry in found[0].fields:
         if entry.name.lower() not in map(str.lower, FIELDS):
-            raise Fault(f"{path}:{entry.line}: there is no field {entry.name}", WRONG)
+            raise Fault(f"{path}:{entry.line}: there is no field {entry.name}", Exit.USAGE)
     values = {name: found[0].value(name) for name in FIELDS}
     words = {name: split(path, name, values[name]) for name in STEPS}
     if not words["Feed"] or not words["Apply"]:
-        raise Fault(f"{path}: the fields Feed and Apply are needed", WRONG)
+        raise Fault(f"{path}: the fields Feed and Apply are needed", Exit.USAGE)
     for word in words["Feed"]:
         if word in ("--propose", "--proposals", "--order", "--no-order", "--dry-run"):
             raise Fault(f"{path}: Feed: {word}: office-day orders, and the field Propose says whether it proposes",
-                        WRONG)
+                        Exit.USAGE)
     taken(path, "Bugs", bugs.parser(), words["Bugs"])
     taken(path, "Tests", autopkgtests.parser(), words["Tests"])
-    url = values["Url"] or URL
+    url = values["Url"] or DEFAULT_URL
     return Settings(url, values["Setup"] or SETUP, values["State"] or state_for(url), words["Pull"], words["Feed"],
                     words["Apply"], words["Look"] or folders(path, words["Apply"]), words["Bugs"], words["Tests"],
                     is_yes(path, values["Propose"]), number(path, values["Patience"]), more, left_out)
@@ -75,14 +74,14 @@ def split(path: str, name: str, value: Optional[str]) -> Sequence[str]:
     try:
         return shlex.split(value or "")
     except ValueError as fault:
-        raise Fault(f"{path}: {name}: {fault}", WRONG) from fault
+        raise Fault(f"{path}: {name}: {fault}", Exit.USAGE) from fault
 
 
 def folders(path: str, words: Sequence[str]) -> Sequence[str]:
     """The published folders of the archive that the words of office-apply name."""
     asked = parsed(path, "Apply", parser(), words)
     if asked.manager not in ("reprepro", "aptly"):
-        raise Fault(f"{path}: the field Look is needed: the folders dists/SUITE of testing and of unstable", WRONG)
+        raise Fault(f"{path}: the field Look is needed: the folders dists/SUITE of testing and of unstable", Exit.USAGE)
     return manager_of(asked)[0].published_folders()
 
 
@@ -91,19 +90,19 @@ def parsed(path: str, name: str, known: argparse.ArgumentParser, words: Sequence
     try:
         return known.parse_args(words)
     except SystemExit as fault:
-        raise Fault(f"{path}: {name}: {known.prog} doesn't take these words", WRONG) from fault
+        raise Fault(f"{path}: {name}: {known.prog} doesn't take these words", Exit.USAGE) from fault
 
 
 def taken(path: str, name: str, known: argparse.ArgumentParser, words: Sequence[str]) -> None:
     """Looks whether a command that mails bugs takes the words of a field, if there are any."""
     if words and parsed(path, name, known, words).dry_run:
-        raise Fault(f"{path}: {name}: --dry-run: office-day sends what is new", WRONG)
+        raise Fault(f"{path}: {name}: --dry-run: office-day sends what is new", Exit.USAGE)
 
 
 def is_yes(path: str, value: Optional[str]) -> bool:
     """Whether a field says yes, as it does if it is missing."""
     if value not in (None, "yes", "no"):
-        raise Fault(f"{path}: Propose: it is yes or no", WRONG)
+        raise Fault(f"{path}: Propose: it is yes or no", Exit.USAGE)
     return value != "no"
 
 
@@ -112,7 +111,7 @@ def number(path: str, value: Optional[str]) -> int:
     try:
         return PATIENCE if value is None else count(value)
     except ValueError as fault:
-        raise Fault(f"{path}: Patience: it is a number of days, of at most nine digits", WRONG) from fault
+        raise Fault(f"{path}: Patience: it is a number of days, of at most nine digits", Exit.USAGE) from fault
 
 
 def state_for(url: str) -> str:

@@ -8,7 +8,8 @@ from dataclasses import dataclass, field
 from typing import Iterator, Mapping, Sequence
 
 from office_tools import reports
-from office_tools.day.steps import STANDS, Ran
+from office_tools.day.steps import Ran
+from office_tools.faults import Exit
 from office_tools.files import read_bytes, write_whole
 
 MEMORY = "memory.json"
@@ -72,9 +73,9 @@ def standing(done: Sequence[Ran], kept: Memory) -> Sequence[Line]:
 
 def lines_of(ran: Ran) -> Iterator[str]:
     """Those of a step: what isn't well; of office-apply what is held back, and of what is refused the last line."""
-    if ran.status == STANDS:
+    if ran.status == Exit.NEGATIVE:
         yield from (line for line in ran.err if ran.name != "apply" or line.startswith(HELD))
-    elif ran.status > STANDS:
+    elif ran.status > Exit.NEGATIVE:
         yield from ran.err[-1:] or [f"it ended with status {ran.status}"]
 
 

@@ -9,10 +9,8 @@ from typing import Callable, Optional, Sequence
 
 from office_tools.accounts import service_at
 from office_tools.day.settings import Settings
-from office_tools.faults import Fault, cause_of
+from office_tools.faults import Exit, Fault, cause_of
 from office_tools.feed import mailbox
-
-WELL, STANDS, WRONG, REFUSED, FAILED = range(5)
 
 
 @dataclass(frozen=True)
@@ -47,7 +45,7 @@ class Steps:
             ran = step()
             self.done.append(ran)
             self.watch(ran)
-            if ran.status > STANDS:
+            if ran.status > Exit.NEGATIVE:
                 return ran.status
         return max(ran.status for ran in self.last)
 
@@ -70,8 +68,8 @@ class Steps:
         try:
             mailbox.check_office(service, service.kept(), mailbox.Folder(self.cache).read(), self.cache)
         except Fault as fault:
-            return Ran("mail", max(fault.status, REFUSED), [], [fault.cause])
-        return Ran("mail", WELL, [], [])
+            return Ran("mail", max(fault.status, Exit.REFUSED), [], [fault.cause])
+        return Ran("mail", Exit.DONE, [], [])
 
     def backup(self) -> Ran:
         """Brings the mail of this day into that folder, too, so that it is a backup of all mail."""
@@ -81,8 +79,8 @@ class Steps:
             mailbox.locked(folder)
             mailbox.fetch(service, folder)
         except Fault as fault:
-            return Ran("mail", FAILED, [], [fault.cause])
-        return Ran("mail", WELL, [], [])
+            return Ran("mail", Exit.FAILED, [], [fault.cause])
+        return Ran("mail", Exit.DONE, [], [])
 
     def apply(self) -> Ran:
         """Makes the archive's testing what the office's is."""
@@ -91,7 +89,7 @@ class Steps:
     def pull(self) -> Ran:
         """Makes the suite that the order sees what unstable is. Any status but 0 is a failure."""
         ran = executed("pull", self.settings.pull)
-        return ran if ran.status == WELL else Ran(ran.name, FAILED, ran.out, [
+        return ran if ran.status == Exit.DONE else Ran(ran.name, Exit.FAILED, ran.out, [
             *ran.err, f"{self.settings.pull[0]} ended with status {ran.status}"])
 
     def feed(self) -> Ran:
@@ -134,7 +132,7 @@ class Steps:
         own = os.path.join(os.path.dirname(os.path.abspath(sys.argv[0])), whole)
         ran = executed(name, [own if os.path.exists(own) else shutil.which(whole) or whole, *words])
         told = [line.removeprefix(f"{whole}: ") for line in ran.err]
-        return Ran(name, ran.status if WELL <= ran.status <= FAILED else FAILED, ran.out, told)
+        return Ran(name, ran.status if Exit.DONE <= ran.status <= Exit.FAILED else Exit.FAILED, ran.out, told)
 
 
 def executed(name: str, words: Sequence[str]) -> Ran:
@@ -143,5 +141,5 @@ def executed(name: str, words: Sequence[str]) -> Ran:
         ran = subprocess.run(words, stdin=subprocess.DEVNULL, capture_output=True, check=False, text=True,
                              errors="backslashreplace")
     except OSError as fault:
-        raise Fault(f"{words[0]}: {cause_of(fault)}", FAILED) from fault
+        raise Fault(f"{words[0]}: {cause_of(fault)}", Exit.FAILED) from fault
     return Ran(name, ran.returncode, ran.stdout.splitlines(), ran.stderr.splitlines())

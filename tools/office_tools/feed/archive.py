@@ -10,10 +10,9 @@ from typing import Mapping, Optional, Sequence
 
 from debian import deb822
 
-from office_tools.faults import Fault, cause_of
+from office_tools.faults import Exit, Fault, cause_of
 from office_tools.files import write_whole
 
-UNANSWERED = 4
 RELEASES = ("_InRelease", "_Release")
 
 
@@ -106,8 +105,8 @@ def apt(words: Sequence[str]) -> str:
         ran = subprocess.run(["apt-get", *words], stdin=subprocess.DEVNULL, capture_output=True, check=False, text=True,
                              errors="backslashreplace", env={**os.environ, "LC_ALL": "C"})
     except OSError as fault:
-        raise Fault(f"apt-get: {cause_of(fault)}", UNANSWERED) from fault
+        raise Fault(f"apt-get: {cause_of(fault)}", Exit.FAILED) from fault
     if ran.returncode:
         told = [line for line in ran.stderr.splitlines() if line.startswith("E:")]
-        raise Fault(f"apt-get: {told[0][2:].strip() if told else f'status {ran.returncode}'}", UNANSWERED)
+        raise Fault(f"apt-get: {told[0][2:].strip() if told else f'status {ran.returncode}'}", Exit.FAILED)
     return ran.stdout

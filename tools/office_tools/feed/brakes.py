@@ -8,9 +8,9 @@ from typing import Collection, Iterator, Mapping, Optional, Sequence
 
 from office_tools import relations, reports, versions
 from office_tools.apply import marks
-from office_tools.faults import Fault
+from office_tools.faults import Exit, Fault
 from office_tools.feed.archive import Release
-from office_tools.feed.mailbox import REFUSED, Mailbox
+from office_tools.feed.mailbox import Mailbox
 from office_tools.from_packages.binaries import Binary, Key, binary_of
 from office_tools.from_packages.suites import Suite
 from office_tools.messages import BINARY_FIELDS, paragraphs
@@ -27,7 +27,7 @@ def check_senders(kept: Mapping[str, Kept], own: Sequence[str]) -> None:
     """Refuses an office without a sender that this command needs."""
     for sender in own:
         if sender not in kept:
-            raise Fault(f"the office has another setup: it has no sender {sender}", REFUSED)
+            raise Fault(f"the office has another setup: it has no sender {sender}", Exit.REFUSED)
 
 
 def check_gaps(kept: Mapping[str, Kept], own: Sequence[str], allowed: Sequence[str]) -> None:
@@ -39,7 +39,7 @@ def check_gaps(kept: Mapping[str, Kept], own: Sequence[str], allowed: Sequence[s
         if count.greatest != count.unbroken and (sender in own or sender not in allowed):
             way = "" if sender in own else f", or allow it by --gap {sender}: then no order sees what follows it"
             raise Fault(f"{sender} {count.unbroken + 1} isn't kept, and {sender} {count.greatest} is: send what is "
-                        f"missing first, or a message of the kind none in its place{way}", REFUSED)
+                        f"missing first, or a message of the kind none in its place{way}", Exit.REFUSED)
 
 
 def check_day(day: Optional[datetime.date], today: datetime.date, last: datetime.date) -> None:
@@ -48,10 +48,11 @@ def check_day(day: Optional[datetime.date], today: datetime.date, last: datetime
         return
     if today < last:
         raise Fault(f"today is {today} by the clock, and the last order is of {last}: set the clock, or state the "
-                    "day by --day", REFUSED)
+                    "day by --day", Exit.REFUSED)
     if (today - last).days > MOST_DAYS:
         raise Fault(f"today is {today} by the clock, and the last order is of {last}, more than {MOST_DAYS} days "
-                    "before: all uploads would be so much older; set the clock, or state the day by --day", REFUSED)
+                    "before: all uploads would be so much older; set the clock, or state the day by --day",
+                    Exit.REFUSED)
 
 
 def check_releases(found: Mapping[str, Release], before: Mapping[str, Mapping[str, str]]) -> None:
@@ -62,12 +63,12 @@ def check_releases(found: Mapping[str, Release], before: Mapping[str, Mapping[st
         if date is not None and release.date is not None and release.date < date:
             raise Fault(f"{name} is of {release.date:%Y-%m-%d %H:%M:%S}, and the one before was of "
                         f"{date:%Y-%m-%d %H:%M:%S}: the archive was put back; if this is meant, allow it by "
-                        "--other-release", REFUSED)
+                        "--other-release", Exit.REFUSED)
         for what, now in (("architectures", release.architectures), ("components", release.components)):
             lost = set(seen.get(what, "").split()) - now
             if lost:
                 raise Fault(f"{name} has the {what} {', '.join(sorted(lost))} no more: all of it would be dropped; if "
-                            "this is meant, allow it by --other-release", REFUSED)
+                            "this is meant, allow it by --other-release", Exit.REFUSED)
 
 
 def remembered_releases(found: Mapping[str, Release]) -> dict[str, dict[str, str]]:
@@ -108,11 +109,12 @@ class Gone:
         more = f" and {count - SHOWN} more" if count > SHOWN else ""
         way = f"if this is meant, allow it by --gone {count}"
         if count > MOST_GONE and count * 100 > self.told * MOST_PERCENT:
-            raise Fault(f"{count} of {self.told} packages are gone from the archive: {names}{more}: {way}", REFUSED)
+            raise Fault(f"{count} of {self.told} packages are gone from the archive: {names}{more}: {way}",
+                        Exit.REFUSED)
         broken = list(self.broken(box))
         if broken:
             others = f" and {len(broken) - 1} more" if len(broken) > 1 else ""
-            raise Fault(f"{names}{more}: gone from the archive, and needed by {broken[0]}{others}: {way}", REFUSED)
+            raise Fault(f"{names}{more}: gone from the archive, and needed by {broken[0]}{others}: {way}", Exit.REFUSED)
 
     def broken(self, box: Mailbox) -> Iterator[str]:
         """The packages of testing that unstable still has, and that can't be installed there without what is gone.

@@ -9,10 +9,10 @@ from typing import Mapping, Optional, Sequence
 from office_tools import days
 from office_tools.accounts import service_at
 from office_tools.bags import framed
-from office_tools.faults import Fault
+from office_tools.faults import Exit, Fault
 from office_tools.feed import archive, brakes, mailbox, restoring
 from office_tools.feed.indexes import Indexes, indexes_in
-from office_tools.feed.mailbox import REFUSED, Mailbox, Outgoing
+from office_tools.feed.mailbox import Mailbox, Outgoing
 from office_tools.feed.memory import ChangesRead, Memory, remembered
 from office_tools.feed.news import BUILDS, HINTS, UPLOADS, News, Told, Unstable, Ways, news
 from office_tools.feed.sending import Sending, check_architectures
@@ -110,7 +110,7 @@ def unstable_of(files: archive.Files, indexes: Indexes) -> Unstable:
     """What the indexes have."""
     found, architectures = read_binaries(files.packages, indexes.sections)
     if not architectures:
-        raise Fault("the indexes have no package", REFUSED)
+        raise Fault("the indexes have no package", Exit.REFUSED)
     binaries = list(fitting(found))
     sources = read_sources(files.sources, binaries, indexes.sections)
     indexes.write()
@@ -210,4 +210,4 @@ def main(words: Sequence[str]) -> int:
         return restoring.restore(service, folder) if asked.restore else \
             Turn(asked, day, service, folder, memory, ChangesRead(memory.changes), lines).run()
     except Fault as fault:
-        raise Fault(fault.cause, REFUSED if fault.status == 1 else fault.status) from fault
+        raise Fault(fault.cause, Exit.REFUSED if fault.status == 1 else fault.status) from fault

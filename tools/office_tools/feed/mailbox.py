@@ -12,7 +12,7 @@ from dataclasses import dataclass, field
 from typing import Iterator, Mapping, Optional, Sequence
 
 from office_tools import bags
-from office_tools.faults import Fault, cause_of
+from office_tools.faults import Exit, Fault, cause_of
 from office_tools.feed import known
 from office_tools.feed.known import Known
 from office_tools.feed.told import Weight, tell
@@ -21,7 +21,6 @@ from office_tools.letters import letters
 from office_tools.messages import label_of
 from office_tools.service import Kept, Service
 
-REFUSED = 3
 BAG, OUTGOING, KNOWN = "bag", "outgoing", "known.json"
 HINTS = "rt"
 SPARE = re.compile(r"again[1-9][0-9]*")
@@ -36,7 +35,7 @@ def folder_for(asked: Optional[str], service: Service) -> str:
     try:
         os.makedirs(place, exist_ok=True)
     except OSError as fault:
-        raise Fault(f"{place}: {cause_of(fault)}", REFUSED) from fault
+        raise Fault(f"{place}: {cause_of(fault)}", Exit.REFUSED) from fault
     return place
 
 
@@ -46,7 +45,7 @@ def locked(folder: str) -> int:
     try:
         fcntl.flock(number, fcntl.LOCK_EX | fcntl.LOCK_NB)
     except OSError as fault:
-        raise Fault(f"{folder}: another office-feed works for this office", REFUSED) from fault
+        raise Fault(f"{folder}: another office-feed works for this office", Exit.REFUSED) from fault
     return number
 
 
@@ -163,7 +162,7 @@ class Folder:
                 file.flush()
                 os.fsync(file.fileno())
         except OSError as fault:
-            raise Fault(f"{self.bag}: {cause_of(fault)}", 4) from fault
+            raise Fault(f"{self.bag}: {cause_of(fault)}", Exit.FAILED) from fault
 
     def write(self, found: Known) -> None:
         """Writes down what is known of the bag."""
@@ -203,7 +202,7 @@ def fetch(service: Service, folder: str) -> Mailbox:
                 new.append(text)
                 take(found, text)
         if found.taken.get(sender, 0) < count.unbroken:
-            raise Fault(f"{service.url}: {sender} {found.taken.get(sender, 0) + 1} isn't kept any more", 4)
+            raise Fault(f"{service.url}: {sender} {found.taken.get(sender, 0) + 1} isn't kept any more", Exit.FAILED)
     if new:
         place.add(new)
     if new or not before and not os.path.exists(place.bag):
@@ -223,21 +222,21 @@ def check_office(service: Service, kept: Mapping[str, Kept], found: Known, folde
     ways = "name another folder by --cache, or remove this one if it isn't needed"
     strange = sorted(set(found.taken) - set(kept))
     if strange:
-        raise Fault(f"{other}, which has no sender {', '.join(strange)}: {ways}", REFUSED)
+        raise Fault(f"{other}, which has no sender {', '.join(strange)}: {ways}", Exit.REFUSED)
     lacking: list[str] = []
     for sender, (first, *last) in found.ends.items():
         number = found.taken[sender]
         if service.kept_text(sender, 1) not in (None, first.encode()):
-            raise Fault(f"{other}, which keeps another text as {sender} 1: {ways}", REFUSED)
+            raise Fault(f"{other}, which keeps another text as {sender} 1: {ways}", Exit.REFUSED)
         if kept[sender].unbroken < number:
             lacking.append(f"{sender} {kept[sender].unbroken + 1} to {number}")
         elif service.kept_text(sender, number) != (last or [first])[-1].encode():
             raise Fault(f"the office keeps another text as {sender} {number} than {folder}/{BAG}: its store was "
                         "restored, and continued; that bag has the mail of before: compare both, and make the office "
-                        "again from the right mail", REFUSED)
+                        "again from the right mail", Exit.REFUSED)
     if lacking:
         more = f" and {len(lacking) - SHOWN} more senders" if len(lacking) > SHOWN else ""
         shown = ", ".join(lacking[:SHOWN]) + more
         raise Fault(f"the office lacks mail that it kept before: {shown}: its store was restored, or is new; "
                     f"'office-feed --restore --url {service.url} --cache {folder}' sends it again; if this is meant "
-                    f"to be another office, {ways}", REFUSED)
+                    f"to be another office, {ways}", Exit.REFUSED)

@@ -8,11 +8,11 @@ from typing import Iterator, Mapping, Optional, Sequence
 from office_tools import days, messages, reports, versions
 from office_tools.apply import marks
 from office_tools.bags import framed
-from office_tools.faults import Fault
+from office_tools.faults import Exit, Fault
 from office_tools.feed.back import Archive, Retold, came_back, without_strange
 from office_tools.feed.brakes import packages_named
 from office_tools.feed.known import Known, first_of
-from office_tools.feed.mailbox import REFUSED, Mailbox
+from office_tools.feed.mailbox import Mailbox
 from office_tools.feed.rebuilds import Rebuilds, rebuilds
 from office_tools.feed.smooth import left_behind, stay
 from office_tools.feed.told import Weight, tell
@@ -128,7 +128,7 @@ def look_at(unstable: Unstable, box: Mailbox) -> None:
     lacking = sorted(set(counted) - set(unstable.architectures) - {"all"})
     if lacking:
         raise Fault(f"the indexes have no package of {', '.join(lacking)}, and the office was sent "
-                    f"{counted[lacking[0]]} of {lacking[0]}: all would be dropped", REFUSED)
+                    f"{counted[lacking[0]]} of {lacking[0]}: all would be dropped", Exit.REFUSED)
 
 
 def uploads(archive: Archive, box: Mailbox, retold: Retold, ways: Ways) -> Iterator[bytes]:

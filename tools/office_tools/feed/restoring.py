@@ -2,8 +2,8 @@
 from collections import defaultdict
 
 from office_tools import bags
-from office_tools.faults import Fault
-from office_tools.feed.mailbox import REFUSED, Folder
+from office_tools.faults import Exit, Fault
+from office_tools.feed.mailbox import Folder
 from office_tools.feed.told import tell
 from office_tools.files import read_bytes
 from office_tools.mailing import is_held, mailed
@@ -18,7 +18,7 @@ def restore(service: Service, folder: str) -> int:
     kept = service.kept()
     strange = sorted(set(found.taken) - set(kept))
     if strange:
-        raise Fault(f"{service.url}: it is another office: it has no sender {', '.join(strange)}", REFUSED)
+        raise Fault(f"{service.url}: it is another office: it has no sender {', '.join(strange)}", Exit.REFUSED)
     texts: dict[str, dict[int, bytes]] = defaultdict(dict)
     for text in bags.messages_in(read_bytes(place.bag)) if found.taken else ():
         label = label_of(text)
@@ -29,7 +29,7 @@ def restore(service: Service, folder: str) -> int:
         for number in {1, last} if last else ():
             if service.kept_text(sender, number) != own[number]:
                 raise Fault(f"{service.url}: it keeps another text as {sender} {number} than {place.bag}: that office "
-                            "continued on its own, or is another one; nothing was sent", REFUSED)
+                            "continued on its own, or is another one; nothing was sent", Exit.REFUSED)
     return post(service, texts, {sender: count.unbroken for sender, count in kept.items()})
 
 

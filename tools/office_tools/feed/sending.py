@@ -5,8 +5,8 @@ from dataclasses import dataclass
 from typing import Mapping, Optional, Sequence
 
 from office_tools import messages
-from office_tools.faults import Fault
-from office_tools.feed.mailbox import REFUSED, Outgoing
+from office_tools.faults import Exit, Fault
+from office_tools.feed.mailbox import Outgoing
 from office_tools.feed.told import Weight, tell
 from office_tools.mailing import is_held, mailed, verdict
 from office_tools.messages import Kind, Label, kind_of, label_of, paragraphs
@@ -75,7 +75,7 @@ class Sending:
         if cause is not None or label is None or sender == self.runs:
             self.outgoing.clear()  # a text that is refused takes no number
             told = f": {cause.format(sender=sender)}" if cause else ""
-            raise Fault(f"{self.service.url}: {sender} {number}: {reply}{told}", REFUSED)
+            raise Fault(f"{self.service.url}: {sender} {number}: {reply}{told}", Exit.REFUSED)
 
     def without_refused(self, text: bytes) -> Optional[bytes]:
         """A message without the packages that the office refuses; None if nothing is left of it. Each is reported."""
@@ -94,7 +94,7 @@ class Sending:
                 tell(f"{subject(alone)}: left out: the office answers: {reply}", Weight.STANDS)
         if len(good) == len(others):
             raise Fault(f"{self.service.url}: {label.sender} {label.number}: refused, and no package of it is",
-                        REFUSED)
+                        Exit.REFUSED)
         return messages.build(label, good) if good else None
 
 
@@ -136,4 +136,5 @@ def check_architectures(service: Service, sender: str, kept: Mapping[str, Kept],
     for name in names:
         reply = verdict(service, messages.drop(next_label(sender, kept), "aa", name, "0"))
         if reply == "refused UnknownArchitecture":
-            raise Fault(f"the indexes have packages of {name}: the office has another setup than the archive", REFUSED)
+            raise Fault(f"the indexes have packages of {name}: the office has another setup than the archive",
+                        Exit.REFUSED)

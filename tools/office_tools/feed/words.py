@@ -4,8 +4,7 @@ import argparse
 from office_tools import days
 from office_tools.counts import count
 from office_tools.feed.told import NAME
-
-URL = "http://127.0.0.1:8080"
+from office_tools.service import DEFAULT_URL
 
 
 def parser() -> argparse.ArgumentParser:
@@ -17,7 +16,7 @@ def parser() -> argparse.ArgumentParser:
                "still that a person should see; or with --dry-run something would be sent. 2: the words are wrong. "
                "3: refused: nothing was sent, or the office refused a message. 4: the office or the archive doesn't "
                "answer.")
-    words.add_argument("--url", default=URL, help=f"the service ({URL})")
+    words.add_argument("--url", default=DEFAULT_URL, help=f"the service ({DEFAULT_URL})")
     words.add_argument("--day", type=days.day, default=None,
                        help="the day of the run, as 2025-03-20 (today by the system's clock, in UTC)")
     words.add_argument("--changes", metavar="DIR", help="a folder of files .changes, which state the urgency of "

@@ -6,15 +6,15 @@ from typing import Sequence
 from office_tools import days, setups
 from office_tools.accounts import service_at
 from office_tools.bags import framed
-from office_tools.faults import Fault
+from office_tools.faults import Exit, Fault
 from office_tools.files import write_whole
 from office_tools.from_britney.compare import compared, read_heidi, reason
-from office_tools.from_britney.folder import REFUSED, Folder
+from office_tools.from_britney.folder import Folder
 from office_tools.from_britney.mailbag import adopted, news, office_of, read_suite, setup_of
 from office_tools.from_britney.told import NAME, take_over, tell
 from office_tools.from_packages.mail import MOST_SPARES, spares
+from office_tools.service import DEFAULT_URL
 
-URL = "http://127.0.0.1:8080"
 SHOWN = 10
 
 
@@ -36,7 +36,7 @@ def parser() -> argparse.ArgumentParser:
     bag.add_argument("folder", metavar="FOLDER", help="where both files are written")
     compare = forms.add_parser("compare", help="prints each source on which the office and britney differ, with the "
                                                "office's reason")
-    compare.add_argument("--url", default=URL, help=f"the service ({URL})")
+    compare.add_argument("--url", default=DEFAULT_URL, help=f"the service ({DEFAULT_URL})")
     compare.add_argument("file", metavar="HEIDI", help="the file HeidiResult of britney's run")
     return words
 
@@ -48,7 +48,7 @@ def make(asked: argparse.Namespace) -> int:
     testing, unstable = read_suite(folder.testing), read_suite(folder.unstable)
     strange = sorted(set(unstable.architectures) - set(testing.architectures))
     if strange:
-        raise Fault(f"{asked.data}: unstable has {', '.join(strange)}, and testing hasn't", REFUSED)
+        raise Fault(f"{asked.data}: unstable has {', '.join(strange)}, and testing hasn't", Exit.REFUSED)
     setup, bag = os.path.join(asked.folder, "setup.conf"), os.path.join(asked.folder, "bag")
     text = setups.written(setup_of(testing.architectures, asked.spare))
     write_whole(setup, text)

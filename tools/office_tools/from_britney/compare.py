@@ -5,8 +5,8 @@ from typing import Iterator, Mapping, NamedTuple, Optional, Sequence
 
 from office_tools import reports, versions
 from office_tools.apply import marks
-from office_tools.faults import Fault
-from office_tools.from_britney.folder import REFUSED, text_of
+from office_tools.faults import Exit, Fault
+from office_tools.from_britney.folder import text_of
 from office_tools.service import Service
 
 SOURCE = "source"
@@ -38,15 +38,15 @@ def read_heidi(path: str) -> Result:
         if len(words) in (3, 4):
             name, version, architecture = words[:3]
             if not versions.is_version(version):
-                raise Fault(f"{path}:{number}: {version[:40]!r} is no version", REFUSED)
+                raise Fault(f"{path}:{number}: {version[:40]!r} is no version", Exit.REFUSED)
             if architecture == SOURCE:
                 found.sources[name] = version
             else:
                 found.rows.add(Row(architecture, name, version))
         elif words:
-            raise Fault(f"{path}:{number}: it isn't NAME VERSION ARCHITECTURE: {line[:60]!r}", REFUSED)
+            raise Fault(f"{path}:{number}: it isn't NAME VERSION ARCHITECTURE: {line[:60]!r}", Exit.REFUSED)
     if not found.sources:
-        raise Fault(f"{path}: it has no source", REFUSED)
+        raise Fault(f"{path}: it has no source", Exit.REFUSED)
     return found
 
 

@@ -8,13 +8,12 @@ from typing import Iterator, Mapping, Optional, Sequence
 
 from office_tools import relations, versions
 from office_tools.bugs.lists import Entry, read_list
-from office_tools.faults import Fault
+from office_tools.faults import Exit, Fault
 from office_tools.files import read_bytes
 from office_tools.from_britney.told import tell
 from office_tools.from_packages.sources import Arrival, Arrivals
 from office_tools.messages import Urgency
 
-REFUSED = 3
 PACKAGES = "Packages_"
 EPOCH = datetime.date(1970, 1, 1)
 MOST_DAYS = 2932896  # up to 9999-12-31
@@ -33,7 +32,7 @@ class Suite:
         """Its file Sources."""
         path = os.path.join(self.path, "Sources")
         if not os.path.isfile(path):
-            raise Fault(f"{path}: there is no such file", REFUSED)
+            raise Fault(f"{path}: there is no such file", Exit.REFUSED)
         return [path]
 
     @property
@@ -42,9 +41,9 @@ class Suite:
         try:
             names = sorted(name for name in os.listdir(self.path) if name.startswith(PACKAGES))
         except OSError as fault:
-            raise Fault(f"{self.path}: {fault.strerror}", REFUSED) from fault
+            raise Fault(f"{self.path}: {fault.strerror}", Exit.REFUSED) from fault
         if not names:
-            raise Fault(f"{self.path}: it has no file {PACKAGES}ARCH", REFUSED)
+            raise Fault(f"{self.path}: it has no file {PACKAGES}ARCH", Exit.REFUSED)
         return [os.path.join(self.path, name) for name in names]
 
     @property
@@ -123,7 +122,7 @@ def text_of(path: str) -> str:
     try:
         return read_bytes(path).decode(errors="backslashreplace")
     except Fault as fault:
-        raise Fault(fault.cause, REFUSED) from fault
+        raise Fault(fault.cause, Exit.REFUSED) from fault
 
 
 def day_of(word: str) -> Optional[str]:

@@ -9,10 +9,10 @@ from office_tools.adopt.rows import lifted, stripped
 from office_tools.bugs.changes import LISTED, changes, read_pairs
 from office_tools.bugs.kept import Book, bug_of
 from office_tools.bugs.lists import Names
-from office_tools.faults import Fault
+from office_tools.faults import Exit, Fault
 from office_tools.files import read_bytes
 from office_tools.from_britney import hints
-from office_tools.from_britney.folder import REFUSED, Folder, Suite
+from office_tools.from_britney.folder import Folder, Suite
 from office_tools.from_britney.hints import Letters
 from office_tools.from_britney.told import tell
 from office_tools.from_packages import mail
@@ -59,7 +59,7 @@ def read_suite(suite: Suite) -> Contents:
     found, architectures = read_binaries(suite.packages)
     if not architectures or len(architectures) > MOST_ARCHITECTURES:
         raise Fault(f"{suite.path}: it has {len(architectures)} architectures; 1 to {MOST_ARCHITECTURES} are taken",
-                    REFUSED)
+                    Exit.REFUSED)
     binaries = list(fitting(found))
     return Contents(read_sources(suite.sources, binaries), binaries, architectures)
 
@@ -105,7 +105,7 @@ def office_of(setup: str, path: str) -> Office:
     try:
         letters = hints.firsts(list(bags.messages_in(bag)))
     except bags.BagFault as fault:
-        raise Fault(f"{path}: {fault.cause}", REFUSED) from fault
+        raise Fault(f"{path}: {fault.cause}", Exit.REFUSED) from fault
     return Office(path, letters, testing_of(setup, bag))
 
 

@@ -15,6 +15,7 @@ from office_tools.relations import Bad
 Name = TypeVar("Name")
 
 LONGEST_MAINTAINER = 1000  # characters
+ENDING = ".changes"
 
 
 def put_newer(known: dict[Name, str], name: Name, version: str) -> None:
@@ -103,11 +104,20 @@ def read_arrivals(folder: Optional[str], default: Arrival,
 
 
 def changes_in(folder: str) -> Sequence[str]:
-    """The files .changes of a folder, by their names."""
-    try:
-        return [os.path.join(folder, name) for name in sorted(os.listdir(folder)) if name.endswith(".changes")]
-    except OSError as fault:
-        raise Fault(f"{folder}: {cause_of(fault)}") from fault
+    """The files .changes of a folder and of those below it, by their paths: reprepro's Logdir has a folder for each.
+
+    A folder below it that can't be read is reported.
+    """
+    def report(fault: OSError) -> None:
+        if fault.filename == folder:
+            raise Fault(f"{folder}: {cause_of(fault)}") from fault
+        tell(f"{fault.filename}: {cause_of(fault)}: left out", Weight.ONCE)
+
+    found: list[str] = []
+    for place, folders, names in os.walk(folder, onerror=report):
+        found += [os.path.join(place, name) for name in (*folders, *names) if name.endswith(ENDING)]
+        folders[:] = [name for name in folders if not name.endswith(ENDING)]
+    return sorted(found)
 
 
 def arrival_of(path: str, changes: Changes, default: Arrival) -> Arrival:

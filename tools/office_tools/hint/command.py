@@ -7,13 +7,13 @@ from typing import Iterator, Optional, Sequence
 
 from office_tools.accounts import service_at
 from office_tools.days import day, today
-from office_tools.faults import Fault
+from office_tools.faults import Exit, Fault
 from office_tools.hint import back
 from office_tools.hint.letters import Letter, Signature, hint
-from office_tools.hint.team import NOTHING_DONE, REFUSED, TURNS, Team
+from office_tools.hint.team import TURNS, Team
+from office_tools.service import DEFAULT_URL
 from office_tools.trials import Trial, trial
 
-URL = "http://127.0.0.1:8080"
 SECONDS = 600.0
 
 
@@ -38,7 +38,7 @@ def parser() -> argparse.ArgumentParser:
                     "them under the release team's next numbers.",
         epilog="Status 0: all is mailed. 1: nothing was mailed, or not all. 2: the words are wrong. 3: the office "
                "refuses it. 4: no office answers.")
-    words.add_argument("--url", metavar="URL", default=URL, help=f"the service ({URL})")
+    words.add_argument("--url", metavar="URL", default=DEFAULT_URL, help=f"the service ({DEFAULT_URL})")
     words.add_argument("--by", metavar="NAME", default=login(), help="who asks (the user's login)")
     words.add_argument("--comment", metavar="TEXT", help="why, such as the number of a bug")
     words.add_argument("--day", metavar="DAY", type=day, default=today(),
@@ -58,7 +58,7 @@ def agrees(asked: argparse.Namespace, is_warned: bool) -> bool:
     if asked.yes:
         return bool(asked.force) or not is_warned
     if not sys.stdin.isatty():
-        raise Fault("nothing is mailed: answer at a terminal, or say --yes", NOTHING_DONE)
+        raise Fault("nothing is mailed: answer at a terminal, or say --yes", Exit.NEGATIVE)
     try:
         return input("mail it? [y/N] ").strip().lower() in ("y", "yes")
     except EOFError:
@@ -111,10 +111,10 @@ class Mailing:
         """Shows, asks and mails, again with the next number if another message took it: the status."""
         for _ in range(TURNS):
             if not self.is_wanted():
-                return NOTHING_DONE
+                return Exit.NEGATIVE
             if self.mail():
                 return 0
-        raise Fault(f"{TURNS} numbers in a row were taken by others", REFUSED)
+        raise Fault(f"{TURNS} numbers in a row were taken by others", Exit.REFUSED)
 
 
 def ask_for(team: Team, asked: argparse.Namespace) -> int:
@@ -123,7 +123,7 @@ def ask_for(team: Team, asked: argparse.Namespace) -> int:
     letters = [hint(wish, signature) for wish in asked.hints]
     refusal = team.refusal(letters)
     if refusal:
-        raise Fault(refusal, REFUSED)
+        raise Fault(refusal, Exit.REFUSED)
     return Mailing(team, letters, asked).run()
 
 
@@ -137,7 +137,7 @@ def chosen(team: Team, asked: argparse.Namespace) -> Iterator[back.TakenBack]:
     for wish in asked.hints:
         found = [item for item in back.asked_for(standing, wish) if item.number not in taken]
         if not found:
-            raise Fault(f"no hint in force asks {wish!r}", NOTHING_DONE)
+            raise Fault(f"no hint in force asks {wish!r}", Exit.NEGATIVE)
         taken.update(item.number for item in found)
         yield from found
 
@@ -151,7 +151,7 @@ def take_back(team: Team, asked: argparse.Namespace) -> int:
         tell("nothing is over")
         return 0
     if not agrees(asked, False):
-        return NOTHING_DONE
+        return Exit.NEGATIVE
     for taken in found:
         team.mail_all(back.letters_for(team, taken, Signature(asked.by, asked.comment)))
     return 0

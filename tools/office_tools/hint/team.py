@@ -3,7 +3,7 @@ import datetime
 from dataclasses import dataclass
 from typing import Callable, Mapping, Optional, Sequence
 
-from office_tools.faults import Fault
+from office_tools.faults import Exit, Fault
 from office_tools.hint.letters import Letter, Signature
 from office_tools.lint.look import Days, Look
 from office_tools.lint.office import ServiceOffice
@@ -15,7 +15,6 @@ from office_tools.messages import Label, Role, paragraphs
 from office_tools.reports import HintItem
 from office_tools.service import Service
 
-NOTHING_DONE, REFUSED = 1, 3
 TURNS = 20  # how often the next number is taken, if others mail at the same time
 FAR = 30  # days back from which an upload's day is odd; no hint has one
 
@@ -42,7 +41,7 @@ class Team:
         count = self.service.kept()[self.sender]
         if count.unbroken < count.greatest:
             raise Fault(f"{self.sender} {count.unbroken + 1} isn't kept, and {self.sender} {count.greatest} is: mail "
-                        "that message first, or one of the kind none", NOTHING_DONE)
+                        "that message first, or one of the kind none", Exit.NEGATIVE)
         return Label(self.sender, count.unbroken + 1)
 
     def refusal(self, letters: Sequence[Letter]) -> Optional[str]:
@@ -94,7 +93,7 @@ class Team:
             self.tell(reply)
             return True
         if reply != "refused OtherText":
-            raise Fault(f"{label.sender} {label.number}: {reply}", REFUSED)
+            raise Fault(f"{label.sender} {label.number}: {reply}", Exit.REFUSED)
         self.tell(f"{label.sender} {label.number} is another message now: the next number is taken")
         return False
 
@@ -102,4 +101,4 @@ class Team:
         """Mails messages one after the other, each under the first number that is free."""
         for letter in letters:
             if not any(self.mail(letter) for _ in range(TURNS)):
-                raise Fault(f"{TURNS} numbers in a row were taken by others", REFUSED)
+                raise Fault(f"{TURNS} numbers in a row were taken by others", Exit.REFUSED)

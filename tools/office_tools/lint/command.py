@@ -7,7 +7,7 @@ from office_tools import bags
 from office_tools.accounts import service_at
 from office_tools.counts import count
 from office_tools.days import day, today
-from office_tools.faults import Fault
+from office_tools.faults import Exit, Fault
 from office_tools.files import read_bytes
 from office_tools.lint.office import Office, ServiceOffice, StoreOffice
 from office_tools.lint.places import place_of
@@ -16,12 +16,10 @@ from office_tools.lint.slips import slips
 from office_tools.lint.state import State
 from office_tools.mailing import is_held, mailed
 from office_tools.messages import Kind, kind_of, label_of, paragraphs
-from office_tools.service import Service
+from office_tools.service import DEFAULT_URL, Service
 from office_tools.trials import trial
 
 NAME = "office-lint"
-URL = "http://127.0.0.1:8080"
-WARNED, REFUSED = 1, 3
 
 
 @dataclass(frozen=True)
@@ -79,7 +77,7 @@ class Lint:
         if label is None or not is_held(verdict):
             place = place_of(self.office, text.text, verdict)
             print(f"{text.name}:{place.line}: {verdict}: {place.cause}", flush=True)
-            return REFUSED
+            return Exit.REFUSED
         first, *binaries = list(paragraphs(text.text))
         kind = kind_of(first)
         if kind is None:
@@ -87,9 +85,9 @@ class Lint:
         warned = self.warned(Look(label, kind, first, binaries, self.state, self.days, text.is_alone))
         for slip in warned:
             print(f"{text.name}:{slip.line}: warning: {slip.words}", flush=True)
-        status = WARNED if warned else 0
+        status = Exit.NEGATIVE if warned else Exit.DONE
         if self.sender.sends(bool(warned)) and not is_held(self.sender.send(text)):
-            return REFUSED
+            return Exit.REFUSED
         if self.sender.service is None or self.sender.sends(bool(warned)):
             self.state.take(label, text.text)
         return status
@@ -105,7 +103,7 @@ def texts_of(path: str) -> Iterator[Text]:
         for place, text in enumerate(bags.messages_in(data), 1):
             yield Text(f"{path}#{place}", text, False)
     except bags.BagFault as fault:
-        raise Fault(f"{path}: {fault.cause}", REFUSED) from fault
+        raise Fault(f"{path}: {fault.cause}", Exit.REFUSED) from fault
 
 
 def parser() -> argparse.ArgumentParser:
@@ -114,7 +112,7 @@ def parser() -> argparse.ArgumentParser:
         prog=NAME, description="Prints what an office would answer to messages, and what in them is probably a slip.",
         epilog="Status 0: all would be held, and nothing is odd. 1: there are warnings. 2: the words are wrong. "
                "3: a message or a bag is refused. 4: no office answers.")
-    words.add_argument("--url", metavar="URL", help=f"the service ({URL}, if neither it nor --conf is stated)")
+    words.add_argument("--url", metavar="URL", help=f"the service ({DEFAULT_URL}, if neither it nor --conf is stated)")
     words.add_argument("--conf", metavar="SETUP",
                        help="the setup's file; without --url the office is one in memory that keeps nothing, or that "
                             "of --db (a service is asked for its senders)")
@@ -140,7 +138,7 @@ def main(words: Sequence[str]) -> int:
         known.error("--db needs --conf, and no --url")
     if asked.force and not asked.send:
         known.error("--force needs --send")
-    url = asked.url or (None if asked.conf else URL)
+    url = asked.url or (None if asked.conf else DEFAULT_URL)
     if (asked.send or asked.user or asked.is_tried) and not url:
         known.error("--send, --try and --user need --url")
     service = service_at(url, asked.user) if url else None

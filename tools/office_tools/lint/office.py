@@ -7,7 +7,7 @@ import abc
 from typing import Iterator, Mapping, Optional, Sequence
 
 from office_tools import program, setups
-from office_tools.faults import Fault
+from office_tools.faults import Exit, Fault
 from office_tools.letters import letters
 from office_tools.lint.state import Kept, State
 from office_tools.mailing import verdict
@@ -59,7 +59,7 @@ class ServiceOffice(Office):
         self.counts = service.kept()
         self.setup = setups.read_setup(conf) if conf else setup_of(service)
         if list(self.counts) != list(self.setup.senders):
-            raise Fault(f"{conf}: the office has other senders: {' '.join(self.counts)}", program.UNANSWERED)
+            raise Fault(f"{conf}: the office has other senders: {' '.join(self.counts)}", Exit.FAILED)
 
     def verdicts(self, texts: Sequence[bytes]) -> Iterator[str]:
         """Each is looked at in its turn, so after what was mailed before."""

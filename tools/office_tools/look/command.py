@@ -12,19 +12,17 @@ from office_tools.accounts import service_at
 from office_tools.apply.managers import locked_for
 from office_tools.apply.published import packages_of
 from office_tools.bags import framed
-from office_tools.faults import Fault, cause_of
+from office_tools.faults import Exit, Fault, cause_of
 from office_tools.look import looking
 from office_tools.look.blame import Eye
 from office_tools.look.copy import Copy
 from office_tools.look.judge import DOSE, INSTALLCHECK, judge, read_known
 from office_tools.look.looking import Found, Look, is_due
 from office_tools.order import check_day, check_gaps
-from office_tools.service import Service
+from office_tools.service import DEFAULT_URL, Service
 
 NAME = "office-look"
-URL = "http://127.0.0.1:8080"
 SETUP = "/etc/office/setup.conf"
-STANDS, REFUSED = 1, 3
 
 tell = functools.partial(faults.tell, NAME)
 
@@ -37,7 +35,7 @@ def parser() -> argparse.ArgumentParser:
         epilog="Status 0: nothing is blocked, and with --order the run is finished. 1: something is blocked or should "
                "be, a run waits for mail, or with --dry-run something would be sent. 2: the words are wrong. 3: "
                "refused: nothing was ordered. 4: the office, the program or the judge failed.")
-    words.add_argument("--url", default=URL, help=f"the service ({URL})")
+    words.add_argument("--url", default=DEFAULT_URL, help=f"the service ({DEFAULT_URL})")
     words.add_argument("--conf", default=SETUP, metavar="SETUP", help=f"the office's setup ({SETUP})")
     words.add_argument("--day", type=days.day, default=days.today(),
                        help="the day of the run, as 2025-03-20 (today by the system's clock, in UTC)")
@@ -64,7 +62,7 @@ def folder_for(asked: Optional[str], service: Service) -> str:
     try:
         os.makedirs(place, exist_ok=True)
     except OSError as fault:
-        raise Fault(f"{place}: {cause_of(fault)}", REFUSED) from fault
+        raise Fault(f"{place}: {cause_of(fault)}", Exit.REFUSED) from fault
     locked_for(place, NAME)
     return place
 
@@ -74,7 +72,7 @@ def files_of(names: Sequence[str]) -> Iterator[str]:
     for name in names:
         found = list(packages_of(name)) if os.path.isdir(name) else [name]
         if not found:
-            raise Fault(f"{name}: no file Release there states files Packages", REFUSED)
+            raise Fault(f"{name}: no file Release there states files Packages", Exit.REFUSED)
         yield from found
 
 
@@ -85,7 +83,7 @@ def eye_of(asked: argparse.Namespace) -> Optional[Eye]:
     found = judge(asked.judge)
     if found is None:
         raise Fault(f"neither {INSTALLCHECK} (libsolv-tools) nor {DOSE} (dose-distcheck) is installed: --judge none "
-                    "orders without a look", REFUSED)
+                    "orders without a look", Exit.REFUSED)
     return Eye(found, read_known(list(files_of(asked.packages))))
 
 
@@ -110,7 +108,7 @@ def shown(found: Found, told: set[str]) -> int:
         if line not in told:
             tell(line)
     told.update(lines)
-    return STANDS if found.blocked or found.loose else 0
+    return Exit.NEGATIVE if found.blocked or found.loose else Exit.DONE
 
 
 def step(look: Look, asked: argparse.Namespace, told: set[str], hints: Sequence[str] = ()) -> int:
@@ -119,14 +117,14 @@ def step(look: Look, asked: argparse.Namespace, told: set[str], hints: Sequence[
     status = shown(found, told)
     if asked.dry_run:
         sys.stdout.buffer.write(b"".join(map(framed, [*found.texts, *([found.order] if asked.order else [])])))
-        return STANDS if found.texts or asked.order else status
+        return Exit.NEGATIVE if found.texts or asked.order else status
     looking.send(look.service, found.texts)
     if asked.order:
         looking.send(look.service, [found.order])
         lines = waits(look.service)
         for line in lines:
             tell(line)
-        status = STANDS if lines else status
+        status = Exit.NEGATIVE if lines else status
     return status
 
 
@@ -152,7 +150,7 @@ def main(words: Sequence[str]) -> int:
     for line in waiting:
         tell(line)
     if waiting:
-        return STANDS
+        return Exit.NEGATIVE
     order = service.order(asked.day)
     check_gaps(service.kept(), asked.gap)
     if not asked.force:
@@ -166,7 +164,7 @@ def main(words: Sequence[str]) -> int:
     else:
         print("no run is due: all mail is covered, and the day is that of the last order")
         for block in look.standing:
-            status = STANDS
+            status = Exit.NEGATIVE
             tell(f"blocked: {block.source} {block.version}")
     if asked.propose and not asked.dry_run:
         look.begin()

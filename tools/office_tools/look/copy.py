@@ -8,13 +8,12 @@ from dataclasses import dataclass
 from typing import Mapping, Optional, Sequence
 
 from office_tools import bags, program, reports
-from office_tools.faults import Fault
+from office_tools.faults import Exit, Fault
 from office_tools.files import read_bytes, write_whole
 from office_tools.letters import letters
 from office_tools.messages import Label
 from office_tools.service import KEPT_LINE, Kept, Service
 
-UNANSWERED = 4
 STORE, ENDS = "store.db", "ends"
 TRIAL = "trial-"
 PARTS = ("", "-wal", "-shm", "-journal")
@@ -60,7 +59,7 @@ class Copy:
             self.clear()
             self.bring()
             if self.differs():
-                raise Fault(f"{self.service.url}: its testing isn't what its mail gives for {self.setup}", UNANSWERED)
+                raise Fault(f"{self.service.url}: its testing isn't what its mail gives for {self.setup}", Exit.FAILED)
 
     def clear(self) -> None:
         """Removes the copy."""
@@ -73,7 +72,7 @@ class Copy:
         try:
             ends = json.loads(read_bytes(os.path.join(self.folder, ENDS)))
             return all(digest(self.service.kept_text(sender, number)) == due for sender, (number, due) in ends.items())
-        except (Fault, ValueError, TypeError, AttributeError):
+        except (Fault, ValueError, TypeError, AttributeError, RecursionError):
             return False
 
     def own(self) -> Mapping[str, Kept]:
@@ -122,7 +121,8 @@ class Copy:
             told = program.output(["replay", *self.words(store)], b"".join(map(bags.framed, texts))).decode()
         refused = next((line for line in told.splitlines()[:len(texts)] if not line.startswith("held ")), None)
         if refused is not None:
-            raise Fault(f"the copy of the office's store answers {refused}: somebody else sends mail: run it again", 3)
+            raise Fault(f"the copy of the office's store answers {refused}: somebody else sends mail: run it again",
+                        Exit.REFUSED)
         return trial(told, run)
 
 
@@ -132,7 +132,7 @@ def trial(told: str, run: Label) -> Trial:
     start = last(lines, f"update {run.number} ")
     testing = last(lines, "testing ")
     if start is None or testing is None:
-        raise Fault(f"run {run.number} can't be tried: an ordered run waits for mail", 3)
+        raise Fault(f"run {run.number} can't be tried: an ordered run waits for mail", Exit.REFUSED)
     return Trial(reports.read_update("".join(lines[start:testing])),
                  reports.read_testing("".join(lines[testing:])))
 

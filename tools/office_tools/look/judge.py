@@ -11,9 +11,8 @@ from dataclasses import dataclass
 from typing import Iterator, Mapping, NamedTuple, Optional, Protocol, Sequence
 
 from office_tools.control import sections
-from office_tools.faults import Fault, cause_of
+from office_tools.faults import Exit, Fault, cause_of
 
-UNANSWERED = 4
 SECONDS = 3600  # how long a judge may take
 FIELDS = ("Package", "Version", "Architecture", "Multi-Arch", "Pre-Depends", "Depends", "Provides", "Conflicts",
           "Breaks")
@@ -84,7 +83,7 @@ def judge(name: Optional[str] = None) -> Optional[Judge]:
     if name in (None, DOSE) and shutil.which(DOSE):
         return DoseDebcheck()
     if name is not None:
-        raise Fault(f"{name} isn't installed", UNANSWERED)
+        raise Fault(f"{name} isn't installed", Exit.FAILED)
     return None
 
 
@@ -98,10 +97,10 @@ def output(words: Sequence[str], texts: Mapping[Package, str], file: str) -> str
             ran = subprocess.run([*words, path], stdin=subprocess.DEVNULL, capture_output=True, check=False, text=True,
                                  errors="backslashreplace", timeout=SECONDS, env={**os.environ, "LC_ALL": "C"})
         except (OSError, subprocess.TimeoutExpired) as fault:
-            raise Fault(f"{words[0]}: {cause_of(fault)}", UNANSWERED) from fault
+            raise Fault(f"{words[0]}: {cause_of(fault)}", Exit.FAILED) from fault
     if ran.returncode not in (0, 1) or (ran.returncode == 1 and not ran.stdout):
         said = ran.stderr.strip().split("\n")[-1]
-        raise Fault(f"{words[0]}: {said or f'status {ran.returncode}'}", UNANSWERED)
+        raise Fault(f"{words[0]}: {said or f'status {ran.returncode}'}", Exit.FAILED)
     return ran.stdout
 
 
@@ -125,7 +124,7 @@ class InstallCheck:
                 found.append(Broken(package, lines[0] if lines else "", frozenset(named(lines))))
             package, lines = labels.get(head[1]), []
             if package is None and head[1] != END:
-                raise Fault(f"{INSTALLCHECK}: it names a package that it wasn't given: {head[1]}", UNANSWERED)
+                raise Fault(f"{INSTALLCHECK}: it names a package that it wasn't given: {head[1]}", Exit.FAILED)
         return found
 
 
@@ -152,5 +151,5 @@ class DoseDebcheck:
             found.append(Broken(Package(*head), f"{cause[1]}: {cause[2]}" if cause else "",
                                 frozenset(name for part in names for name in NAME.findall(part))))
             if found[-1].package not in packages:
-                raise Fault(f"{DOSE}: it names a package that it wasn't given: {' '.join(head)}", UNANSWERED)
+                raise Fault(f"{DOSE}: it names a package that it wasn't given: {' '.join(head)}", Exit.FAILED)
         return found

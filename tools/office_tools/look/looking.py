@@ -5,7 +5,7 @@ from dataclasses import dataclass
 from typing import Iterator, Mapping, Optional, Sequence
 
 from office_tools import messages
-from office_tools.faults import Fault
+from office_tools.faults import Exit, Fault
 from office_tools.from_packages import proposals
 from office_tools.letters import letters
 from office_tools.look.blame import Eye, Step
@@ -14,7 +14,6 @@ from office_tools.mailing import is_held, mailed
 from office_tools.messages import Kind, Label, label_of, paragraphs
 from office_tools.service import Service
 
-REFUSED = 3
 TURNS = 20
 LOOKED = "Looked"
 """A field that the office doesn't read: it marks the blocks of this command, with the version that was looked at."""
@@ -83,7 +82,7 @@ class Look:
                 return Found(texts, covered, step, blocked, loose)
             blocked.update((name, f"{step.after.sources[name]}: {why}") for name, why in fresh.items()
                            if name not in fixed)
-        raise Fault(f"after {TURNS} turns packages still can't be installed: no run is ordered", REFUSED)
+        raise Fault(f"after {TURNS} turns packages still can't be installed: no run is ordered", Exit.REFUSED)
 
     def tried(self, texts: Sequence[bytes], order: bytes) -> Trial:
         """What the run of an order would do after these messages."""
@@ -136,7 +135,7 @@ def send(service: Service, texts: Sequence[bytes]) -> None:
         if not is_held(reply):
             label = label_of(text)
             raise Fault(f"{service.url}: {label.sender if label else '?'} {label.number if label else '?'}: {reply}: "
-                        "somebody else sends too: run it again", REFUSED)
+                        "somebody else sends too: run it again", Exit.REFUSED)
 
 
 def is_due(service: Service, order: bytes, day: datetime.date) -> bool:

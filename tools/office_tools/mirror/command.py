@@ -4,9 +4,9 @@ import sys
 from typing import Optional, Sequence
 
 from office_tools.accounts import service_at
-from office_tools.faults import Fault, tell
+from office_tools.faults import Exit, Fault, tell
 from office_tools.mirror import held as memory
-from office_tools.mirror.turn import Source, Status, Turn
+from office_tools.mirror.turn import Source, Turn
 from office_tools.service import Service
 
 NAME = "office-mirror"
@@ -27,7 +27,7 @@ def parser() -> argparse.ArgumentParser:
     return words
 
 
-def turn(source: Service, target: str, state: Optional[str], is_all: bool) -> Status:
+def turn(source: Service, target: str, state: Optional[str], is_all: bool) -> Exit:
     """Brings all mail to one office, or into the bag, and prints how much was sent."""
     if target == BAG:
         done = Turn(lambda what: tell(NAME, what))
@@ -51,7 +51,7 @@ def main(words: Sequence[str]) -> int:
     """Brings the mail to each office in turn; one that doesn't answer keeps no other one from its mail."""
     asked = parser().parse_args(words)
     source = service_at(asked.source)
-    status = 0
+    status: int = Exit.DONE
     for target in asked.targets:
         try:
             status = max(status, turn(source, target, asked.state, asked.all))

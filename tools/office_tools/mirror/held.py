@@ -5,7 +5,7 @@ import urllib.parse
 from dataclasses import dataclass, field
 from typing import Any
 
-from office_tools.faults import Fault, cause_of
+from office_tools.faults import Exit, Fault, cause_of
 from office_tools.files import write_whole
 from office_tools.letters import GREATEST
 
@@ -63,7 +63,7 @@ def read(path: str) -> Held:
         return {}
     except (OSError, ValueError, RecursionError) as fault:
         cause = cause_of(fault) if isinstance(fault, OSError) else "it is damaged"
-        raise Fault(f"{path}: {cause}: remove it, and all mail is sent once more", 2) from fault
+        raise Fault(f"{path}: {cause}: remove it, and all mail is sent once more", Exit.USAGE) from fault
 
 
 def numbers_of(ranges: Any) -> Numbers:

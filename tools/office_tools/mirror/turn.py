@@ -1,10 +1,9 @@
 """One turn: the mail of an office is brought to another one, or into a bag."""
-import enum
 from dataclasses import dataclass, field
 from typing import BinaryIO, Callable, Iterator
 
 from office_tools import bags
-from office_tools.faults import Fault
+from office_tools.faults import Exit, Fault
 from office_tools.letters import letters
 from office_tools.mailing import is_held, mailed
 from office_tools.messages import Label
@@ -13,15 +12,6 @@ from office_tools.senders import runs_sender
 from office_tools.service import Kept, Service
 
 SAVED_EACH = 100  # messages after which it is remembered what is held
-
-
-class Status(enum.IntEnum):
-    """What came of a turn, by the command's exit status."""
-
-    HELD = 0
-    CONFLICT = 1
-    REFUSED = 3
-    UNANSWERED = 4
 
 
 @dataclass
@@ -47,9 +37,9 @@ class Turn:
     tell: Callable[[str], None]
     save: Callable[[], None] = lambda: None
     sent: int = 0
-    status: Status = Status.HELD
+    status: Exit = Exit.DONE
 
-    def is_at_least(self, status: Status) -> None:
+    def is_at_least(self, status: Exit) -> None:
         """Takes a status that is worse than what came before."""
         self.status = max(self.status, status)
 
@@ -57,7 +47,7 @@ class Turn:
         """Posts all that the other office didn't hold yet. What it held is added to `held`, also if it fails."""
         theirs = target.kept()
         if list(theirs) != source.senders:
-            raise Fault(f"{target.url}: it has other senders than {source.service.url}", Status.REFUSED)
+            raise Fault(f"{target.url}: it has other senders than {source.service.url}", Exit.REFUSED)
         for sender in source.in_turn():
             before = still_held(held.get(sender, Numbers()), theirs[sender])
             self.sender_to_office(source, target, held, sender, before)
@@ -84,7 +74,7 @@ class Turn:
         is_conflict = reply == "refused OtherText"
         what = f"keeps another text than {source.service.url}" if is_conflict else reply
         self.tell(f"{target.url}: {label.sender} {label.number}: {what}")
-        self.is_at_least(Status.CONFLICT if is_conflict else Status.REFUSED)
+        self.is_at_least(Exit.NEGATIVE if is_conflict else Exit.REFUSED)
         return False
 
     def to_bag(self, source: Source, output: BinaryIO) -> None:

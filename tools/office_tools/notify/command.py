@@ -5,14 +5,13 @@ from typing import Collection, Iterator, Optional, Sequence
 
 from office_tools.accounts import service_at
 from office_tools.counts import number
-from office_tools.faults import Fault, tell
+from office_tools.faults import Exit, Fault, tell
 from office_tools.notify import mails, told
 from office_tools.notify.maintainers import Maintainers, address_of, read_sources
 from office_tools.notify.moves import Move, Moves, moves_of
-from office_tools.service import Service
+from office_tools.service import DEFAULT_URL, Service
 
 NAME = "office-notify"
-URL = "http://127.0.0.1:8080"
 SENDMAIL = "/usr/sbin/sendmail -oi -t"
 FROM = "Debian migration office <office@localhost>"
 
@@ -22,7 +21,7 @@ def parser() -> argparse.ArgumentParser:
     words = argparse.ArgumentParser(
         prog=NAME, description="Writes one mail to each maintainer whose sources a run moved into testing or took out.",
         epilog="Status 0: all was sent. 2: the words are wrong. 3: a mail can't be sent. 4: no office answers.")
-    words.add_argument("--url", metavar="URL", default=URL, help=f"the service ({URL})")
+    words.add_argument("--url", metavar="URL", default=DEFAULT_URL, help=f"the service ({DEFAULT_URL})")
     which = words.add_mutually_exclusive_group(required=True)
     which.add_argument("--state", metavar="FILE", help="each finished run after the last one that FILE remembers")
     which.add_argument("--run", metavar="RUN", type=number, help="this run alone")
@@ -79,7 +78,7 @@ def needed_address(text: str) -> Address:
     """An address of the words."""
     address = address_of(text)
     if address is None:
-        raise Fault(f"{text!r} is no address", told.WORDS_ARE_WRONG)
+        raise Fault(f"{text!r} is no address", Exit.USAGE)
     return address
 
 
@@ -88,7 +87,7 @@ def runs(service: Service, asked: argparse.Namespace) -> Iterator[told.Told]:
     finished = service.status().finished
     if asked.run:
         if asked.run > finished:
-            raise Fault(f"run {asked.run} isn't finished: {finished} are", told.WORDS_ARE_WRONG)
+            raise Fault(f"run {asked.run} isn't finished: {finished} are", Exit.USAGE)
         yield told.Told(asked.run - 1)
         return
     known = told.read(asked.state)

@@ -10,10 +10,9 @@ from email.headerregistry import Address
 from email.message import EmailMessage
 from typing import Callable, Optional, Sequence
 
-from office_tools.faults import Fault, cause_of
+from office_tools.faults import Exit, Fault, cause_of
 from office_tools.notify.moves import Move, Moves
 
-NOT_SENT = 3
 SECONDS = 300  # how long a mailer may take for one mail
 
 Way = Callable[[EmailMessage], None]
@@ -74,7 +73,7 @@ def to_mbox(path: str) -> Way:
                 box.unlock()
                 box.close()
         except (OSError, mailbox.Error) as fault:
-            raise Fault(f"{path}: {cause_of(fault)}", NOT_SENT) from fault
+            raise Fault(f"{path}: {cause_of(fault)}", Exit.REFUSED) from fault
     return add
 
 
@@ -85,7 +84,7 @@ def to_command(command: str) -> Way:
         try:
             ran = subprocess.run(words, input=message.as_bytes(), timeout=SECONDS, check=False)
         except (OSError, subprocess.TimeoutExpired) as fault:
-            raise Fault(f"{command}: {cause_of(fault)}", NOT_SENT) from fault
+            raise Fault(f"{command}: {cause_of(fault)}", Exit.REFUSED) from fault
         if ran.returncode:
-            raise Fault(f"{command}: status {ran.returncode}: the mail to {message['To']} isn't sent", NOT_SENT)
+            raise Fault(f"{command}: status {ran.returncode}: the mail to {message['To']} isn't sent", Exit.REFUSED)
     return send

@@ -3,10 +3,8 @@ import json
 from dataclasses import dataclass, field
 from typing import Optional
 
-from office_tools.faults import Fault, cause_of
+from office_tools.faults import Exit, Fault, cause_of
 from office_tools.files import write_whole
-
-WORDS_ARE_WRONG = 2
 
 
 @dataclass
@@ -31,4 +29,4 @@ def read(path: str) -> Optional[Told]:
     except FileNotFoundError:
         return None
     except (OSError, ValueError, TypeError, KeyError, OverflowError, RecursionError) as fault:
-        raise Fault(f"{path}: {cause_of(fault)}: remove it to begin with the next run", WORDS_ARE_WRONG) from fault
+        raise Fault(f"{path}: {cause_of(fault)}: remove it to begin with the next run", Exit.USAGE) from fault

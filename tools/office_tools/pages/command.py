@@ -9,18 +9,16 @@ import os
 import time
 from typing import Iterator, Sequence
 
-from office_tools.faults import Fault, cause_of
+from office_tools.faults import Exit, Fault, cause_of
 from office_tools.pages.fetching import fetch, fetch_answers
 from office_tools.pages.kept_mail import read_mail
-from office_tools.pages.more_pages import Extras
+from office_tools.pages.look import Extras, Look
 from office_tools.pages.offices import FileOffice, NAME, Office, ServiceOffice, StoreOffice
 from office_tools.pages.patterns import BUGS, BUILDS, CHANGELOG, Patterns, TRACKER
 from office_tools.pages.people import read_people
-from office_tools.pages.site import Site
 from office_tools.pages.state import State
+from office_tools.service import DEFAULT_URL
 
-WRONG_WORDS = 2
-URL = "http://127.0.0.1:8080"
 SECONDS = 3.0
 COLLECTED = 200_000  # new objects after which unused ones are looked for: hardly any are in circles
 
@@ -43,7 +41,8 @@ def words_of(words: Sequence[str]) -> argparse.Namespace:
         description="Makes static pages and JSON of the reports of all runs of an office, and keeps them fresh. Each "
                     "call fetches what is new, and writes what changed.")
     parser.add_argument("folder", metavar="FOLDER", help="the folder of the pages, which has to be there")
-    parser.add_argument("--url", metavar="URL", help=f"the service that is asked ({URL} if nothing else is named)")
+    parser.add_argument("--url", metavar="URL",
+                        help=f"the service that is asked ({DEFAULT_URL} if nothing else is named)")
     parser.add_argument("--conf", metavar="SETUP", help="with --db: the setup of a store")
     parser.add_argument("--db", metavar="FILE", help="a store that no office has open, in place of a service")
     parser.add_argument("--excuses", metavar="FILE", help="the excuses of one run, in place of a service")
@@ -73,16 +72,16 @@ def office_of(asked: argparse.Namespace) -> Office:
     """The office that the words name."""
     named = [asked.url, asked.db or asked.conf, asked.excuses or asked.update or asked.testing]
     if sum(name is not None for name in named) > 1:
-        raise Fault("name one of: a service (--url), a store (--conf, --db), files (--excuses, --update)", WRONG_WORDS)
+        raise Fault("name one of: a service (--url), a store (--conf, --db), files (--excuses, --update)", Exit.USAGE)
     if asked.db or asked.conf:
         if not (asked.db and asked.conf):
-            raise Fault("a store has --conf and --db", WRONG_WORDS)
+            raise Fault("a store has --conf and --db", Exit.USAGE)
         return StoreOffice(asked.conf, asked.db)
     if asked.excuses or asked.update or asked.testing:
         if not (asked.excuses and asked.update):
-            raise Fault("the files of a run are named by --excuses and --update", WRONG_WORDS)
+            raise Fault("the files of a run are named by --excuses and --update", Exit.USAGE)
         return FileOffice(asked.excuses, asked.update, asked.testing)
-    return ServiceOffice(asked.url or URL)
+    return ServiceOffice(asked.url or DEFAULT_URL)
 
 
 @contextlib.contextmanager
@@ -102,12 +101,11 @@ def main(words: Sequence[str]) -> int:
     """Fetches what is new, and writes the pages that changed."""
     asked = words_of(words)
     office = office_of(asked)
-    patterns, extras = patterns_of(asked), extras_of(asked)
+    look = Look(patterns_of(asked), extras_of(asked))
     if not os.path.isdir(asked.folder):
         raise Fault(f"{asked.folder}: there is no such folder")
     try:
-        make(office, asked.folder, asked.state or os.path.join(asked.folder, ".state"),
-             (patterns, extras), asked.why_seconds)
+        make(office, asked.folder, asked.state or os.path.join(asked.folder, ".state"), look, asked.why_seconds)
     except OSError as fault:
         raise Fault(f"{fault.filename or asked.folder}: {cause_of(fault)}") from fault
     return 0
@@ -119,7 +117,7 @@ def patterns_of(asked: argparse.Namespace) -> Patterns:
     for word, pattern in vars(patterns).items():
         if pattern and "%s" not in pattern:
             stands = "a bug's number" if word == "bugs" else "a source's name"
-            raise Fault(f"--{word} {pattern}: %s is missing, which stands for {stands}", WRONG_WORDS)
+            raise Fault(f"--{word} {pattern}: %s is missing, which stands for {stands}", Exit.USAGE)
     return patterns
 
 
@@ -130,7 +128,7 @@ def extras_of(asked: argparse.Namespace) -> Extras:
     return Extras(address, people, hashlib.blake2b(repr(people).encode(), digest_size=16).hexdigest())
 
 
-def make(office: Office, folder: str, kept: str, look: tuple[Patterns, Extras], why_seconds: float) -> None:
+def make(office: Office, folder: str, kept: str, look: Look, why_seconds: float) -> None:
     """Fetches what is new into the folder of what is kept, and writes the pages that changed."""
     gc.set_threshold(COLLECTED)
     os.makedirs(kept, exist_ok=True)
@@ -139,8 +137,12 @@ def make(office: Office, folder: str, kept: str, look: tuple[Patterns, Extras], 
         if newest is None:
             return
         read_mail(office, state, newest.number, time.monotonic() + why_seconds)
+        if look.is_fresh(folder, state) and state.asked() == newest.number:
+            return
+        # Its import takes as long as all else if nothing is new.
+        from office_tools.pages.site import Site
         # The pages of a new run exist before sources are asked about, which takes longer.
-        site = Site(folder, state, *look)
+        site = Site(folder, state, look)
         site.build(newest)
         names = fetch_answers(office, state, newest, why_seconds)
         if names:

@@ -3,16 +3,18 @@ import datetime
 import json
 from typing import Any, Mapping, Sequence
 
-from office_tools.pages.outcomes import NOTHING, outcomes_of, reason_words, SourceOutcome
+from office_tools.pages.fetching import Newest
+from office_tools.pages.outcomes import NOTHING, reason_words, SourceOutcome
 from office_tools.pages.sentences import excuse_sentences, old_enough, outcome_sentence
 from office_tools.pages.verdicts import APPROVAL, PASS, PERMANENTLY, TEMPORARILY, verdict
-from office_tools.reports import Excuse, Excuses, ReasonKind, Update
+from office_tools.reports import Excuse, ReasonKind
 
 
-def excuses_json(excuses: Excuses, update: Update, made: str) -> str:
-    """The text of the JSON: a line for each source. `made` is the time at which the run was fetched."""
-    outcomes = outcomes_of(update)
-    sources = [source_json(excuse, outcomes.get(excuse.source, NOTHING), excuses.date) for excuse in excuses.excuses]
+def excuses_json(newest: Newest) -> str:
+    """The text of the JSON of a run: a line for each source."""
+    excuses, update, made = newest.excuses, newest.update, newest.kept.fetched
+    sources = [source_json(excuse, newest.outcomes.get(excuse.source, NOTHING), excuses.date)
+               for excuse in excuses.excuses]
     head = {"generated-date": excuses.date.isoformat(), "run": excuses.run, "made": made}
     parts = [f"{json.dumps(key)}: {json.dumps(value)}" for key, value in head.items()]
     parts.append('"sources": [' + listed(sources) + "]")

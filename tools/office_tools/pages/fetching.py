@@ -1,6 +1,6 @@
 """Asks an office for what isn't kept yet: each run once, testing and answers about sources once a run."""
 import datetime
-import json
+import functools
 import time
 from dataclasses import dataclass
 from typing import Collection, Iterable, Mapping, Optional, Sequence
@@ -9,7 +9,7 @@ from office_tools import reports
 from office_tools.counts import FORM
 from office_tools.faults import Fault, tell
 from office_tools.pages.offices import finished_in, NAME, Office
-from office_tools.pages.outcomes import NOTHING, outcome_in, outcomes_of, SourceOutcome, What
+from office_tools.pages.outcomes import NOTHING, outcome_in, outcome_text, outcomes_of, SourceOutcome, What
 from office_tools.pages.state import Event, KeptRun, Proposal, SentHint, State, Why
 from office_tools.pages.told import behind_excuse
 from office_tools.reports import Excuse
@@ -21,23 +21,29 @@ TURNS = 3  # how often testing is asked for, if a run is finished between two qu
 
 @dataclass(frozen=True)
 class Newest:
-    """The newest run, read."""
+    """A run, such as the newest one. Its reports are read once they are looked at."""
 
     kept: KeptRun
-    excuses: reports.Excuses
-    update: reports.Update
 
     @property
     def number(self) -> int:
         """The run's number."""
         return self.kept.run.number
 
+    @functools.cached_property
+    def excuses(self) -> reports.Excuses:
+        """Its excuses."""
+        return reports.read_excuses(self.kept.excuses, f"excuses {self.number}")
 
-def read_run(kept: KeptRun) -> Newest:
-    """A kept run, read."""
-    number = kept.run.number
-    return Newest(kept, reports.read_excuses(kept.excuses, f"excuses {number}"),
-                  reports.read_update(kept.update, f"update {number}"))
+    @functools.cached_property
+    def update(self) -> reports.Update:
+        """Its update."""
+        return reports.read_update(self.kept.update, f"update {self.number}")
+
+    @functools.cached_property
+    def outcomes(self) -> Mapping[str, Sequence[SourceOutcome]]:
+        """What it did with each source that its update names."""
+        return outcomes_of(self.update)
 
 
 def fetch(office: Office, state: State) -> Optional[Newest]:
@@ -65,32 +71,28 @@ def fetch_runs(office: Office, state: State) -> Optional[Newest]:
         tell(NAME, f"run {other} isn't the one that was kept: it and all later ones are fetched again")
         state.drop_from(other)
     kept = {run.number for run in state.runs()}
-    last: dict[str, Event] = {}
     newest: Optional[Newest] = None
     for number in sorted(set(told) - kept):
-        last = last or dict(state.last_events())
-        newest, events = fetch_run(office, state, told[number], last)
-        last |= events
+        newest = fetch_run(office, state, told[number])
     greatest = max(kept | set(told))
-    return newest if newest is not None and newest.number == greatest else read_run(state.run(greatest))
+    return newest if newest is not None and newest.number == greatest else Newest(state.run(greatest))
 
 
-def fetch_run(office: Office, state: State, run: reports.Run,
-              last: Mapping[str, Event]) -> tuple[Newest, Mapping[str, Event]]:
-    """Keeps a run, and gives it with its events. `last` are the last events before it."""
+def fetch_run(office: Office, state: State, run: reports.Run) -> Newest:
+    """Keeps a run with its events, and gives it."""
     now = datetime.datetime.now(datetime.timezone.utc).strftime("%Y-%m-%dT%H:%M:%SZ")
     kept = KeptRun(run, now, office.excuses(run.number), office.update(run.number))
-    read = read_run(kept)
+    read = Newest(kept)
     if (read.excuses.run, read.excuses.date, read.update.run) != (run.number, run.date, run.number):
         raise Fault(f"the office returned the reports of another run instead of run {run.number}")
-    events = events_of(read, last)
+    events = events_of(read, state.last_events())
     state.add(kept, events, {change.hint for change in read.update.changes if change.hint is not None})
-    return read, events
+    return read
 
 
 def events_of(read: Newest, last: Mapping[str, Event]) -> Mapping[str, Event]:
     """An event of each source whose state differs from that in its last event."""
-    outcomes = outcomes_of(read.update)
+    outcomes = read.outcomes
     excuses = {excuse.source: excuse for excuse in read.excuses.excuses}
     # If a source neither moved nor is named any more, that is an event, too.
     open_ones = (source for source, event in last.items() if event.standing != GONE and not has_moved(event))
@@ -105,7 +107,7 @@ def events_of(read: Newest, last: Mapping[str, Event]) -> Mapping[str, Event]:
 
 def event_of(run: int, excuse: Optional[Excuse], outcome: SourceOutcome) -> Event:
     """The state of a source in a run."""
-    told = json.dumps(outcome.as_json())
+    told = outcome_text(outcome)
     if excuse is None:
         return Event(run, "", "", "", told)
     reasons = ", ".join(reason.text for reason in excuse.reasons)
@@ -173,7 +175,7 @@ def sources_to_ask(newest: Newest, whys: Mapping[str, Why]) -> Sequence[str]:
     same still: those that were asked about longest ago come first. Of each sort those that wait come first, since only
     the office knows what holds them.
     """
-    outcomes = outcomes_of(newest.update)
+    outcomes = newest.outcomes
     ranked = []
     for excuse in newest.excuses.excuses:
         outcome = outcomes.get(excuse.source, NOTHING)[-1]
@@ -190,6 +192,8 @@ def fetch_answers(office: Office, state: State, newest: Newest, seconds: float) 
 
     The next call asks about the rest.
     """
+    if state.asked() == newest.number:
+        return set()
     excuses = {excuse.source: without_age(excuse) for excuse in newest.excuses.excuses}
     names: set[str] = set()
     found: dict[str, Why] = {}
@@ -209,24 +213,35 @@ def fetch_answers(office: Office, state: State, newest: Newest, seconds: float) 
             found = {}
     keep_answers(state, found)
     fetch_hints(office, state)
-    return names | fetch_proposals(office, state, newest, end)
+    names |= fetch_proposals(office, state, newest, end)
+    if not sources_to_ask(newest, state.whys()) and not proposals_to_ask(state, newest):
+        state.keep_asked(newest.number)
+    return names
+
+
+def proposals_to_ask(state: State, newest: Newest) -> Sequence[Excuse]:
+    """The sources that wait, that no hint of the newest run names, and for which nothing was asked after that run.
+
+    Those for which the office was asked longest ago come first.
+    """
+    proposed = state.told(PROPOSED)
+    if proposed is None:
+        return ()
+    grouped, outcomes = sources_in(proposed[1]), newest.outcomes
+    asked = {source: proposal.run for source, proposal in state.proposals().items()}
+    waiting = [excuse for excuse in newest.excuses.excuses
+               if excuse.source not in grouped and outcomes.get(excuse.source, NOTHING)[-1].what is What.WAIT
+               and asked.get(excuse.source) != newest.number]
+    return sorted(waiting, key=lambda excuse: asked.get(excuse.source, 0))
 
 
 def fetch_proposals(office: Office, state: State, newest: Newest, until: float) -> set[str]:
     """Asks until that time what is proposed for sources that wait and that no hint of the newest run names."""
-    proposed = state.told(PROPOSED)
-    if proposed is None:
-        return set()
-    grouped, outcomes, kept = sources_in(proposed[1]), outcomes_of(newest.update), state.proposals()
-    waiting = [excuse for excuse in newest.excuses.excuses
-               if excuse.source not in grouped and outcomes.get(excuse.source, NOTHING)[-1].what is What.WAIT]
+    kept = state.proposals()
     found: dict[str, Proposal] = {}
-    for excuse in sorted(waiting, key=lambda excuse: kept[excuse.source].run if excuse.source in kept else 0):
-        before = kept.get(excuse.source)
+    for excuse in proposals_to_ask(state, newest):
         if time.monotonic() >= until:
             break
-        if before is not None and before.run == newest.number:
-            continue
         told = office.proposed(excuse.source)
         if told is None:
             break

@@ -1,33 +1,44 @@
 """What builds need and who maintains a source, read from the kept mail.
 
-The mail is read once, by sender and number, as far as it is kept without a gap, and what is wanted of it is kept with
-the reports. Only the office says which build is in testing or in unstable: here a build is found by its architecture,
-package and version.
+The mail is read once, by sender and number, as far as it is kept without a gap. Each message with builds is kept as it
+is, under the sources that it builds, and for each name that a build depends on the sources whose builds do. So reading
+costs little, and only the builds of sources that a page is about are looked into. Only the office says which build is
+in testing or in unstable: here a build is found by its source, architecture, package and version.
 """
+import collections
 import functools
-import hashlib
 import re
 import time
 from dataclasses import dataclass
-from typing import Collection, Iterator, Mapping, Sequence, Union
+from typing import Collection, Iterable, Mapping, NamedTuple, Sequence
 
 from office_tools.pages.offices import Office
-from office_tools.pages.state import MAIL_TABLES, State
+from office_tools.pages.state import MAIL_TABLES, marks, parts, State
 
-AT_ONCE = 2000  # messages whose contents are kept at once
+AT_ONCE = 20_000  # messages whose contents are kept at once
+A_LOOK = 500  # messages after which the time is looked at
 ALL = ""  # no sender's name: behind which run all mail was read
-MOST_WORDS = 500  # names in one question to the database
 MOST_KEPT = 1 << 14  # values of fields of which it is kept what they say
 
+USUAL = frozenset(("From", "Number", "Kind", "Package", "Version", "Architecture", "Source", "Pre-Depends", "Depends",
+                   "Provides"))
 BETWEEN = re.compile(r"\n(?:[ \t\r]*\n)+")
 FIELD = re.compile(r"^(Kind|Source|Maintainer|Uploaders|Package|Version|Architecture|Pre-Depends|Depends|Provides):"
                    r"[ \t\r]*((?:.*\n?)(?:[ \t].*\n?)*)", re.M | re.I)
+# Each line of a package has one before it. A set of letters for the first one is found much faster than any letter.
+SOURCES = re.compile(r"\n[Ss](?i:ource):[ \t\r]*([^\s(]+)")
+PACKAGES = re.compile(r"\n[Pp](?i:ackage):[ \t\r]*(\S+)")
+DEPENDS = re.compile(r"\n(?i:(?:pre-)?depends):[ \t\r]*(.*(?:\n[ \t]+\S.*)*)")
 SOURCE = re.compile(r"(\S+?)\s*\(\s*(\S+?)\s*\)|(\S+)")
 NAME = re.compile(r"\s*([a-z0-9][a-z0-9+.-]+)")
+NAMES = re.compile(r"(?:^|[,|])\s*([a-z0-9][a-z0-9+.-]+)")
+KIND = re.compile(rb"(?:^|\n)[Kk](?i:ind):\s*(\S+)")
+MAINTAINER = re.compile(rb"\n[Mm](?i:aintainer):")
+
+Key = tuple[str, str, str]  # an architecture, a package and its version
 
 
-@dataclass(frozen=True)
-class Build:
+class Build(NamedTuple):
     """A package as a build message has it: its source with the version of that, its clauses, and what it provides."""
 
     package: str
@@ -62,36 +73,68 @@ def clause_names(clauses: str) -> Sequence[tuple[str, ...]]:
 
 def fields_of(paragraph: str) -> Mapping[str, str]:
     """The fields of a paragraph that are read, by their names in lower case."""
+    try:
+        # Nearly all paragraphs have one line for each field, and only fields with their usual names.
+        plain = dict([line.split(": ", 1) for line in paragraph.split("\n")])
+    except ValueError:
+        plain = {"": ""}
+    if plain.keys() <= USUAL and "  " not in paragraph and "\t" not in paragraph:
+        return {name.lower(): value.strip() for name, value in plain.items()}
     return {name.lower(): " ".join(value.split()) for name, value in FIELD.findall(paragraph)}
 
 
-@functools.lru_cache(MOST_KEPT)
-def relation_of(clauses: str) -> int:
-    """The number under which clauses are kept, made of themselves."""
-    return int.from_bytes(hashlib.blake2b(clauses.encode(), digest_size=8).digest(), "big") >> 1
+def builds_in(text: str) -> Iterable[Build]:
+    """The builds of a message, if it is one with builds."""
+    first, *others = BETWEEN.split(text.strip("\n"))
+    if fields_of(first).get("kind") != "build":
+        return
+    for fields in map(fields_of, others):
+        source, source_version = source_of(fields)
+        clauses = ", ".join(filter(None, (fields.get("pre-depends"), fields.get("depends"))))
+        yield Build(fields.get("package", ""), fields.get("architecture", ""), fields.get("version", ""),
+                    source, source_version, clauses, fields.get("provides", ""))
 
 
-@dataclass(frozen=True)
+def source_of(fields: Mapping[str, str]) -> tuple[str, str]:
+    """The source of a package's paragraph, with its version."""
+    package, version = fields.get("package", ""), fields.get("version", "")
+    found = SOURCE.match(fields.get("source", package))
+    return (found[1] or found[3], found[2] or version) if found else (package, version)
+
+
 class Found:
-    """What was found in messages: rows of builds, the clauses of each relation, and who maintains a source."""
+    """What was found in messages: those with builds by source, who needs a name, and who maintains a source."""
 
-    paragraphs: list[tuple[Union[str, int], ...]]
-    clauses: dict[int, str]
-    people: dict[str, tuple[str, str]]
+    def __init__(self) -> None:
+        self.builds: list[tuple[str, int, str]] = []
+        self.needs: dict[str, set[str]] = collections.defaultdict(set)
+        self.people: dict[str, tuple[str, str]] = {}
 
-    def add(self, text: str, place: int) -> None:
-        """Adds what a message says. `place` orders builds of one version: the least one counts."""
-        first, *others = BETWEEN.split(text.strip("\n"))
-        head = fields_of(first)
-        if head.get("kind") == "upload" and "maintainer" in head:
-            self.people[head.get("source", "")] = (head["maintainer"], head.get("uploaders", ""))
-        if head.get("kind") != "build":
+    def add(self, data: bytes, place: int) -> None:
+        """Adds what a message says. `place` orders builds of one version: the least one counts.
+
+        It may keep a message under further sources, and sources under further names: what is in a message is read again
+        once one of its sources is asked for.
+        """
+        kind = KIND.search(data)
+        if kind is None:
             return
-        for fields in map(fields_of, others):
-            clauses = ", ".join(filter(None, (fields.get("pre-depends"), fields.get("depends"))))
-            relation = relation_of(clauses)
-            self.clauses[relation] = clauses
-            self.paragraphs.append((*names_of(fields, place), relation, fields.get("provides", "")))
+        if kind[1] == b"upload" and MAINTAINER.search(data):
+            head = fields_of(BETWEEN.split(data.decode(errors="replace").strip("\n"), 1)[0])
+            if head.get("kind") == "upload" and "maintainer" in head:
+                self.people[head.get("source", "")] = (head["maintainer"], head.get("uploaders", ""))
+        elif kind[1] == b"build":
+            self.add_build(data.decode(errors="replace"), place)
+
+    def add_build(self, text: str, place: int) -> None:
+        """Adds a message that may have builds, under their sources."""
+        named, packages = SOURCES.findall(text), PACKAGES.findall(text)
+        # A package that names no source is of the one of its own name.
+        sources = set(named) if len(named) == len(packages) else {*named, *packages}
+        for clauses in set(DEPENDS.findall(text)):
+            for name in NAMES.findall(clauses):
+                self.needs[name].update(sources)
+        self.builds += ((source, place, text) for source in sources)
 
 
 class KeptMail:
@@ -99,6 +142,7 @@ class KeptMail:
 
     def __init__(self, state: State) -> None:
         self.state = state
+        self.known: dict[str, Mapping[Key, Build]] = {}
 
     def read_up_to(self) -> Mapping[str, int]:
         """Up to which number the mail of each sender was read."""
@@ -111,7 +155,7 @@ class KeptMail:
 
     def keep_read(self, run: int) -> None:
         """All mail was read that was kept when this run was the newest one."""
-        self.write(Found([], {}, {}), {ALL: run})
+        self.write(Found(), {ALL: run})
 
     def forget(self) -> None:
         """Forgets all mail, which is then read again."""
@@ -119,47 +163,47 @@ class KeptMail:
             for table in MAIL_TABLES:
                 self.state.database.execute(f"DELETE FROM {table}")
 
-    def keep(self, texts: Sequence[tuple[str, int, int, bytes]]) -> None:
-        """Keeps what messages say, each after its sender, the sender's place in the setup, and its number."""
-        found = Found([], {}, {})
-        for _, place, number, data in texts:
-            found.add(data.decode(errors="replace"), (place << 32) + number)
-        self.write(found, {sender: number for sender, _, number, _ in texts})
-
-    def write(self, found: "Found", numbers: Mapping[str, int]) -> None:
-        """Writes what was read, and up to which numbers. Of two builds of one version the sender's order decides."""
+    def write(self, found: Found, numbers: Mapping[str, int]) -> None:
+        """Writes what was read, and up to which numbers."""
         database = self.state.database
-        needs = {(name, relation) for relation, text in found.clauses.items()
-                 for names in clause_names(text) for name in names}
+        first = min((place for _, place, _ in found.builds), default=0)
         with self.state.transaction():
-            database.executemany(
-                "INSERT INTO paragraph VALUES (?, ?, ?, ?, ?, ?, ?, ?) ON CONFLICT DO UPDATE SET "
-                "place = excluded.place, source = excluded.source, source_version = excluded.source_version, "
-                "relation = excluded.relation, provides = excluded.provides WHERE excluded.place < place",
-                found.paragraphs)
-            database.executemany("INSERT OR IGNORE INTO relation VALUES (?, ?)", found.clauses.items())
-            database.executemany("INSERT OR IGNORE INTO need VALUES (?, ?)", needs)
+            # In the order of their keys, which SQLite writes fastest.
+            database.executemany("INSERT OR REPLACE INTO build VALUES (?, ?, ?)", sorted(found.builds))
+            database.executemany("INSERT OR REPLACE INTO need VALUES (?, ?, ?)", (
+                (name, first, " ".join(sorted(sources))) for name, sources in sorted(found.needs.items())))
             database.executemany("INSERT OR REPLACE INTO person VALUES (?, ?, ?)", (
                 (source, *told) for source, told in found.people.items()))
             database.executemany("INSERT OR REPLACE INTO mail_read VALUES (?, ?)", numbers.items())
-            database.execute("DELETE FROM built")
+            database.execute("UPDATE built SET has_mail = 0")
+            if found.people:
+                self.state.touch(found.people)
+                database.execute("DELETE FROM built")
 
-    def needing(self, names: Collection[str]) -> Sequence[Build]:
-        """All builds one of whose clauses names one of these packages."""
-        return [build for some in parts(sorted(names)) for build in self.builds(
-            f"relation IN (SELECT relation FROM need WHERE name IN ({marks(some)}))", some)]
-
-    def builds_of(self, packages: Collection[str]) -> Mapping[tuple[str, str, str], Build]:
-        """All builds of these packages by architecture, package and version."""
-        return {(build.architecture, build.package, build.version): build for some in parts(sorted(packages))
-                for build in self.builds(f"package IN ({marks(some)})", some)}
-
-    def builds(self, which: str, words: Sequence[str]) -> Iterator[Build]:
-        """The builds that a condition names."""
+    def needing(self, names: Collection[str]) -> Mapping[str, Collection[str]]:
+        """The sources with a build one of whose clauses names a package, by the package."""
+        found: dict[str, set[str]] = collections.defaultdict(set)
         with self.state.faults():
-            yield from (Build(*row) for row in self.state.database.execute(
-                "SELECT package, architecture, version, source, source_version, clauses, provides FROM paragraph "
-                f"JOIN relation ON relation.id = relation WHERE {which}", words))
+            for some in parts(sorted(names)):
+                for name, sources in self.state.database.execute(
+                        f"SELECT name, sources FROM need WHERE name IN ({marks(some)})", some):
+                    found[name].update(sources.split(" "))
+        return found
+
+    def builds(self, sources: Collection[str]) -> Mapping[str, Mapping[Key, Build]]:
+        """All builds of these sources. Of two of one version that of the first sender counts, and of its messages the
+        first one."""
+        new = sorted(source for source in sources if source not in self.known)
+        found: dict[str, dict[Key, Build]] = {source: {} for source in new}
+        with self.state.faults():
+            for some in parts(new):
+                for source, text in self.state.database.execute(
+                        f"SELECT source, told FROM build WHERE source IN ({marks(some)}) ORDER BY source, place", some):
+                    for build in builds_in(text):
+                        if build.source == source:
+                            found[source].setdefault((build.architecture, build.package, build.version), build)
+        self.known |= found
+        return {source: self.known[source] for source in sources}
 
     def people(self) -> Mapping[str, Person]:
         """Who maintains each source whose upload says so."""
@@ -168,29 +212,11 @@ class KeptMail:
                     in self.state.database.execute("SELECT source, maintainer, uploaders FROM person")}
 
 
-def names_of(fields: Mapping[str, str], place: int) -> tuple[Union[str, int], ...]:
-    """What names the paragraph of a package, its place, and its source with the version of that."""
-    package, version = fields.get("package", ""), fields.get("version", "")
-    found = SOURCE.match(fields.get("source", package))
-    source, source_version = (found[1] or found[3], found[2] or version) if found else (package, version)
-    return package, fields.get("architecture", ""), version, place, source, source_version
-
-
-def parts(words: Sequence[str]) -> Iterator[Sequence[str]]:
-    """A list, in parts that one question to the database takes."""
-    return (words[place:place + MOST_WORDS] for place in range(0, len(words), MOST_WORDS))
-
-
-def marks(words: Sequence[str]) -> str:
-    """A mark for each word of a question to the database."""
-    return ", ".join("?" * len(words))
-
-
 @functools.lru_cache(MOST_KEPT)
 def people_in(value: str) -> Sequence[str]:
     """The people of a value of Uploaders, which may have a comma within a quoted name."""
-    parts = re.split(r',(?=(?:[^"]*"[^"]*")*[^"]*$)', value) if '"' in value else value.split(",")
-    return tuple(filter(None, map(str.strip, parts)))
+    cut = re.split(r',(?=(?:[^"]*"[^"]*")*[^"]*$)', value) if '"' in value else value.split(",")
+    return tuple(filter(None, map(str.strip, cut)))
 
 
 def read_mail(office: Office, state: State, newest: int, until: float) -> None:
@@ -212,17 +238,18 @@ def read_mail(office: Office, state: State, newest: int, until: float) -> None:
 
 def read_of(office: Office, mail: KeptMail, sender: tuple[str, int], numbers: tuple[int, int], until: float) -> bool:
     """Reads the mail of a sender, which has this place in the setup, between two numbers; says whether it read all."""
-    texts: list[tuple[str, int, int, bytes]] = []
-    if numbers[0] <= numbers[1] and time.monotonic() >= until:
+    first, last = numbers
+    if first <= last and time.monotonic() >= until:
         return False
-    for number, data in office.letters(sender[0], *numbers):
-        texts.append((*sender, number, data))
-        if len(texts) < AT_ONCE:
-            continue
-        mail.keep(texts)
-        texts = []
-        if time.monotonic() >= until:
-            return number == numbers[1]
-    if texts:
-        mail.keep(texts)
+    found, read, begin = Found(), first - 1, sender[1] << 32
+    for read, data in office.letters(sender[0], first, last):
+        found.add(data, begin + read)
+        is_late = read % A_LOOK == 0 and time.monotonic() >= until
+        if is_late or read - first + 1 == AT_ONCE:
+            mail.write(found, {sender[0]: read})
+            found, first = Found(), read + 1
+        if is_late:
+            return read == last
+    if read >= first:
+        mail.write(found, {sender[0]: read})
     return True

@@ -1,30 +1,17 @@
 """The pages other than those of excuses, runs and sources, and the feeds."""
-from dataclasses import dataclass, field
-from typing import Iterator, Mapping
+from typing import Iterator
 
 from office_tools.pages import views
 from office_tools.pages.britney_yaml import ExcusesYaml
 from office_tools.pages.change_pages import change_pages, Feeds, RUNS
 from office_tools.pages.changes import changes_of
 from office_tools.pages.day_pages import day_pages, missing_pages
-from office_tools.pages.kept_mail import Person
+from office_tools.pages.look import Extras
 from office_tools.pages.people_pages import PeoplePages
 from office_tools.pages.sections import Kept, SectionPage
 from office_tools.pages.state import State
 from office_tools.pages.transition_pages import transition_pages
 from office_tools.pages.wait_pages import wait_pages
-
-
-@dataclass(frozen=True)
-class Extras:
-    """What the words of the command add: the address of the pages, and a file that says who maintains what.
-
-    `address` ends with a slash, or is empty. `digest` is one of the file.
-    """
-
-    address: str = ""
-    people: Mapping[str, Person] = field(default_factory=dict)
-    digest: str = ""
 
 
 class More:
@@ -33,7 +20,7 @@ class More:
     def __init__(self, facts: views.Facts, state: State, extras: Extras) -> None:
         self.facts, self.state = facts, state
         self.feeds = Feeds(facts, extras.address)
-        self.yaml = ExcusesYaml(facts.newest.excuses, facts.outcomes, facts.people)
+        self.excuses = ExcusesYaml(facts.newest.excuses, facts.outcomes, facts.people)
         first = [run.number for run in facts.runs[1:]][-RUNS:]
         self.changes = changes_of(state.events_from(first[0]), first[0]) if first else {}
 
@@ -60,6 +47,8 @@ class More:
         """The pages of people, which answers change, too."""
         return PeoplePages(facts, self.changes)
 
-    def answered_files(self, facts: views.Facts) -> Iterator[tuple[str, bytes]]:
-        """The files that answers about sources change."""
-        yield "excuses.yaml", self.yaml.text(facts.waits).encode()
+    def yaml(self, facts: views.Facts) -> Kept:
+        """The YAML of excuses, which an answer changes if it says what a source waits for."""
+        return Kept("excuses.yaml", [facts.newest.kept.excuses, facts.newest.kept.update,
+                                     *self.excuses.shown(facts.waits)], lambda: [
+            ("excuses.yaml", self.excuses.text(facts.waits).encode())])

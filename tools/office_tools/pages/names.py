@@ -24,7 +24,7 @@ class Name(NamedTuple):
 def names_of(sources: Iterable[str], packages: Mapping[str, str]) -> Sequence[Name]:
     """All names in order. A name of both sorts leads to the source of that name."""
     leads = {**packages, **{source: source for source in sources}}
-    return [Name(name, leads[name]) for name in sorted(leads)]
+    return list(map(Name._make, sorted(leads.items())))
 
 
 def beginning_of(name: str) -> str:

@@ -55,6 +55,12 @@ class SourceOutcome:
 
 
 @functools.lru_cache(maxsize=None)
+def outcome_text(outcome: SourceOutcome) -> str:
+    """The text of what `as_json` writes."""
+    return json.dumps(outcome.as_json())
+
+
+@functools.lru_cache(maxsize=None)
 def outcome_in(told: str) -> SourceOutcome:
     """The outcome that `as_json` wrote, from its text."""
     part = json.loads(told)

@@ -1,9 +1,10 @@
 """Where links lead out of the pages, by patterns of addresses."""
+import functools
 import urllib.parse
 from dataclasses import dataclass
-from typing import Mapping
-
 from office_tools.pages.names import beginning_of
+
+MOST_KEPT = 1 << 12  # values that are kept as in addresses
 
 BUGS = "https://bugs.debian.org/%s"
 TRACKER = "https://tracker.debian.org/pkg/%s"
@@ -26,24 +27,24 @@ class Patterns:
 
     def bug(self, number: str) -> str:
         """Where a bug is."""
-        return filled(self.bugs, {"%s": number})
+        return self.bugs.replace("%s", quoted(number))
 
     def source(self, source: str) -> str:
         """Where everything on a source is."""
-        return filled(self.tracker, {"%s": source})
+        return self.tracker.replace("%s", quoted(source))
 
     def logs(self, source: str, architecture: str = "") -> str:
         """Where the builds of a source are, on one architecture or on all."""
-        return filled(self.builds, {"%s": source, "%a": architecture})
+        return self.builds.replace("%s", quoted(source)).replace("%a", quoted(architecture))
 
     def changes(self, source: str, version: str) -> str:
         """Where the changelog of a source's version is."""
-        return filled(self.changelog, {"%s": source, "%v": version.rpartition(":")[2], "%p": beginning_of(source)})
+        number = version.rpartition(":")[2]
+        return self.changelog.replace("%s", quoted(source)).replace("%v", quoted(number)).replace(
+            "%p", quoted(beginning_of(source)))
 
 
-def filled(pattern: str, values: Mapping[str, str]) -> str:
-    """A pattern with its values, each written as in an address."""
-    found = pattern
-    for word, value in values.items():
-        found = found.replace(word, urllib.parse.quote(value, safe="~"))
-    return found
+@functools.lru_cache(MOST_KEPT)
+def quoted(value: str) -> str:
+    """A value as in an address. The same names are in several addresses."""
+    return urllib.parse.quote(value, safe="~")

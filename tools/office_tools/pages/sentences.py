@@ -43,9 +43,9 @@ def reason_sentence(reason: Reason, excuse: Excuse) -> str:
 def excuse_sentences(excuse: Excuse) -> Sequence[str]:
     """The sentences of an excuse: its age, and each reason."""
     told = [reason_sentence(reason, excuse) for reason in excuse.reasons]
-    if all(reason.kind is not ReasonKind.TOO_YOUNG for reason in excuse.reasons):
-        told.insert(0, f"{excuse.age} days old (needed {excuse.needed} days)")
-    return told
+    if any(reason.kind is ReasonKind.TOO_YOUNG for reason in excuse.reasons):
+        return told
+    return [f"{excuse.age} days old (needed {excuse.needed} days)", *told]
 
 
 def breaks(offender: Offender) -> str:

@@ -7,7 +7,7 @@ import contextlib
 import ctypes
 import dataclasses
 import functools
-import hashlib
+import itertools
 import os
 import re
 import shutil
@@ -19,26 +19,30 @@ from markupsafe import Markup
 
 from office_tools.pages import hints, mending, names, rows, verdicts, views
 from office_tools.pages.excuses_json import excuses_json
-from office_tools.pages.fetching import Newest, read_run
+from office_tools.pages.fetching import Newest
 from office_tools.pages.change_pages import Feeds
 from office_tools.pages.day_pages import glance
 from office_tools.pages.kept_mail import KeptMail
-from office_tools.pages.more_pages import Extras, More
+from office_tools.pages.look import digest_of, FIRST_PAGE, HERE, Look
+from office_tools.pages.more_pages import More
 from office_tools.pages.outcomes import counted, reason_words
 from office_tools.pages.parts import Part, parts_of, RowText
-from office_tools.pages.patterns import Patterns
 from office_tools.pages.sections import Kept, SectionPage, written
 from office_tools.pages.sentences import LIST_TITLES, REASON_TITLES
+from office_tools.pages.source_html import SourceHtml
 from office_tools.pages.state import State
 from office_tools.pages.told import Line, shortened
+from office_tools.pages.transition_pages import transition_pages
 from office_tools.reports import Outcome, Word
 
 NEWEST = 20  # runs on the first page
+SOURCES = "source/"  # the folder of their pages
+TRANSITIONS = "transition"  # how the names of pages of transitions begin
 IN_WAITS = "waits "  # before the digest of a page that says what waits for what
+NOW = "now "  # before that of another page that says more than where the source is, and its past
 HINTS = 200  # hints on the page of a run
 OFFENDERS = 15  # what has to be mended on the first page
 MANY = ("source", "run", "people")  # the folders of pages that are many
-HERE = os.path.dirname(os.path.realpath(__file__))
 
 
 @dataclass(frozen=True)
@@ -62,9 +66,9 @@ class Hint:
 class Site:
     """The folder of the pages."""
 
-    def __init__(self, folder: str, state: State, patterns: Patterns, extras: Extras = Extras()) -> None:
-        self.folder, self.state, self.patterns, self.extras = folder, state, patterns, extras
-        self.look = digest_of([repr(self.patterns), self.extras.address, *map(repr, own_files())])
+    def __init__(self, folder: str, state: State, look: Look) -> None:
+        self.folder, self.state, self.patterns, self.extras = folder, state, look.patterns, look.extras
+        self.look, self.made_by = look.digest, look.made_by
         self.facts: Optional[views.Facts] = None
         self.digests_now: dict[str, str] = {}
         self.beside = os.path.join(folder, ".new")
@@ -72,6 +76,7 @@ class Site:
         self.written: list[str] = []
         self.folders: set[str] = set()
         self.more: Optional[More] = None
+        self.rows: dict[str, tuple[views.Row, RowText]] = {}  # of sources that don't move
 
     @functools.cached_property
     def templates(self) -> jinja2.Environment:
@@ -90,9 +95,23 @@ class Site:
         return found
 
     @functools.cached_property
+    def source_html(self) -> SourceHtml:
+        """What makes the pages of sources."""
+        return SourceHtml(self.templates)
+
+    @functools.cached_property
     def digests(self) -> Mapping[str, str]:
         """Of each page that was written a digest of what it was made of."""
         return self.state.digests()
+
+    @functools.cached_property
+    def kept_paths(self) -> Mapping[str, Sequence[str]]:
+        """The files that are made only if what they show changed, by the digest of that."""
+        found: dict[str, list[str]] = {}
+        for path, digest in self.digests.items():
+            if digest and not path.startswith(SOURCES):
+                found.setdefault(digest, []).append(path)
+        return found
 
     @functools.cached_property
     def there(self) -> set[str]:
@@ -102,22 +121,30 @@ class Site:
 
     def build(self, newest: Newest) -> None:
         """Writes all pages that changed, and removes those without a reason."""
-        is_there = os.path.exists(os.path.join(self.folder, "index.html"))
-        if is_there and self.state.built() == self.look + self.extras.digest:
+        built = self.state.built() if os.path.exists(os.path.join(self.folder, FIRST_PAGE)) else None
+        if built is not None and built[0] == self.made_by:
+            if not built[1]:
+                self.build_transitions(newest)
             return
         facts = self.facts_of(newest)
         self.digests_now = {}
         self.write_static()
-        self.write_sources(facts, facts.names)
+        self.write_sources(facts, self.due_sources(facts))
         self.write_runs(facts)
         self.write_testing(facts)
         self.write_names(facts)
         self.write_hints(facts)
-        self.put("excuses.json", excuses_json(newest.excuses, newest.update, newest.kept.fetched).encode())
+        self.put("excuses.json", excuses_json(newest).encode())
         more = self.more_of(facts)
         self.write_more(more.pages(), more.files())
         self.write_kept(more.feeds_of_people())
         self.write_answered(facts)
+        self.move_all()
+
+    def build_transitions(self, newest: Newest) -> None:
+        """Writes the pages that mail changes which is read between two runs."""
+        self.digests_now = {path: digest for path, digest in self.digests.items() if not path.startswith(TRANSITIONS)}
+        self.write_more(transition_pages(self.facts_of(newest), self.state), ())
         self.move_all()
 
     def build_answers(self, newest: Newest, names: Collection[str]) -> None:
@@ -125,8 +152,10 @@ class Site:
         facts = dataclasses.replace(self.facts_of(newest), standings={}, whys=self.state.whys(),
                                     hints=self.state.hints(), proposals=self.state.proposals())
         self.digests_now = dict(self.digests)
+        for name in names if facts.hints == self.facts_of(newest).hints else list(self.rows):
+            self.rows.pop(name, None)
         # An answer also changes the pages of sources that one waits for by it, or waited for before.
-        before = {path[len("source/"):-len(".html")] for path, digest in self.digests.items()
+        before = {path[len(SOURCES):-len(".html")] for path, digest in self.digests.items()
                   if digest.startswith(IN_WAITS)}
         self.write_sources(facts, facts.waits.touched.union(before).intersection(facts.names).union(names))
         self.write_answered(facts)
@@ -135,10 +164,10 @@ class Site:
     def write_answered(self, facts: views.Facts) -> None:
         """Writes what answers about sources change, but for the sources' pages."""
         more = self.more_of(facts)
-        self.write_more(more.answered_pages(facts), more.answered_files(facts))
+        self.write_more(more.answered_pages(facts), ())
         people = more.people(facts)
         self.write_more([people.all()], ())
-        self.write_kept(people.each(self.digests_now, functools.partial(written, self.templates)))
+        self.write_kept([*people.each(self.digests_now, functools.partial(written, self.templates)), more.yaml(facts)])
         self.write_lists(facts)
 
     def more_of(self, facts: views.Facts) -> More:
@@ -157,23 +186,24 @@ class Site:
     def put(self, path: str, data: bytes) -> None:
         """Writes a file next to its place, unless it has these bytes already."""
         self.digests_now.setdefault(path, "")
-        try:
-            with open(os.path.join(self.folder, path), "rb") as file:
-                if file.read() == data:
-                    return
-        except FileNotFoundError:
-            pass
-        for folder in {"", os.path.dirname(path)} - self.folders:
-            os.makedirs(os.path.join(self.beside, folder), exist_ok=True)
-            os.makedirs(os.path.join(self.folder, folder), exist_ok=True)
+        folder = path.rpartition("/")[0]
+        if (folder not in MANY or path in self.there) and bytes_of(f"{self.folder}/{path}") == data:
+            return
+        if folder not in self.folders:
+            for place in self.beside, self.folder:
+                os.makedirs(os.path.join(place, folder), exist_ok=True)
             self.folders.add(folder)
-        with open(os.path.join(self.beside, path), "wb") as file:
+        with open(f"{self.beside}/{path}", "wb") as file:
             file.write(data)
         self.written.append(path)
 
     def is_there(self, path: str, digest: str) -> bool:
         """Whether a page of a folder is there that is made of what the digest says."""
         return self.digests.get(path) == digest and path in self.there
+
+    def has_file(self, path: str) -> bool:
+        """Whether a file is there."""
+        return path in self.there if "/" in path else os.path.exists(os.path.join(self.folder, path))
 
     def move_all(self) -> None:
         """Moves what was written into its place, one file after the other, the first page last, and removes the rest.
@@ -193,15 +223,17 @@ class Site:
             with contextlib.suppress(FileNotFoundError):
                 os.unlink(os.path.join(self.folder, path))
         self.state.keep_digests({path: self.digests_now[path] for path in changed.union(self.written)}, gone)
-        self.state.keep_built(self.look + self.extras.digest)
+        if self.facts is not None:
+            self.state.keep_built(self.made_by, self.basis(self.facts))
         self.there.update(self.written)
         self.there.difference_update(gone)
         self.digests, self.written, self.folders = self.digests_now, [], set()
+        self.__dict__.pop("kept_paths", None)  # it is made again of the new digests
         shutil.rmtree(self.beside, ignore_errors=True)
 
     def move(self, path: str) -> None:
         """Moves a file that was written into its place."""
-        os.replace(os.path.join(self.beside, path), os.path.join(self.folder, path))
+        os.replace(f"{self.beside}/{path}", f"{self.folder}/{path}")
 
     def page(self, template: str, values: Mapping[str, Any]) -> bytes:
         """The bytes of a page."""
@@ -213,25 +245,44 @@ class Site:
             with open(os.path.join(HERE, "static", name), "rb") as file:
                 self.put(name, file.read())
 
+    def basis(self, facts: views.Facts) -> str:
+        """What the pages of sources show beside what is kept of each of them."""
+        return digest_of([self.made_by, str(facts.testing is not None), str(facts.runs[0].number)])
+
+    def due_sources(self, facts: views.Facts) -> Collection[str]:
+        """The sources whose pages may have changed since all were made. The digests of the others' pages stay."""
+        if self.state.basis() != self.basis(facts):
+            return facts.names
+        due = {*self.state.touched(), *facts.told_of_now}
+        pages = {path: path[len(SOURCES):path.rindex(".")] for path in self.digests if path.startswith(SOURCES)}
+        due.update(name for path, name in pages.items()
+                   if self.digests[path].startswith((IN_WAITS, NOW)) or path not in self.there)
+        due.update(facts.names.difference(pages.values()))
+        same = facts.names - due
+        self.digests_now.update((path, self.digests[path]) for path, name in pages.items() if name in same)
+        return facts.names & due
+
     def write_sources(self, facts: views.Facts, names: Collection[str]) -> None:
         """A page of each of these sources. One that stays as it is isn't made, but for what tells that it does."""
-        links, feeds = facts.links(""), Feeds(facts, self.extras.address)
+        links = facts.links("")
+        due: dict[str, Optional[views.Source]] = {}
         for name in sorted(names):
             source = None if facts.is_quiet(name) else views.source_of(facts, name, links)
-            mark = IN_WAITS if name in facts.waits.touched else ""
+            mark = IN_WAITS if name in facts.waits.touched else NOW if source else ""
             path, digest = f"source/{name}.html", mark + digest_of([
                 self.look, *(views.quiet_texts(facts, name) if source is None else ("", repr(source)))])
             if source.has_feed if source else views.has_feed(facts, name):
                 self.digests_now.setdefault(f"source/{name}.xml", "")
             if not self.is_there(path, digest):
-                source = source or views.source_of(facts, name, links)
-                events = self.state.events(name)
-                history = views.history_of(facts, events)
-                self.put(path, self.page("source.html", {
-                    "source": source, "history": history, "earlier": len(events) - len(history), "up": "../"}))
-                if source.has_feed:
-                    self.put(f"source/{name}.xml", feeds.of_source(name, events))
+                due[name] = source
             self.digests_now[path] = digest
+        feeds = Feeds(facts, self.extras.address)
+        for name, events in self.state.events(list(due)):
+            source = due[name] or views.source_of(facts, name, links)
+            history = views.history_of(facts, events)
+            self.put(f"source/{name}.html", self.source_html.page(source, history, len(events) - len(history)))
+            if source.has_feed:
+                self.put(f"source/{name}.xml", feeds.of_source(name, events))
 
     def write_runs(self, facts: views.Facts) -> None:
         """A page of each run, and the list of all. That of an earlier run changes once the next one exists."""
@@ -248,7 +299,7 @@ class Site:
             if self.is_there(path, digest):
                 self.digests_now |= {page: self.digests[page] for page in pages[run.number]}
                 continue
-            read = facts.newest if run == facts.newest.kept.run else read_run(self.state.run(run.number))
+            read = facts.newest if run == facts.newest.kept.run else Newest(self.state.run(run.number))
             self.write_run(facts, read, {"before": before, "after": after})
             self.digests_now[path] = digest
         for link, parts, shown in parts_of("runs", [
@@ -287,14 +338,10 @@ class Site:
 
     def write_kept(self, files: Iterable[Kept]) -> None:
         """Files that are made only if what they show changed. All of one are kept under the same digest."""
-        paths: dict[str, list[str]] = {}
-        for path, digest in self.digests.items():
-            if path.startswith("people/"):
-                paths.setdefault(digest, []).append(path)
         for kept in files:
             digest = digest_of([self.look, kept.path, *kept.shown])
-            before = paths.get(digest, ())
-            if kept.path in before and self.there.issuperset(before):
+            before = self.kept_paths.get(digest, ())
+            if kept.path in before and all(map(self.has_file, before)):
                 self.digests_now.update(dict.fromkeys(before, digest))
                 continue
             for path, data in kept.made():
@@ -322,37 +369,34 @@ class Site:
     def write_names(self, facts: views.Facts) -> None:
         """All names of sources and packages: lists by their beginning, and what the search looks through.
 
-        Most runs change none of them.
+        Most runs change only some of the lists.
         """
-        digest = digest_of([self.look, *sorted(facts.names), "", *map(" ".join, sorted(facts.packages.items()))])
-        paths = [path for path, before in self.digests.items() if before == digest]
-        if not paths or not all(os.path.exists(os.path.join(self.folder, path)) for path in paths):
-            paths = list(self.put_all(self.name_files(facts)))
-        self.digests_now.update(dict.fromkeys(paths, digest))
-
-    def put_all(self, files: Iterable[tuple[str, bytes]]) -> Iterator[str]:
-        """Writes files, and gives their paths."""
-        for path, data in files:
-            self.put(path, data)
-            yield path
-
-    def name_files(self, facts: views.Facts) -> Iterator[tuple[str, bytes]]:
-        """The pages of names, and the search's index."""
-        yield from names.index_files(facts.names, facts.packages).items()
         found = names.names_of(facts.names, facts.packages)
         lists = names.by_beginning(found)
         letters = {letter: f"names-{letter}.html" for letter in lists}
-        values = {"letters": letters.items(), "number": len(found), "up": ""}
-        yield "names.html", self.page("names.html", {**values, "here": "", "rows": (), "list": ()})
-        for letter, some in lists.items():
-            for link, parts, shown in parts_of(f"names-{letter}", [
-                    RowText(one.name, text) for one, text in zip(some, rows.name_items(some))]):
-                yield link, self.page("names.html", {**values, "here": letter, "rows": shown, "list": parts})
+        values = {"letters": letters.items(), "up": ""}
+        self.put("names.html", self.page("names.html", {
+            **values, "number": len(found), "here": "", "rows": (), "list": ()}))
+        shown = [name for one in found for name in (one.name, one.source)]
+        self.write_kept([Kept("names.js", [*shown, *itertools.chain(*facts.packages.items())], functools.partial(
+            index_files, facts)), *(Kept(letters[letter], [*letters, "", *map(" ".join, some)], functools.partial(
+                self.name_files, letter, some, values)) for letter, some in lists.items())])
+
+    def name_files(self, letter: str, some: Sequence[names.Name],
+                   values: Mapping[str, Any]) -> Iterator[tuple[str, bytes]]:
+        """The pages of the names with a beginning."""
+        for link, parts, shown in parts_of(f"names-{letter}", [
+                RowText(one.name, text) for one, text in zip(some, rows.name_items(some))]):
+            yield link, self.page("names.html", {
+                **values, "number": len(some), "here": letter, "rows": shown, "list": parts})
 
     def write_lists(self, facts: views.Facts) -> None:
         """The sources that don't move, all of them and by each reason, outcome and verdict, and last the first page."""
-        unmoved = views.rows_of(facts)
-        texts = {row.name: RowText(row.name, rows.excuse_row(row)) for row in unmoved}
+        links = facts.links("source/")
+        for name in facts.unmoved - self.rows.keys():
+            row = views.row_of(facts, facts.excuses[name], links)
+            self.rows[name] = row, RowText(name, rows.excuse_row(row))
+        unmoved = [self.rows[name][0] for name in facts.excuses if name in facts.unmoved]
         some = {word: [row for row in unmoved if word in row.words] for word in LIST_TITLES}
         some[""] = [row for row in unmoved if verdicts.GONE not in row.words]
         counts = {word: Count(list_link(word), LIST_TITLES.get(word, "all"), len(some[word]))
@@ -362,7 +406,7 @@ class Site:
                       "title": f"Sources that don't move: {LIST_TITLES[word]}" if word else "Sources that don't move",
                       "up": "", "here": list_link(word), "reasons": REASON_TITLES, "verdicts": verdicts.TITLES}
             for link, parts, shown in parts_of(list_link(word).removesuffix(".html"),
-                                               [texts[row.name] for row in of_word]):
+                                               [self.rows[row.name][1] for row in of_word]):
                 self.put(link, self.page("excuses.html", {**values, "rows": shown, "list": parts}))
         self.write_front(facts, counts)
 
@@ -371,7 +415,7 @@ class Site:
         links = facts.links("source/")
         run, found = facts.newest.kept.run, mending.mending_of(facts, links)
         is_asked = found.ranked or found.grouped
-        self.put("index.html", self.page("front.html", {
+        self.put(FIRST_PAGE, self.page("front.html", {
             "glance": glance(facts),
             "run": run, "counts": counts, "moved": run.excuses - counts[""].number - counts[verdicts.GONE].number,
             "fetched": facts.newest.kept.fetched, "refused": facts.refusals, "reasons": REASON_TITLES,
@@ -379,6 +423,15 @@ class Site:
             "mending": found, "most": OFFENDERS,
             "offenders": [] if is_asked else views.offenders_of(facts, links)[:OFFENDERS],
             "rows": list(map(rows.run_row, facts.runs[:-NEWEST - 1:-1])), "up": ""}))
+
+
+def bytes_of(path: str) -> Optional[bytes]:
+    """The bytes of a file, if there is one."""
+    try:
+        with open(path, "rb", buffering=0) as file:
+            return file.read()
+    except FileNotFoundError:
+        return None
 
 
 def sync(folder: str) -> None:
@@ -400,6 +453,11 @@ def paged(shown: Sequence[hints.ShownHint], pages: Mapping[int, str]) -> Iterato
     for link, some in by_page.items():
         yield link, [Part(other, f"{of[0].number} to {of[-1].number}" if of else "", other == link)
                      for other, of in by_page.items()], some
+
+
+def index_files(facts: views.Facts) -> Iterable[tuple[str, bytes]]:
+    """The files of the search's index."""
+    return names.index_files(facts.names, facts.packages).items()
 
 
 def list_link(word: str) -> str:
@@ -432,17 +490,3 @@ def moved_in(read: Newest) -> Sequence[rows.Moved]:
             found += [rows.Moved(item.source, before.get(item.source, ""), item.version, word, told)
                       for item in change.items]
     return sorted(found, key=lambda row: (row.word, row.name))
-
-
-def digest_of(parts: Iterable[str]) -> str:
-    """A digest of texts."""
-    return hashlib.blake2b("\0".join(parts).encode(), digest_size=16).hexdigest()
-
-
-def own_files() -> Iterator[bytes]:
-    """What makes the pages: if it changes, each of them is looked at."""
-    for folder in "", "templates", "static":
-        for name in sorted(os.listdir(os.path.join(HERE, folder))):
-            if name.endswith((".py", ".html", ".css", ".js")):
-                with open(os.path.join(HERE, folder, name), "rb") as file:
-                    yield file.read()

@@ -9,12 +9,13 @@ import json
 import sqlite3
 import zlib
 from dataclasses import dataclass
-from typing import Iterable, Iterator, Mapping, NamedTuple, Optional, Sequence
+from typing import Collection, Iterable, Iterator, Mapping, NamedTuple, Optional, Sequence
 
 from office_tools.faults import Fault
 from office_tools.reports import Run
 
-SCHEMA = 3
+SCHEMA = 4
+MOST_WORDS = 500  # words in one question to the database
 
 TABLES = """
 CREATE TABLE run (number INTEGER PRIMARY KEY, line TEXT NOT NULL, fetched TEXT NOT NULL, excuses BLOB NOT NULL,
@@ -27,23 +28,24 @@ CREATE TABLE testing (run INTEGER PRIMARY KEY, told BLOB NOT NULL) STRICT;
 CREATE TABLE unstable (run INTEGER PRIMARY KEY, told BLOB NOT NULL) STRICT;
 CREATE TABLE why (source TEXT PRIMARY KEY, run INTEGER NOT NULL, since INTEGER NOT NULL, excuse TEXT NOT NULL,
     told TEXT NOT NULL) STRICT;
+CREATE TABLE asked (run INTEGER PRIMARY KEY) STRICT;
 CREATE TABLE told (name TEXT PRIMARY KEY, run INTEGER NOT NULL, told TEXT NOT NULL) STRICT;
 CREATE TABLE proposal (source TEXT PRIMARY KEY, run INTEGER NOT NULL, excuse TEXT NOT NULL, told TEXT NOT NULL) STRICT;
 CREATE TABLE hint (number INTEGER PRIMARY KEY, told TEXT, sent_by TEXT NOT NULL DEFAULT '', comment TEXT NOT NULL
     DEFAULT '') STRICT;
 CREATE TABLE mail_read (sender TEXT PRIMARY KEY, number INTEGER NOT NULL) STRICT, WITHOUT ROWID;
-CREATE TABLE paragraph (package TEXT NOT NULL, architecture TEXT NOT NULL, version TEXT NOT NULL,
-    place INTEGER NOT NULL, source TEXT NOT NULL, source_version TEXT NOT NULL, relation INTEGER NOT NULL,
-    provides TEXT NOT NULL, PRIMARY KEY (package, architecture, version)) STRICT, WITHOUT ROWID;
-CREATE INDEX paragraph_relation ON paragraph (relation);
-CREATE TABLE relation (id INTEGER PRIMARY KEY, clauses TEXT NOT NULL) STRICT;
-CREATE TABLE need (name TEXT NOT NULL, relation INTEGER NOT NULL, PRIMARY KEY (name, relation)) STRICT, WITHOUT ROWID;
+CREATE TABLE build (source TEXT NOT NULL, place INTEGER NOT NULL, told TEXT NOT NULL, PRIMARY KEY (source, place))
+    STRICT, WITHOUT ROWID;
+CREATE TABLE need (name TEXT NOT NULL, first INTEGER NOT NULL, sources TEXT NOT NULL, PRIMARY KEY (name, first))
+    STRICT, WITHOUT ROWID;
 CREATE TABLE person (source TEXT PRIMARY KEY, maintainer TEXT NOT NULL, uploaders TEXT NOT NULL) STRICT, WITHOUT ROWID;
+CREATE TABLE touched (source TEXT PRIMARY KEY) STRICT, WITHOUT ROWID;
+CREATE TABLE basis (told TEXT NOT NULL) STRICT;
 CREATE TABLE page (path TEXT PRIMARY KEY, digest TEXT NOT NULL) STRICT;
-CREATE TABLE built (made_by TEXT NOT NULL) STRICT;
+CREATE TABLE built (made_by TEXT NOT NULL, has_mail INTEGER NOT NULL) STRICT;
 """
 
-MAIL_TABLES = ("mail_read", "paragraph", "relation", "need", "person")
+MAIL_TABLES = ("mail_read", "build", "need", "person")
 """What is read of the kept mail."""
 
 
@@ -119,6 +121,7 @@ class State:
 
     def __init__(self, path: str) -> None:
         self.path = path
+        self.last: Optional[dict[str, Event]] = None  # what `last_events` gives, once it was read
         with self.faults():
             self.database = sqlite3.connect(path, isolation_level=None)
             self.database.execute("PRAGMA journal_mode = WAL")
@@ -173,16 +176,18 @@ class State:
 
     def drop_from(self, number: int) -> None:
         """Drops all runs from this one on, what was asked after them, and what was read of the mail."""
+        self.last = None
         with self.transaction():
             for table in MAIL_TABLES:
                 self.database.execute(f"DELETE FROM {table}")
             self.database.execute("DELETE FROM run WHERE number >= ?", (number,))
-            for table in "event", "last", "testing", "unstable", "why", "told", "proposal":
+            for table in "event", "last", "testing", "unstable", "why", "told", "proposal", "asked":
                 self.database.execute(f"DELETE FROM {table} WHERE run >= ?", (number,))
             # Of the columns other than max(run) SQLite gives those of the row that has it.
             self.database.execute("INSERT OR IGNORE INTO last SELECT source, max(run), testing, unstable, reasons, "
                                   "outcome FROM event GROUP BY source")
             self.database.execute("UPDATE page SET digest = ''")
+            self.database.execute("DELETE FROM basis")
             self.database.execute("DELETE FROM hint")
             self.database.execute("DELETE FROM built")
 
@@ -195,7 +200,10 @@ class State:
             self.database.executemany("INSERT INTO event VALUES (?, ?, ?, ?, ?, ?)", rows)
             self.database.executemany("INSERT OR REPLACE INTO last VALUES (?, ?, ?, ?, ?, ?)", rows)
             self.want_hints(hints)
+            self.touch(events)
             self.database.execute("DELETE FROM built")
+        if self.last is not None:
+            self.last |= events
 
     def update(self, number: int) -> str:
         """The update of a kept run."""
@@ -205,15 +213,22 @@ class State:
 
     def last_events(self) -> Mapping[str, Event]:
         """The last event of each source."""
-        with self.faults():
-            return {parts[0]: Event._make(parts[1:]) for parts in self.database.execute("SELECT * FROM last")}
+        if self.last is None:
+            with self.faults():
+                self.last = {source: Event._make(parts)
+                             for source, *parts in self.database.execute("SELECT * FROM last")}
+        return self.last
 
-    def events(self, source: str) -> Sequence[Event]:
-        """The events of a source, the last one first."""
-        with self.faults():
-            found = self.database.execute("SELECT run, testing, unstable, reasons, outcome FROM event "
-                                          "WHERE source = ? ORDER BY run DESC", (source,))
-            return [Event(*parts) for parts in found]
+    def events(self, sources: Sequence[str]) -> Iterator[tuple[str, Sequence[Event]]]:
+        """The events of each of these sources, the last one first."""
+        for some in parts(sources):
+            found: dict[str, list[Event]] = {source: [] for source in some}
+            with self.faults():
+                for source, *event in self.database.execute(
+                        "SELECT source, run, testing, unstable, reasons, outcome FROM event "
+                        f"WHERE source IN ({marks(some)}) ORDER BY source, run DESC", some):
+                    found[source].append(Event._make(event))
+            yield from found.items()
 
     def events_from(self, run: int) -> Mapping[str, Sequence[Event]]:
         """The events of each source that has one from this run on, in the order of runs."""
@@ -230,8 +245,11 @@ class State:
         return self.suite("testing")
 
     def keep_testing(self, run: int, told: str) -> None:
-        """Keeps what is in testing after a run, in place of what was kept."""
-        self.keep_suite("testing", run, told)
+        """Keeps what is in testing after a run, in place of what was kept, and which sources differ from that."""
+        before = self.testing()
+        lines = set(told.splitlines()).symmetric_difference(before[1].splitlines() if before else ())
+        words = (line.split(" ") for line in lines)
+        self.keep_suite("testing", run, told, {line[1] if len(line) == 3 else line[-1] for line in words})
 
     def unstable(self) -> Optional[tuple[int, str]]:
         """What the office said of unstable when this run was the newest one."""
@@ -247,9 +265,10 @@ class State:
             found = self.database.execute(f"SELECT run, told FROM {table}").fetchone()
         return (found[0], unpacked(found[1])) if found else None
 
-    def keep_suite(self, table: str, run: int, told: str) -> None:
-        """Keeps the text of a suite."""
+    def keep_suite(self, table: str, run: int, told: str, touched: Iterable[str] = ()) -> None:
+        """Keeps the text of a suite, and which sources changed in it."""
         with self.transaction():
+            self.touch(touched)
             self.database.execute(f"DELETE FROM {table}")
             self.database.execute(f"INSERT INTO {table} VALUES (?, ?)", (run, packed(told)))
             self.database.execute("DELETE FROM built")
@@ -266,6 +285,18 @@ class State:
                 (source, why.run, why.since, why.excuse, why.told) for source, why in whys.items()))
             self.want_hints(hints)
             self.database.execute("DELETE FROM built")
+
+    def asked(self) -> Optional[int]:
+        """After which run the office was asked about all sources, if it was."""
+        with self.faults():
+            found = self.database.execute("SELECT run FROM asked").fetchone()
+        return found[0] if found else None
+
+    def keep_asked(self, run: int) -> None:
+        """Keeps that the office was asked about all sources after this run."""
+        with self.transaction():
+            self.database.execute("DELETE FROM asked")
+            self.database.execute("INSERT INTO asked VALUES (?)", (run,))
 
     def told(self, name: str) -> Optional[tuple[int, str]]:
         """A text that is kept as it was printed, and after which run."""
@@ -336,17 +367,48 @@ class State:
             self.database.executemany("INSERT OR REPLACE INTO page VALUES (?, ?)", digests.items())
             self.database.executemany("DELETE FROM page WHERE path = ?", ((path,) for path in gone))
 
-    def built(self) -> Optional[str]:
-        """What made the pages, if all of them were made since anything was kept."""
+    def built(self) -> Optional[tuple[str, bool]]:
+        """What made the pages, if all of them were made since anything was kept but mail, and whether also since that.
+
+        Mail by which only transitions change is meant; other mail counts as anything else.
+        """
         with self.faults():
-            found = self.database.execute("SELECT made_by FROM built").fetchone()
+            found = self.database.execute("SELECT made_by, has_mail FROM built").fetchone()
+        return (found[0], bool(found[1])) if found else None
+
+    def touch(self, sources: Iterable[str]) -> None:
+        """Keeps within a transaction that what is kept of these sources changed since all pages were made."""
+        self.database.executemany("INSERT OR IGNORE INTO touched VALUES (?)", ((source,) for source in sources))
+
+    def touched(self) -> Collection[str]:
+        """The sources of which something that is kept changed since all pages were made."""
+        with self.faults():
+            return [source for source, in self.database.execute("SELECT source FROM touched")]
+
+    def basis(self) -> Optional[str]:
+        """What the pages of sources show beside what is kept of each of them, when all of them were made last."""
+        with self.faults():
+            found = self.database.execute("SELECT told FROM basis").fetchone()
         return found[0] if found else None
 
-    def keep_built(self, made_by: str) -> None:
+    def keep_built(self, made_by: str, basis: str) -> None:
         """All pages are made of what is kept."""
         with self.transaction():
+            self.database.execute("DELETE FROM touched")
+            self.database.execute("DELETE FROM basis")
+            self.database.execute("INSERT INTO basis VALUES (?)", (basis,))
             self.database.execute("DELETE FROM built")
-            self.database.execute("INSERT INTO built VALUES (?)", (made_by,))
+            self.database.execute("INSERT INTO built VALUES (?, 1)", (made_by,))
+
+
+def parts(words: Sequence[str]) -> Iterator[Sequence[str]]:
+    """A list, in parts that one question to the database takes."""
+    return (words[place:place + MOST_WORDS] for place in range(0, len(words), MOST_WORDS))
+
+
+def marks(words: Sequence[str]) -> str:
+    """A mark for each word of a question to the database."""
+    return ", ".join("?" * len(words))
 
 
 def packed(text: str) -> bytes:

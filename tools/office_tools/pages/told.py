@@ -1,14 +1,13 @@
 """What the office answers about a source (`GET /why/SOURCE`), cut into pieces, some of them links."""
 import re
 from dataclasses import dataclass
-from typing import Callable, Collection, Mapping, Optional, Sequence
+from typing import Callable, Collection, Mapping, NamedTuple, Optional, Sequence
 
 from office_tools import reports
 from office_tools.reports import Change
 
 
-@dataclass(frozen=True)
-class Piece:
+class Piece(NamedTuple):
     """A part of a line: its text, where it leads, if it does, a small picture before it as SVG, if it has one, and
     whether it is the word of a verdict."""
 
@@ -18,8 +17,7 @@ class Piece:
     is_verdict: bool = False
 
 
-@dataclass(frozen=True)
-class Line:
+class Line(NamedTuple):
     """A line: its anchor, its pieces, and whether it belongs to the line before."""
 
     pieces: Sequence[Piece]

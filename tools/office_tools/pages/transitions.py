@@ -4,7 +4,6 @@ Rows of testing and unstable are the office's. What a row needs is read from its
 its source version is that of its source in unstable; the rows of a source that isn't built yet aren't.
 """
 import collections
-import functools
 import re
 from dataclasses import dataclass
 from typing import Collection, Iterable, Mapping, Optional, Sequence
@@ -20,29 +19,30 @@ OLD, NEW, NEITHER, MISSING, GONE = "old", "new", "neither", "missing", "gone"
 
 @dataclass(frozen=True)
 class Suite:
-    """A suite as the office prints it: the version of each source, and the version and source of each row."""
+    """A suite as the office prints it: the version of each source, and its rows as texts, all and by source.
+
+    The text of a row is its architecture, package, version and source.
+    """
 
     sources: Mapping[str, str]
-    rows: Mapping[Key, tuple[str, str]]
+    texts: Collection[str]
+    by_source: Mapping[str, Sequence[str]]
 
-    def of_sources(self, names: Collection[str]) -> Mapping[str, Mapping[Key, str]]:
-        """The rows of some sources, with their versions."""
-        found: dict[str, dict[Key, str]] = {name: {} for name in names}
-        for key, (version, source) in self.rows.items():
-            if source in found:
-                found[source][key] = version
-        return {name: of_source for name, of_source in found.items() if of_source}
+    def rows(self, source: str) -> Mapping[Key, str]:
+        """The rows of a source, with their versions."""
+        words = (text.split(" ") for text in self.by_source.get(source, ()))
+        return {(architecture, package): version for architecture, package, version, _ in words}
 
-    @functools.cached_property
-    def by_source(self) -> Mapping[str, Mapping[Key, str]]:
-        """The rows of each source, with their versions."""
-        found: dict[str, dict[Key, str]] = {}
-        for key, (version, source) in self.rows.items():
-            if source in found:
-                found[source][key] = version
-            else:
-                found[source] = {key: version}
-        return found
+    def has(self, build: Build) -> bool:
+        """Whether a build is in the suite."""
+        return f"{build.architecture} {build.package} {build.version} {build.source}" in self.texts
+
+    def owners(self, packages: Collection[str]) -> Mapping[Key, str]:
+        """The sources of the rows of these packages."""
+        if not packages:
+            return {}
+        words = (text.split(" ") for text in self.texts)
+        return {(architecture, package): source for architecture, package, _, source in words if package in packages}
 
 
 @dataclass(frozen=True)
@@ -112,22 +112,38 @@ def stem(name: str) -> str:
     return DIGITS.sub("", name)
 
 
+def suite_of(sources: Mapping[str, str], texts: Sequence[str]) -> Suite:
+    """A suite of these sources and rows."""
+    found: dict[str, list[str]] = {}
+    for text in texts:
+        source = text[text.rfind(" ") + 1:]
+        if source in found:
+            found[source].append(text)
+        else:
+            found[source] = [text]
+    return Suite(sources, frozenset(texts), found)
+
+
 def suite_of_testing(testing: Testing) -> Suite:
     """Testing, as it was read."""
-    return Suite(testing.sources, {(architecture, package): (version, source)
-                                   for architecture, package, version, source in testing.rows})
+    return suite_of(testing.sources, list(map(" ".join, testing.rows)))
 
 
 def suite_of_unstable(told: str) -> Suite:
     """Unstable, from the office's text. It is read with less care than a report, and much faster."""
-    sources, rows = {}, {}
-    for line in told.splitlines():
-        words = line.split(" ")
-        if len(words) == 5:
-            rows[words[1], words[2]] = (words[3], words[4])
-        elif len(words) == 3:
-            sources[words[1]] = words[2]
-    return Suite(sources, rows)
+    head, *texts = told.removesuffix("\n").split("\nbinary ")
+    words = (line.split(" ") for line in head.splitlines())
+    return suite_of({line[1]: line[2] for line in words if len(line) == 3},
+                    [text for text in texts if text.count(" ") == 3])
+
+
+@dataclass(frozen=True)
+class Renamed:
+    """A source of which unstable has rows of other packages than testing: its old packages there, and its new ones."""
+
+    source: str
+    old: Collection[str]
+    new: Collection[str]
 
 
 class Reader:
@@ -139,72 +155,88 @@ class Reader:
 
     def transitions(self, names: Collection[str]) -> Sequence[Transition]:
         """The transitions of these sources, those with the most users first."""
-        testing, unstable = self.testing.of_sources(names), self.unstable.by_source
-        changed = [name for name in names if name in testing and name in unstable
-                   and is_changed(testing[name], unstable[name], self.unstable.sources[name])]
-        builds = self.mail.builds_of({package for name in changed for _, package in unstable[name]})
-        found = [self.transition(name, testing[name], self.current(name, unstable[name], builds)) for name in changed]
+        renamed = self.renamed([name for name in names if name in self.testing.by_source
+                                and name in self.unstable.by_source and name in self.unstable.sources
+                                and is_changed(self.testing.rows(name), self.unstable.rows(name),
+                                               self.unstable.sources[name])])
+        needing = self.mail.needing({name for one in renamed for name in (*one.old, *one.new)})
+        found = [self.transition(one, {source for name in (*one.old, *one.new) for source in needing.get(name, ())})
+                 for one in renamed]
         return sorted((one for one in found if one is not None), key=lambda one: (-len(one.users), one.source))
 
-    def current(self, source: str, rows: Mapping[Key, str],
-                builds: Mapping[tuple[str, str, str], Build]) -> Mapping[Key, Optional[Build]]:
+    def renamed(self, names: Sequence[str]) -> Sequence[Renamed]:
+        """Of these sources those with packages in testing that unstable has no more."""
+        builds = self.mail.builds(names)
+        after = {name: self.current(name, builds[name]) for name in names}
+        left = {name: self.left(name, after[name]) for name in names}
+        # A package that is no more in unstable as one of the source may be there as one of another source.
+        owners = self.unstable.owners({key[1] for name in names for key in left[name]
+                                       if key not in self.unstable.rows(name)})
+        found = []
+        for name in names:
+            provided = {other for build in after[name].values() for others in clause_names(build.provides)
+                        for other in others}
+            old = {key[1] for key in left[name] if owners.get(key, name) == name} - provided
+            if old:
+                before = {package for _, package in self.testing.rows(name)}
+                found.append(Renamed(name, old, {key[1] for key in after[name]} - before))
+        return found
+
+    def current(self, source: str, builds: Mapping[tuple[str, str, str], Build]) -> Mapping[Key, Build]:
         """The rows of a source in unstable that are built of its version there."""
-        found: dict[Key, Optional[Build]] = {}
-        for (architecture, package), version in rows.items():
+        found: dict[Key, Build] = {}
+        for (architecture, package), version in self.unstable.rows(source).items():
             build = builds.get((architecture, package, version))
-            if build is not None and (build.source, build.source_version) == (source, self.unstable.sources[source]):
+            if build is not None and build.source_version == self.unstable.sources.get(source):
                 found[architecture, package] = build
         return found
 
-    def transition(self, source: str, before: Mapping[Key, str],
-                   after: Mapping[Key, Optional[Build]]) -> Optional[Transition]:
-        """The transition of a source with these rows in testing and in unstable; None if it has none."""
+    def left(self, source: str, after: Mapping[Key, Build]) -> Sequence[Key]:
+        """The rows of a source in testing without a current one in unstable, where it is built."""
         built = {architecture for architecture, _ in after}
-        provided = {name for build in after.values() if build for names in clause_names(build.provides)
-                    for name in names}
-        old = {key[1] for key in before if key[0] in built and key not in after
-               and self.unstable.rows.get(key, ("", source))[1] == source} - provided
-        new = {key[1] for key in after} - {key[1] for key in before}
-        users = self.users(source, old, new) if old else ()
+        return [key for key in self.testing.rows(source) if key[0] in built and key not in after]
+
+    def transition(self, one: Renamed, needing: Collection[str]) -> Optional[Transition]:
+        """The transition of a source with these packages, which those sources need; None if it has none."""
+        users = self.users(one, needing)
         if not users:
             return None
         architectures = sorted({architecture for user in users for architecture in user.states})
-        return Transition(source, self.testing.sources[source], self.unstable.sources[source], sorted(old), sorted(new),
-                          users, architectures)
+        return Transition(one.source, self.testing.sources[one.source], self.unstable.sources[one.source],
+                          sorted(one.old), sorted(one.new), users, architectures)
 
-    def users(self, source: str, old: Collection[str], new: Collection[str]) -> Sequence[User]:
-        """The sources that need these packages of another one, by level and name. There are none if none needs an old
-        one."""
+    def users(self, one: Renamed, needing: Collection[str]) -> Sequence[User]:
+        """Of these sources those that need the packages of another one, by level and name. There are none if none
+        needs an old one."""
         in_testing: dict[str, list[Build]] = collections.defaultdict(list)
         in_unstable: dict[str, list[Build]] = collections.defaultdict(list)
-        both = {*old, *new}
-        for build in self.mail.needing(both):
-            key, row = (build.architecture, build.package), (build.version, build.source)
-            is_in = self.testing.rows.get(key) == row, self.unstable.rows.get(key) == row
-            if build.source == source or not any(is_in) or not needs(build, both):
-                continue
-            if is_in[0]:
-                in_testing[build.source].append(build)
-            if is_in[1]:
-                in_unstable[build.source].append(build)
+        both = {*one.old, *one.new}
+        for source, builds in self.mail.builds({source for source in needing if source != one.source}).items():
+            for build in builds.values():
+                is_in = self.testing.has(build), self.unstable.has(build)
+                if any(is_in) and needs(build, both):
+                    if is_in[0]:
+                        in_testing[source].append(build)
+                    if is_in[1]:
+                        in_unstable[source].append(build)
         names = {*in_testing, *in_unstable}
-        if not any(needs(build, old) for builds in in_testing.values() for build in builds):
+        if not any(needs(build, one.old) for builds in in_testing.values() for build in builds):
             return ()
         built = self.built(names)
         levels = levels_of({name: [*in_unstable.get(name, ()), *in_testing.get(name, ())] for name in names})
-        found = [User(name, levels[name], self.states(name, in_unstable.get(name, ()), built.get(name, {}), (old, new)),
-                      not any(needs(build, old) for build in in_testing.get(name, ())),
+        found = [User(name, levels[name],
+                      self.states(name, in_unstable.get(name, ()), built.get(name, {}), (one.old, one.new)),
+                      not any(needs(build, one.old) for build in in_testing.get(name, ())),
                       self.testing.sources.get(name) == self.unstable.sources.get(name)) for name in names]
         return sorted(found, key=lambda user: (user.level, user.name))
 
     def built(self, names: Collection[str]) -> Mapping[str, Mapping[str, bool]]:
         """Of each of these sources the architectures on which unstable has rows of it, and whether one is current."""
         todo = [name for name in names if name not in self.known]
-        rows = {name: self.unstable.by_source.get(name, {}) for name in todo}
-        builds = self.mail.builds_of({package for of_source in rows.values() for _, package in of_source})
-        for name in todo:
-            current = {key[0] for key in self.current(name, rows[name], builds)} if rows[name] else set()
-            self.known[name] = {architecture: architecture in current for architecture, _ in rows[name]}
+        for name, builds in self.mail.builds(todo).items():
+            current = {architecture for architecture, _ in self.current(name, builds)}
+            self.known[name] = {architecture: architecture in current
+                                for architecture, _ in self.unstable.rows(name)}
         return {name: self.known[name] for name in names if self.known[name] and name in self.unstable.sources}
 
     def states(self, name: str, builds: Sequence[Build], built: Mapping[str, bool],

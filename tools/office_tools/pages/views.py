@@ -4,13 +4,13 @@ import datetime
 import functools
 import re
 from dataclasses import dataclass, field
-from typing import Callable, Mapping, Optional, Sequence
+from typing import Callable, Mapping, NamedTuple, Optional, Sequence
 
 from office_tools import reports
 from office_tools.pages.fetching import HINTS, PROPOSED, hints_named, Newest, sources_in, without_age
 from office_tools.pages.hints import pages_of, Refusal, refusals_of
 from office_tools.pages.kept_mail import Person
-from office_tools.pages.outcomes import NOTHING, outcome_in, outcomes_of, reason_words, SourceOutcome, What
+from office_tools.pages.outcomes import NOTHING, outcome_in, reason_words, SourceOutcome, What
 from office_tools.pages.patterns import Patterns
 from office_tools.pages.people import page_of
 from office_tools.pages.sentences import breaks, old_enough, outcome_sentence, reason_sentence, refused_because
@@ -34,10 +34,10 @@ MOST_LINES = 600  # lines of an answer on a page
 MOST_EVENTS = 400  # events of a source on its page
 NO_GROUP = "No hint: the office found no group that frees it."
 NOT_ASKED = "Not asked yet: a later call asks."
+NEW_BUG = "new bug "
 
 
-@dataclass(frozen=True)
-class Standing:
+class Standing(NamedTuple):
     """From which run on a source had a state: its versions, what kept it out, what the run did, whether it moved."""
 
     run: int
@@ -48,8 +48,7 @@ class Standing:
     has_moved: bool
 
 
-@dataclass(frozen=True)
-class Source:
+class Source(NamedTuple):
     """What the page of a source shows.
 
     `unstable` and `age` are empty where it has no excuse, or moved in the newest run, and `verdict` where it has no
@@ -79,8 +78,7 @@ class Source:
     has_feed: bool = False
 
 
-@dataclass(frozen=True)
-class Row:
+class Row(NamedTuple):
     """A source in a list of those that don't move. `words` are its reasons and its outcome, by which a list is cut."""
 
     name: str
@@ -211,7 +209,7 @@ def facts_of(state: State, newest: Newest, patterns: Patterns) -> Facts:
                  refusals_of(state, newest.number, newest.update),
                  sources_in(proposed[1]) if proposed and proposed[0] == newest.number else None,
                  state.proposals(), patterns,
-                 outcomes_of(newest.update), {excuse.source: excuse for excuse in newest.excuses.excuses},
+                 newest.outcomes, {excuse.source: excuse for excuse in newest.excuses.excuses},
                  binaries_of(rows), {row.package: row.source for row in rows})
 
 
@@ -317,13 +315,6 @@ def moved_sentence(change: reports.Change) -> str:
     if change.offender is not None:
         return "since its move " + breaks(change.offender)
     return "alone" if change.hint is None else f"in the group of easy hint {change.hint}"
-
-
-def rows_of(facts: Facts) -> Sequence[Row]:
-    """The sources of the newest run that don't move, by name."""
-    links = facts.links("source/")
-    return [row_of(facts, excuse, links) for excuse in facts.newest.excuses.excuses
-            if facts.outcomes.get(excuse.source, NOTHING)[-1].what is not What.ACCEPT]
 
 
 def source_of(facts: Facts, name: str, links: Links) -> Source:
@@ -454,7 +445,9 @@ def event_pieces(event: Event, facts: Facts) -> Sequence[Piece]:
     """What kept a source out, or what a run did with it, with bugs as links."""
     outcome = outcome_sentence(outcome_in(event.outcome))
     text = "; ".join(filter(None, [event.reasons, outcome])) or "No excuse any more"
-    parts = re.split(r"(?<=new bug )(\d+)", text)
+    if NEW_BUG not in text:
+        return (Piece(text),)
+    parts = re.split(rf"(?<={NEW_BUG})(\d+)", text)
     return [Piece(part, facts.patterns.bug(part) if place % 2 else "") for place, part in enumerate(parts)]
 
 

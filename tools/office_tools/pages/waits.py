@@ -46,10 +46,10 @@ class Waits:
     by_source: Mapping[str, Sequence[Wait]]
     by_other: Mapping[str, Sequence[Wait]]
 
-    @property
-    def touched(self) -> set[str]:
+    @functools.cached_property
+    def touched(self) -> frozenset[str]:
         """The sources that wait or are waited for."""
-        return {*self.by_source, *self.by_other}
+        return frozenset((*self.by_source, *self.by_other))
 
     @functools.cached_property
     def waiting(self) -> Mapping[str, Sequence[str]]:

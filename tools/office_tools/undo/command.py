@@ -8,16 +8,15 @@ import urllib.parse
 from typing import Iterator, Sequence
 
 from office_tools import bags, faults, program
-from office_tools.faults import Fault
+from office_tools.faults import Exit, Fault
 from office_tools.feed.mailbox import BAG
 from office_tools.files import read_bytes
-from office_tools.service import Service
+from office_tools.service import DEFAULT_URL, Service
 from office_tools.undo.exchange import Locked, discarded, exchange, state_of
 from office_tools.undo.outcome import check, differences, replayed, summary
 from office_tools.undo.selection import Letter, chosen, read, without
 
 NAME = "office-mend"
-URL = "http://127.0.0.1:8080"
 STAYS = 1
 DAY = "/var/lib/office-day"
 """What the unit of office-day remembers: all mail, and a copy of the store."""
@@ -77,7 +76,7 @@ def main(asked: argparse.Namespace) -> int:
     """Makes the office without these messages, shows how it differs, and exchanges the stores on a word."""
     store = os.path.realpath(asked.db)
     if not os.path.exists(store):
-        raise Fault(f"{asked.db}: there is no such store", 2)
+        raise Fault(f"{asked.db}: there is no such store", Exit.USAGE)
     new = store + ".undone"
     letters = read(program.exported(asked.conf, store))
     state = state_of(store)
@@ -107,8 +106,8 @@ def add_words(words: argparse.ArgumentParser) -> None:
     """The words of this form."""
     words.add_argument("--conf", metavar="SETUP", help="with --undo: the office's setup")
     words.add_argument("--db", metavar="STORE", help="with --undo: its store, which no program has open")
-    words.add_argument("--url", metavar="URL", default=URL,
-                       help=f"with --undo: the service, whose caches are moved away ({URL})")
+    words.add_argument("--url", metavar="URL", default=DEFAULT_URL,
+                       help=f"with --undo: the service, whose caches are moved away ({DEFAULT_URL})")
     words.add_argument("--cache", metavar="PATH", action="append", default=[],
                        help="with --undo: another cache that is moved away than those of the installed units and of "
                             "this user, such as the folder of office-mirror --state; may be repeated")

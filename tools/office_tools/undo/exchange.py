@@ -10,9 +10,8 @@ import os
 import shutil
 from typing import Sequence
 
-from office_tools.faults import Fault, cause_of
+from office_tools.faults import Exit, Fault, cause_of
 
-FAILED, REFUSED = 4, 3
 LOG = "-wal"
 EMPTY_LOG = 41  # bytes of a log that has nothing but its head
 FIRST_BYTE, BYTES = 0x40000000, 512
@@ -59,10 +58,10 @@ class Locked:
             fcntl.lockf(self.number, fcntl.LOCK_EX | fcntl.LOCK_NB, BYTES, FIRST_BYTE)
         except OSError as fault:
             os.close(self.number)
-            raise Fault(f"{self.path}: a program has it open: end it first", FAILED) from fault
+            raise Fault(f"{self.path}: a program has it open: end it first", Exit.FAILED) from fault
         if state_of(self.path) != self.state:
             os.close(self.number)
-            raise Fault(f"{self.path}: mail came meanwhile: nothing was changed", REFUSED)
+            raise Fault(f"{self.path}: mail came meanwhile: nothing was changed", Exit.REFUSED)
         return self
 
     def __exit__(self, *_: object) -> None:
@@ -111,7 +110,7 @@ def exchange(locked: Locked, new: str, caches: Sequence[str]) -> str:
     """
     store = locked.path
     if not is_closed(store) or not is_closed(new):
-        raise Fault(f"{store}: its log isn't empty: nothing was changed", REFUSED)
+        raise Fault(f"{store}: its log isn't empty: nothing was changed", Exit.REFUSED)
     end = stamp()
     kept = f"{store}.{end}"
     try:
@@ -126,7 +125,7 @@ def exchange(locked: Locked, new: str, caches: Sequence[str]) -> str:
         synced(os.path.dirname(store) or ".")
     except OSError as fault:
         raise Fault(f"{fault.filename or store}: {cause_of(fault)}: {store} is the old store or the new one, whole",
-                    FAILED) from fault
+                    Exit.FAILED) from fault
     return kept
 
 

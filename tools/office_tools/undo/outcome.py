@@ -6,9 +6,7 @@ from typing import Iterator, Mapping, Sequence
 
 from office_tools import program
 from office_tools.bags import framed
-from office_tools.faults import Fault
-
-REFUSED = 3
+from office_tools.faults import Exit, Fault
 
 
 @dataclass
@@ -94,7 +92,7 @@ def summary(before: Outcome, after: Outcome) -> str:
 def check(before: Outcome, after: Outcome) -> None:
     """Refuses an office that refuses mail or doesn't finish a run which the old one has finished."""
     if len(after.refused) > len(before.refused):
-        raise Fault(f"the new office would refuse mail: {after.refused[-1]}", REFUSED)
+        raise Fault(f"the new office would refuse mail: {after.refused[-1]}", Exit.REFUSED)
     lacking = sorted(set(before.runs) - set(after.runs))
     if lacking:
-        raise Fault(f"the new office wouldn't finish run {lacking[0]}", REFUSED)
+        raise Fault(f"the new office wouldn't finish run {lacking[0]}", Exit.REFUSED)

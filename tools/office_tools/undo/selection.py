@@ -5,11 +5,10 @@ from dataclasses import dataclass
 from typing import Iterator, Mapping, Sequence, Union
 
 from office_tools import days, messages
-from office_tools.faults import Fault
+from office_tools.faults import Exit, Fault
 from office_tools.feed.news import GONE
 from office_tools.messages import Kind, Label, Paragraph, kind_of, label_of_first, paragraphs
 
-ABSENT, REFUSED = 1, 3
 UNDONE = "Undone"
 """A field that the office doesn't read: what a message of the kind none was before."""
 
@@ -65,7 +64,7 @@ def read(texts: Sequence[bytes]) -> Sequence[Letter]:
         first = next(paragraphs(text), None)
         label = label_of_first(first) if first else None
         if first is None or label is None:
-            raise Fault(f"message {place} of the store's mail isn't one", REFUSED)
+            raise Fault(f"message {place} of the store's mail isn't one", Exit.REFUSED)
         found.append(Letter(label, first, text))
     return found
 
@@ -94,7 +93,7 @@ def orders(letters: Sequence[Letter]) -> Mapping[int, Order]:
                 cover.update(covered(letter.first.value("Covers") or "", before))
                 day = days.day(letter.first.value("Day") or "")
             except ValueError as fault:
-                raise Fault(f"{letter.label.sender} {letter.label.number}: it is no order", REFUSED) from fault
+                raise Fault(f"{letter.label.sender} {letter.label.number}: it is no order", Exit.REFUSED) from fault
             found[letter.label.number] = Order(day, before, dict(cover))
     return found
 
@@ -119,12 +118,12 @@ def chosen(letters: Sequence[Letter], slips: Sequence[Slip]) -> Iterator[Letter]
     for entry in slips:
         those = [letter for letter in letters if is_named(letter, entry, runs)]
         if not those:
-            raise Fault(f"{named(entry)}: there is no message to take back", ABSENT)
+            raise Fault(f"{named(entry)}: there is no message to take back", Exit.NEGATIVE)
         found.update((letter.label, letter) for letter in those)
     for letter in found.values():
         if kind_of(letter.first) is Kind.RUN:
             raise Fault(f"{letter.label.sender} {letter.label.number} is an order: put another text in its place by "
-                        "office-mend SENDER NUMBER FILE", REFUSED)
+                        "office-mend SENDER NUMBER FILE", Exit.REFUSED)
     return iter(found.values())
 
 
