@@ -5,7 +5,8 @@
 # compares manual page and completions with the program's own help.
 #
 # Usage: share/check.sh [PROGRAM]
-# What isn't installed is skipped, and told. Status 0: nothing failed, 1: something did, 2: the words are wrong.
+# The environment's OFFICE_PLAN names the built office-plan, if it isn't in crates/office_plan/out. What isn't installed
+# is skipped, and told. Status 0: nothing failed, 1: something did, 2: the words are wrong.
 set -u
 
 if [ $# -gt 1 ]; then
@@ -18,6 +19,12 @@ if [ $# -eq 1 ]; then
 fi
 share=$(cd "$(dirname "$0")" && pwd) || exit 1
 cd "$share" || exit 1
+plan=$(realpath -- "${OFFICE_PLAN:-$share/../crates/office_plan/out/office_plan}")
+if [ -x "$plan" ]; then
+    export OFFICE_PLAN="$plan"
+else
+    plan=/bin/true
+fi
 work=$(mktemp -d)
 trap 'rm -rf "$work"' EXIT
 trap 'exit 1' HUP INT TERM
@@ -205,9 +212,9 @@ indexes_are_read() {
 }
 
 files_are_installed() {
-    make -s install PROGRAM="${program:-/bin/true}" PREFIX=/usr DESTDIR="$work/root" || return 1
-    for file in bin/office share/man/man1/office.1 lib/systemd/system/office.service \
-        lib/systemd/system/office-pages.timer \
+    make -s install PROGRAM="${program:-/bin/true}" PLAN="$plan" PREFIX=/usr DESTDIR="$work/root" || return 1
+    for file in bin/office bin/office-plan share/man/man1/office.1 lib/systemd/system/office.service \
+        lib/systemd/system/office-pages.timer share/bash-completion/completions/office-plan \
         share/office/office_tools/pages/templates/front.html share/bash-completion/completions/office \
         share/zsh/vendor-completions/_office share/doc/office/RULES.md share/doc/office/README.md \
         share/doc/office/CHANGELOG.md; do
@@ -227,7 +234,7 @@ files_are_installed() {
 
 # The documents that are installed cite no path of the repository, but for the part of README.md that is about it.
 documents_cite_what_is_installed() {
-    make -s install PROGRAM=/bin/true PREFIX=/usr DESTDIR="$work/cited" || return 1
+    make -s install PROGRAM=/bin/true PLAN=/bin/true PREFIX=/usr DESTDIR="$work/cited" || return 1
     for file in "$work"/cited/usr/share/doc/office/*.md; do
         sed '/^## In the repository/,$d' "$file" | grep -nE '(`|^    |\()(share|docs|bench|crates|tests|tools)/' |
             sed "s|^|${file##*/}:|"
@@ -237,12 +244,15 @@ documents_cite_what_is_installed() {
 
 program_is_missed() {
     ends 2 make -s install PROGRAM="$work/none" DESTDIR="$work/root" > "$work/missed" 2>&1 || return 1
-    grep -q "build it first, or name another by PROGRAM=FILE" "$work/missed"
+    grep -q "build it first, or name another by PROGRAM=FILE" "$work/missed" || return 1
+    ends 2 make -s install PROGRAM=/bin/true PLAN="$work/none" DESTDIR="$work/root" > "$work/missed" 2>&1 || return 1
+    grep -q "build it first, or name another by PLAN=FILE" "$work/missed"
 }
 
 # With another program than the built one, where that isn't there; the version is made up for this check.
 package_is_made() {
-    ./debian/build 0.1.0-1 'Share Check <check@example.org>' "${program:-/bin/true}" "$work" > "$work/package"
+    OFFICE_PLAN=$plan ./debian/build 0.1.0-1 'Share Check <check@example.org>' "${program:-/bin/true}" "$work" \
+        > "$work/package"
 }
 
 package_is_clean() {

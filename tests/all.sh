@@ -3,10 +3,11 @@
 #
 # Usage: tests/all.sh OFFICE [STEP [PARTS]]
 #
-# OFFICE is the built program, crates/office/out/office. With STEP only each STEPth growth, call and place is tried (1):
-# 23 is a sample. PARTS is the built program that judges itself, crates/cases_program/out/cases_program (see
-# tests/memory/refused.py). What each check prints goes to a file of a new folder, whose name is printed; if the check
-# fails, the output is printed too. The exit status is 1 if one failed.
+# OFFICE is the built program, crates/office/out/office. The environment's OFFICE_PLAN names the built office-plan, if it
+# isn't in crates/office_plan/out. With STEP only each STEPth growth, call and place is tried (1): 23 is a sample. PARTS
+# is the built program that judges itself, crates/cases_program/out/cases_program (see tests/memory/refused.py). What
+# each check prints goes to a file of a new folder, whose name is printed; if the check fails, the output is printed
+# too. The exit status is 1 if one failed.
 set -u
 if [ $# -lt 1 ] || [ ! -x "$1" ]; then
     echo "usage: $0 OFFICE [STEP [PARTS]]" >&2
@@ -53,15 +54,17 @@ try proxy python3 "$here/service/proxy.py" "$office"
 try peers sh "$here/peers/store.sh" --by "$office"
 try trust python3 "$here/trust.py"
 try docs sh "$here/docs.sh" "$office"
-try tenth_day /usr/bin/python3 "$here/tenth_day/run.py" "$office"
+plan=${OFFICE_PLAN:-$here/../crates/office_plan/out/office_plan}
+if [ -x "$plan" ]; then
+    OFFICE_PLAN=$(realpath "$plan")
+    export OFFICE_PLAN
+    try plans /usr/bin/python3 "$here/archive/plans.py" "$plan"
+    try tenth_day /usr/bin/python3 "$here/tenth_day/run.py" "$office"
+else
+    echo "not tried: plans, tenth_day: office-plan isn't built"
+fi
 try tools env OFFICE="$office" /usr/bin/python3 -m unittest discover -s "$here/../tools/tests"
 try garbled /usr/bin/python3 "$here/archive/garbled.py" "$office"
-plan=$here/../crates/office_plan/out/office_plan
-if [ -x "$plan" ]; then
-    try plans /usr/bin/python3 "$here/archive/plans.py" "$plan"
-else
-    echo "not tried: plans: office-plan isn't built"
-fi
 if [ -d "$here/../crates/deb_version/out/rlib" ]; then
     try edits python3 "$here/edits/trials.py"
 else
@@ -78,12 +81,14 @@ try again python3 "$here/rows/opened_again.py" "$office" 1001-1200
 try stopped timeout 3600 python3 "$here/stops/stopped.py" "$office" "$step"
 try surroundings timeout 3600 python3 "$here/surroundings/hostile.py" "$office" "$step"
 try refused timeout 36000 python3 "$here/memory/refused.py" "$office" "$step" ${parts:+"$parts"}
-if command -v reprepro > /dev/null && command -v aptly > /dev/null && command -v dose-debcheck > /dev/null &&
-    command -v installcheck > /dev/null && command -v dpkg-buildpackage > /dev/null; then
+if [ -x "$plan" ] && command -v reprepro > /dev/null && command -v aptly > /dev/null &&
+    command -v dose-debcheck > /dev/null && command -v installcheck > /dev/null &&
+    command -v dpkg-buildpackage > /dev/null; then
     try archive "$here/archive/run.sh" "$office"
     try month /usr/bin/python3 "$here/archive/month.py" "$office"
 else
-    echo "not tried: archive, month: reprepro, aptly, dose-distcheck, libsolv-tools or dpkg-dev isn't installed"
+    echo "not tried: archive, month: office-plan isn't built, or reprepro, aptly, dose-distcheck, libsolv-tools or" \
+        "dpkg-dev isn't installed"
 fi
 if command -v chromium > /dev/null && /usr/bin/python3 -c 'import selenium, html5lib' 2> /dev/null; then
     try pages "$here/pages/look.py" "$office" "$told/pages-folder"

@@ -39,12 +39,14 @@ class Fault:
 LOOP = ("loop.py", "reprepro")
 FAULTS: Sequence[Fault] = (
     Fault("an apply that takes a row too many", "apply", """
+import dataclasses
 from office_tools.apply import turn
-from office_tools.apply.contents import Contents, Row
+from office_tools.apply.contents import Row, Source
 due = turn.wanted
 def wanted(*words):
-    found = due(*words)
-    return Contents(found.sources, found.rows | {Row("amd64", "amd64", "tool", "1-1")})
+    found, more = due(*words), Row("amd64", "amd64", "tool", "1-1")
+    return dataclasses.replace(found, rows=found.rows | {more},
+                               built_of={**found.built_of, more: Source("tool", "1-1")})
 turn.wanted = wanted""", LOOP, "the archive's testing behind run 1"),
     Fault("an apply that doesn't publish", "apply", """
 from office_tools.apply.reprepro import Reprepro
@@ -56,6 +58,18 @@ def is_published(self, have):
     self.reprepro("export", self.testing_name)
     return True
 Reprepro.is_published = is_published""", LOOP, "a second apply changes nothing"),
+    Fault("an apply that removes less than is planned", "apply", """
+from office_tools.apply.contents import Contents
+from office_tools.apply.reprepro import Reprepro
+due = Reprepro.remove
+Reprepro.remove = lambda self, go: due(self, Contents(go.sources, frozenset(sorted(go.rows)[1:])))""",
+          LOOP, "testing isn't published: it isn't what the office wants"),
+    Fault("an apply that copies less than is planned", "apply", """
+from office_tools.apply.contents import Contents
+from office_tools.apply.reprepro import Reprepro
+due = Reprepro.copy
+Reprepro.copy = lambda self, come: due(self, Contents(come.sources, frozenset(sorted(come.rows)[1:])))""",
+          LOOP, "nothing is taken out of testing, and nothing is published"),
     Fault("an apply that takes older packages of all out of what was adopted", "apply", """
 from office_tools.apply import contents
 contents.older_of_all = lambda *words: []""", ("ways.py",), "lag-doc 1-2 in the index of arm64"),

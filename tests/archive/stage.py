@@ -19,6 +19,7 @@ from office_tools.service import Service  # noqa: E402
 from packages import BOTH, Upload, build  # noqa: E402
 
 COMMANDS = os.path.join(TOP, "tools/bin")
+os.environ.setdefault("OFFICE_PLAN", os.path.join(TOP, "crates/office_plan/out/office_plan"))
 SETUP = os.path.join(HERE, "setup.conf")
 
 

@@ -20,6 +20,7 @@ from typing import Sequence
 from world import ARCHITECTURES, TESTING, Binary, common, every, packages, sources
 
 TOP = Path(__file__).resolve().parents[2]
+os.environ.setdefault("OFFICE_PLAN", str(TOP / "crates/office_plan/out/office_plan"))
 sys.path[:0] = [str(TOP / "tools"), str(TOP / "tests")]
 sys.dont_write_bytecode = True
 import serving  # noqa: E402

@@ -1,11 +1,13 @@
 """What the tests share. It puts the package into the path, so each test imports it first.
 
-The environment's OFFICE names the built program. What needs it is skipped where it isn't named.
+The environment's OFFICE names the built program, OFFICE_PLAN the built office-plan, else the one that this checkout or
+PATH has. What needs a program that isn't there is skipped.
 """
 import contextlib
 import io
 import os
 import re
+import shutil
 import socket
 import subprocess
 import sys
@@ -17,12 +19,17 @@ TOP = os.path.dirname(TOOLS)
 EXAMPLES = os.path.join(TOP, "examples")
 SETUP = os.path.join(EXAMPLES, "setup.conf")
 OFFICE = os.path.realpath(os.environ["OFFICE"]) if os.environ.get("OFFICE") else ""
+BUILT_PLAN = os.path.join(TOP, "crates/office_plan/out/office_plan")
+PLAN = shutil.which(os.environ.get("OFFICE_PLAN") or BUILT_PLAN) or shutil.which("office-plan") or ""
 
 sys.path.insert(0, TOOLS)
 if OFFICE:
     os.environ["OFFICE"] = OFFICE  # some tests change the folder
+if PLAN:
+    os.environ["OFFICE_PLAN"] = os.path.realpath(PLAN)
 
 needs_office = unittest.skipUnless(OFFICE, "OFFICE names no built program")
+needs_plan = unittest.skipUnless(PLAN, "OFFICE_PLAN names no built office-plan, and none is built")
 
 
 def example(name: str) -> bytes:

@@ -6,13 +6,14 @@ import tempfile
 import unittest
 import unittest.mock
 
-from helpers import tool
+from helpers import needs_plan, tool
 from office_tools import reports
 from office_tools.apply import marks
 from office_tools.apply.brakes import Terms
 from office_tools.apply.command import groups_of
-from office_tools.apply.contents import Contents, Indexes, Row, Source, difference, wanted
+from office_tools.apply.contents import Contents, Indexes, Row, Source, target, wanted
 from office_tools.apply.holding import Evidence
+from office_tools.apply.plans import ask, lacking, listed, plan_to
 from office_tools.apply.reprepro import Reprepro
 from office_tools.apply.turn import Turn
 from office_tools.faults import Fault
@@ -97,7 +98,21 @@ class Wanted(unittest.TestCase):
         self.assertIn("amd64", strange.exception.cause)
 
 
-class Differences(unittest.TestCase):
+def to_be(want, have):
+    """What a suite is to have, and the plan for it."""
+    goal = target(want, have)
+    return goal, plan_to(goal, have)
+
+
+def all_of(*parts):
+    """Several contents in one."""
+    return Contents(frozenset().union(*(part.sources for part in parts)),
+                    frozenset().union(*(part.rows for part in parts)),
+                    {row: source for part in parts for row, source in part.built_of.items()})
+
+
+@needs_plan
+class Targets(unittest.TestCase):
 
     def test_sources_that_stay(self):
         """A source without packages isn't the office's; the source of a package that stays has to stay."""
@@ -106,9 +121,9 @@ class Differences(unittest.TestCase):
         have = Contents(frozenset({Source("lib", "1.0-1"), Source("udeb", "1"), Source("gone", "1")}),
                         frozenset({old, row("gone", "1")}),
                         {old: Source("lib", "1.0-1"), row("gone", "1"): Source("gone", "1")})
-        found = difference(want, have)
-        self.assertEqual(found.idle, [Source("lib", "1.0-1"), Source("udeb", "1")])
-        self.assertEqual(list(found.lines()), [
+        goal, plan = to_be(want, have)
+        self.assertEqual(goal.idle, [Source("lib", "1.0-1"), Source("udeb", "1")])
+        self.assertEqual(list(plan.lines()), [
             "missing: source lib 2.0-1", "missing: binary amd64 lib2 2.0-1", "too much: source gone 1",
             "too much: binary amd64 gone 1"])
 
@@ -128,17 +143,18 @@ class Differences(unittest.TestCase):
     def test_older_packages_of_all_stay(self):
         """As long as a package stays that was built with them, and the office has another version."""
         want, have, old, _, gone = self.lagging("all")
-        found = difference(want, have)
-        self.assertEqual((found.older, found.idle, found.excess.rows), ([old], [self.OLD], {gone}))
+        goal, plan = to_be(want, have)
+        self.assertEqual((goal.older, goal.idle, plan.go.rows), ([old], [self.OLD], {gone}))
+        self.assertEqual(goal.contents.items, want.items | {old, self.OLD})
         rebuilt = Contents(want.sources, want.rows - {self.LAGGING}, want.built_of)
-        self.assertEqual(difference(rebuilt, have).excess.rows, {self.LAGGING, old, gone})
+        self.assertEqual(to_be(rebuilt, have)[1].go.rows, {self.LAGGING, old, gone})
         same = Contents(have.sources, have.rows, {**have.built_of, self.LAGGING: self.NEW})
-        self.assertEqual(difference(want, same).excess.rows, {old, gone})
+        self.assertEqual(to_be(want, same)[1].go.rows, {old, gone})
 
     def test_old_libraries_keep_no_packages_of_all(self):
         """A package that stays under a made-up source has nothing of `all` with it."""
         want, have, old, _, gone = self.lagging("all", Source("smooth-lag", "1-1"))
-        self.assertEqual(difference(want, have).excess.rows, {old, gone})
+        self.assertEqual(to_be(want, have)[1].go.rows, {old, gone})
 
     def test_packages_of_all_in_the_index_of_a_lagging_architecture(self):
         """If the older version is only in that index, nobody misses the newer one there."""
@@ -146,8 +162,77 @@ class Differences(unittest.TestCase):
         have = Contents(have.sources, have.rows - {new}, have.built_of)
         elsewhere = new._replace(place="amd64")
         want = Contents(want.sources, want.rows | {elsewhere}, {**want.built_of, elsewhere: self.NEW})
-        found = difference(want, have)
-        self.assertEqual((found.older, found.missing.rows, found.excess.rows), ([old], {elsewhere}, {gone}))
+        goal, plan = to_be(want, have)
+        self.assertEqual((goal.older, plan.come.rows, plan.go.rows), ([old], {elsewhere}, {gone}))
+
+    def test_versions_that_no_package_may_have(self):
+        """They have no line, and stay."""
+        odd, lone = row("odd", "1_0"), suite("lone 1 lone")
+        have = Contents(lone.sources, lone.rows | {odd}, {**lone.built_of, odd: Source("odd", "1_0")})
+        goal, plan = to_be(lone, have)
+        self.assertEqual((goal.odd, plan.is_empty, odd in goal.contents.rows), ([odd], True, True))
+
+
+@needs_plan
+class Plans(unittest.TestCase):
+    """Suites that have several versions of a package, and indexes that have a package of `all` each."""
+
+    def listed(self, want, have, origin=Contents()):
+        return listed(target(want, have), have, origin)
+
+    def test_dak_lists(self):
+        """The lines of a list are those of dak's file, where each package has one version."""
+        found = self.listed(suite("lib 2 lib2"), suite("lib 1 lib1"), suite("lib 2 lib2", "other 1 other"))
+        self.assertEqual([sorted(lines) for lines in (found.target, found.suite, found.origin)],
+                         [["lib 2 source", "lib2 2 amd64"], ["lib 1 source", "lib1 1 amd64"],
+                          ["lib 2 source", "lib2 2 amd64"]])
+
+    def test_older_versions_go(self):
+        """A copy of all was made, and nothing was removed: nothing leaves for good."""
+        old, new = [suite("lone 1 lone"), suite("lone 2 lone")], suite("lone 3 lone")
+        plan = ask(self.listed(new, all_of(new, *old)), 0, False).plan
+        self.assertEqual((plan.come.items, plan.go.items), (set(), old[0].items | old[1].items))
+
+    def test_a_greater_version_beside_the_wanted_one(self):
+        """It can only go if testing may go back; the wanted version isn't copied again."""
+        one, two = suite("lone 1 lone"), suite("lone 2 lone")
+        lists = self.listed(one, all_of(one, two))
+        self.assertEqual(set(ask(lists, 0, False).lower), one.items)
+        plan = ask(lists, 0, True).plan
+        self.assertEqual((plan.come.items, plan.go.items), (set(), two.items))
+
+    def test_all_in_each_index(self):
+        """After an apply that was ended, one index has the package, and the other hasn't."""
+        here, there = (row("guide-doc", "5-2", "all", place) for place in ("amd64", "arm64"))
+        old = row("guide-doc", "5-1", "all", "arm64")
+        want, have = Contents(frozenset(), frozenset({here, there})), Contents(frozenset(), frozenset({here, old}))
+        found = ask(self.listed(want, have, want), 0, False).plan
+        self.assertEqual((found.come.items, found.go.items), ({there}, {old}))
+
+    def test_an_architecture_in_place_of_all(self):
+        """At the same version these are two packages."""
+        one, other = row("app", "1", "all"), row("app", "1")
+        found = plan_to(target(Contents(frozenset(), frozenset({other})), Contents(frozenset(), frozenset({one}))),
+                        Contents(frozenset(), frozenset({one})))
+        self.assertEqual((found.come.rows, found.go.rows), ({other}, {one}))
+
+    def test_what_lacks(self):
+        goal, have = target(suite("lib 2 lib2", "app 1 app"), suite("app 1 app")), suite("app 1 app")
+        self.assertEqual(lacking(goal, have, Contents()).items, suite("lib 2 lib2").items)
+        self.assertTrue(lacking(goal, have, suite("lib 2 lib2")).is_empty)
+
+    def test_refused_and_failed(self):
+        """A list that the program refuses, and a program that isn't there."""
+        have = suite("app 1 app")
+        for version, program, status, cause in (("1_0", os.environ["OFFICE_PLAN"], 3, "'odd 1_0 source': "),
+                                                ("1", "/nowhere/office-plan", 4, "No such file or directory"),
+                                                ("1", "/bin/false", 4, "/bin/false: status 1"),
+                                                ("1", "/bin/echo", 4, "/bin/echo: it prints '/proc/self/fd/")):
+            with unittest.mock.patch.dict(os.environ, OFFICE_PLAN=program):
+                with self.assertRaises(Fault) as raised:
+                    plan_to(target(Contents(frozenset({Source("odd", version)})), have), have)
+            self.assertEqual(raised.exception.status, status)
+            self.assertIn(cause, raised.exception.cause)
 
 
 class Listed(unittest.TestCase):
@@ -200,6 +285,7 @@ class Manager:
         self.shown = self.there
 
 
+@needs_plan
 class Turns(unittest.TestCase):
     TESTING = "testing 1\nsource new 1\nbinary amd64 new 1 new\n"
     NEW = Contents(frozenset({Source("new", "1")}), frozenset({row("new", "1")}), {row("new", "1"): Source("new", "1")})
@@ -233,6 +319,18 @@ class Turns(unittest.TestCase):
                 self.turn(manager, text).apply()
             self.assertEqual((refused.exception.status, manager.asked), (status, asked))
             self.assertEqual((manager.there, manager.shown), (self.OLD, self.OLD))
+
+    def test_a_manager_that_does_something_else(self):
+        """After it copied, testing lacks what it had, or would go back: nothing else is done."""
+        old = suite("old 1 old")
+        for there, cause in ((self.NEW, "nothing to copy from: source old 1, binary amd64 old 1"),
+                             (all_of(old, suite("new 2 new")), "lower versions: new 2 to 1")):
+            manager = Manager(old, self.NEW)
+            with unittest.mock.patch.object(manager, "copy", lambda come: setattr(manager, "there", there)):
+                with self.assertRaises(Fault) as raised:
+                    self.turn(manager, testing_text("new 1 new", "old 1 old")).apply()
+            self.assertEqual((raised.exception.status, manager.shown, manager.asked), (4, old, []))
+            self.assertRegex(raised.exception.cause, f"^testing isn't published: .*{cause}")
 
     def test_without_a_judge_all_is_held_back(self):
         manager = Manager(self.OLD, self.OLD)
@@ -272,6 +370,7 @@ class Rules:
                 if not any((other, version) in there for version in versions)]
 
 
+@needs_plan
 class HeldBack(unittest.TestCase):
     """What the archive no longer has stays as it is in testing, and all that rests on it; all else moves."""
 
@@ -377,6 +476,7 @@ class HeldBack(unittest.TestCase):
         self.assertEqual(groups_of(None, 3)(frozenset({"lib"})), [])
 
 
+@needs_plan
 class Brakes(unittest.TestCase):
     """How much may leave testing, and that nothing goes back, unless it is allowed."""
 
@@ -394,16 +494,17 @@ class Brakes(unittest.TestCase):
         told = [f"p{number} 1 p{number}" for number in range(count)]
         return lambda **terms: self.refusal(Manager(suite(*told), suite()), told[gone:], **terms)
 
-    def test_more_than_twenty_and_two_in_a_hundred(self):
+    def test_more_than_forty_and_two_in_a_hundred(self):
         self.assertEqual(self.much(30, 20)(), 0)
         self.assertEqual(self.much(1050, 21)(), 0)
-        self.assertRegex(self.much(1049, 21)(), r"^21 of 1049 packages would go out of testing: p0 amd64, .* and 11 "
-                                                r"more: nothing is changed unless --gone 21 allows it$")
+        self.assertRegex(self.much(1049, 21)(), r"^42 of 2098 packages and sources would leave testing: p0 amd64, p0 "
+                                                r"source, .* and 32 more: nothing is changed unless --gone 42 allows "
+                                                r"it$")
 
     def test_an_allowed_number(self):
-        self.assertEqual(self.much(30, 25)(gone=25), 0)
-        self.assertRegex(self.much(30, 25)(gone=24), "unless --gone 25")
-        self.assertRegex(self.much(30, 1)(gone=0), "unless --gone 1")
+        self.assertEqual(self.much(30, 25)(gone=50), 0)
+        self.assertRegex(self.much(30, 25)(gone=49), "unless --gone 50")
+        self.assertRegex(self.much(30, 1)(gone=0), "unless --gone 2")
 
     def test_an_upgrade_is_no_loss(self):
         old, new = ([f"p{number} {version} p{number}" for number in range(30)] for version in (1, 2))
@@ -416,6 +517,13 @@ class Brakes(unittest.TestCase):
         self.assertRegex(self.refusal(manager(), told), "^testing would go back to lower versions: lone 2 to 1: .* "
                                                         "nothing is changed unless --back allows it$")
         self.assertEqual(self.refusal(manager(), told, back=True), 0)
+
+    def test_what_came_back_was_allowed(self):
+        """A lower version of the archive that was sent above the one that testing has."""
+        told = ("lone 2+back1.1 lone", "mta 1 mta")
+        manager = Manager(suite("lone 2 lone", "mta 1 mta"), suite("lone 1 lone"))
+        self.assertEqual(self.refusal(manager, told), 0)
+        self.assertEqual(manager.there.sources, suite("lone 1 lone", "mta 1 mta").sources)
 
     def test_a_mark_is_no_way_back(self):
         """A rebuilt source has the archive's own version, which is below the sent one."""
@@ -446,6 +554,7 @@ class Locks(unittest.TestCase):
                 self.assertIn("already exists", raised.exception.cause)
 
 
+@needs_plan
 class Command(unittest.TestCase):
 
     def setUp(self):

@@ -7,9 +7,10 @@ from typing import Sequence
 
 from office_tools import bags, days, faults, messages, program, reports, setups
 from office_tools.adopt.rows import lifted, stripped
-from office_tools.apply.contents import Contents, Indexes, difference, wanted
+from office_tools.apply.contents import Contents, Indexes, target, wanted
+from office_tools.apply.plans import plan_to
 from office_tools.apply.published import read_indexes
-from office_tools.apply.turn import tell_idle
+from office_tools.apply.turn import tell_alone
 from office_tools.faults import Fault
 from office_tools.files import write_whole
 from office_tools.from_packages import mail, told
@@ -69,15 +70,16 @@ def checked(setup: str, bag: bytes, have: Contents) -> int:
     want = wanted(testing, sorted({row.architecture for row in have.rows}), Indexes.ONCE)
     if not have.sources:
         want = Contents(have.sources, want.rows, want.built_of)
-    found = difference(want, have)
-    beside = [line for line in found.excess.lines() if is_beside(line, want)]
+    goal = target(want, have)
+    found = plan_to(goal, have)
+    beside = [line for line in found.go.lines() if is_beside(line, want)]
     for line in beside:
         print(f"goes with the first apply, for testing has another version: {line}")
     left = [line for line in found.lines() if line.removeprefix("too much: ") not in beside]
     for line in left:
         print(line)
     waiting = sum(line.startswith("wait ") for line in told[:place].splitlines())
-    tell_idle(found, tell)
+    tell_alone(goal, tell)
     print(f"adopted: {len(testing.sources)} sources, {len(testing.rows)} packages; {waiting} wait, "
           f"{len(refused)} refused")
     return int(bool(refused or waiting or left))

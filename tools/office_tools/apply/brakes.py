@@ -1,61 +1,58 @@
-"""What office-apply refuses to do unless it is allowed: take much out of a suite, or take a source back."""
+"""What office-apply refuses to do unless it is allowed: take much out of a suite, or take something back.
+
+The program `office-plan` refuses it. It is told here how much is allowed.
+"""
 from dataclasses import dataclass
-from typing import Iterator, Mapping, Optional, Sequence
+from typing import Optional, Sequence
 
 from office_tools import versions
-from office_tools.apply.contents import ALL, Contents, Difference
+from office_tools.apply.contents import Contents, Item, Target
+from office_tools.apply.plans import Lists, Plan, ask, key_of, listed
 from office_tools.faults import Exit, Fault
 
-MOST_GONE = 20  # packages
-SHARE_GONE = 50  # one package of this many is 2 %
+MOST_GONE = 40  # packages and sources
+SHARE_GONE = 50  # one of this many is 2 %
 SHOWN = 10  # names in a sentence
 
 
 @dataclass(frozen=True)
 class Terms:
-    """What is allowed: how many packages may go, if that is stated, and whether sources may be taken back."""
+    """What is allowed: how much may leave for good, if that is stated, and whether versions may go lower."""
 
     gone: Optional[int] = None
     back: bool = False
 
-    def check(self, want: Contents, have: Contents, found: Difference, told: Mapping[str, str]) -> None:
-        """Refuses what isn't allowed. `told` has the sources' versions in the office's testing, with their marks."""
-        gone = sorted(set(names_gone(want, found)))
-        total = len({(row.architecture, row.name) for row in have.rows})
-        is_much = len(gone) > MOST_GONE and len(gone) * SHARE_GONE > total
-        if len(gone) > self.gone if self.gone is not None else is_much:
-            raise Fault(f"{len(gone)} of {total} packages would go out of testing: {listed(gone)}: nothing is changed "
-                        f"unless --gone {len(gone)} allows it", Exit.REFUSED)
-        back = sorted(set(taken_back(want, have, found, told)))
-        if back and not self.back:
-            raise Fault(f"testing would go back to lower versions: {listed(back)}: if the office's store was restored, "
-                        "send its mail again (office-feed --restore); nothing is changed unless --back allows it",
-                        Exit.REFUSED)
+    def plan(self, goal: Target, have: Contents, origin: Contents) -> Plan:
+        """The plan for a suite; what isn't allowed is refused.
+
+        What was sent under a mark, as another version of the archive, counts as that mark says: it was allowed before.
+        """
+        lists = listed(goal, have, origin)
+        gone = max(MOST_GONE, len(lists.first) // SHARE_GONE) if self.gone is None else self.gone
+        found = ask(lists, gone, self.back)
+        if found.lower:
+            check_back(lists, found.lower, goal.want)
+            found = ask(lists, gone, True)
+        if found.leaving:
+            names = named(sorted(f"{name} {architecture}" for architecture, name in lists.gone))
+            raise Fault(f"{found.leaving} of {len(lists.first)} packages and sources would leave testing: {names}: "
+                        f"nothing is changed unless --gone {found.leaving} allows it", Exit.REFUSED)
+        if found.plan is None:
+            raise Fault(f"there is nothing to copy from: {named(list(found.lacks.lines()))}", Exit.REFUSED)
+        return found.plan
 
 
-def names_gone(want: Contents, found: Difference) -> Iterator[str]:
-    """The packages that leave, with no other version that stays or comes."""
-    staying = {(row.architecture, row.name) for row in want.rows}
-    names = {row.name for row in want.rows}
-    for row in found.excess.rows:
-        is_there = {(row.architecture, row.name), (ALL, row.name)} & staying
-        if not is_there and not (row.architecture == ALL and row.name in names):
-            yield f"{row.name} {row.architecture}"
+def check_back(lists: Lists, lower: Sequence[Item], want: Contents) -> None:
+    """Refuses lower versions, except those that were sent as a greater one."""
+    back = {f"{item.name} {lists.first[key_of(item)].version} to {item.version}" for item in lower
+            if versions.compare(lists.first[key_of(item)].version, want.sent.get(item, item.version)) > 0}
+    if back:
+        raise Fault(f"testing would go back to lower versions: {named(sorted(back))}: if the office's store was "
+                    "restored, send its mail again (office-feed --restore); nothing is changed unless --back allows it",
+                    Exit.REFUSED)
 
 
-def taken_back(want: Contents, have: Contents, found: Difference, told: Mapping[str, str]) -> Iterator[str]:
-    """The sources that would lose a greater version in testing than the office has.
-
-    A version with a mark means another one of the archive. It counts as it is: what is sent so was allowed before.
-    """
-    wanted = {source.name: source.version for source in want.sources}
-    lost = found.excess.sources | {have.built_of[row] for row in found.excess.rows if row in have.built_of}
-    for name, version in lost:
-        if name in wanted and versions.compare(version, told.get(name, wanted[name])) > 0:
-            yield f"{name} {version} to {wanted[name]}"
-
-
-def listed(names: Sequence[str]) -> str:
+def named(names: Sequence[str]) -> str:
     """The first of many names, and how many more there are."""
     more = f" and {len(names) - SHOWN} more" if len(names) > SHOWN else ""
     return ", ".join(names[:SHOWN]) + more

@@ -9,12 +9,13 @@ from office_tools.accounts import service_at
 from office_tools.apply import heidi, marks
 from office_tools.apply.aptly import Aptly
 from office_tools.apply.brakes import Terms
-from office_tools.apply.contents import ALL, Contents, Indexes, check_taken, difference, wanted
+from office_tools.apply.contents import ALL, Contents, Indexes, Target, check_taken, target, wanted
 from office_tools.apply.holding import Evidence, Groups
 from office_tools.apply.managers import Manager, locked
+from office_tools.apply.plans import plan_to
 from office_tools.apply.published import is_whole, packages_of, raw_sections, read_folder, read_indexes, read_release
 from office_tools.apply.reprepro import Reprepro
-from office_tools.apply.turn import Turn, counts, tell_idle
+from office_tools.apply.turn import Turn, counts, tell_alone
 from office_tools.counts import count
 from office_tools.faults import Exit, Fault
 from office_tools.files import read_bytes
@@ -39,8 +40,8 @@ def parser() -> argparse.ArgumentParser:
     words.add_argument("--testing", metavar="FILE", help="the text of testing, in place of a service's")
     words.add_argument("--dry-run", action="store_true", help="print what would change, and change nothing")
     words.add_argument("--gone", type=count, metavar="N",
-                       help="how many packages may leave testing (20, or 2 %% if that is more)")
-    words.add_argument("--back", action="store_true", help="allow sources to go back to a lower version")
+                       help="how many packages and sources may leave testing (40, or 2 %% if that is more)")
+    words.add_argument("--back", action="store_true", help="allow packages and sources to go back to a lower version")
     managers = words.add_subparsers(dest="manager", required=True, metavar="MANAGER")
     part = managers.add_parser("reprepro", help="an archive of reprepro: copies from the suite FROM into TESTING")
     part.add_argument("base", metavar="BASE", help="the archive's folder, with conf and db")
@@ -106,27 +107,29 @@ def groups_of(service: Optional[Service], finished: int) -> Groups:
 def to_heidi(testing: reports.Testing, path: str, published: Optional[Contents], terms: Terms, is_dry: bool) -> int:
     """Writes the file if it isn't what the office wants, and prints what changes.
 
-    The file sets the suite whole, so it also has what is left alone of the published indexes.
+    The file sets the suite whole, so it also has what is left alone of the published indexes: it is the list that
+    `office-plan` gets as the target.
     """
-    architectures = sorted({row.architecture for row in testing.rows})
-    want, have = wanted(testing, architectures, Indexes.ONCE), heidi.read(path)
-    check_taken(want, have)
-    there = have if published is None else published
-    terms.check(want, there, difference(want, there), testing.sources)
-    if published is not None:
-        if not published.sources:
-            raise Fault("there is no file Sources: what is left alone would leave the suite", Exit.REFUSED)
+    want = wanted(testing, sorted({row.architecture for row in testing.rows}), Indexes.ONCE)
+    before = heidi.read(path)
+    check_taken(want, before)
+    if published is None:
+        goal, have = Target(want, want), before
+    else:
         check_taken(want, published)
-        found = difference(want, published)
-        tell_idle(found, tell)
-        want = Contents(want.sources | set(found.idle), want.rows | set(found.older))
-    come, go = want.without(have), have.without(want)
+        goal, have = target(want, published), published
+        tell_alone(goal, tell)
+    terms.plan(goal, have, goal.contents)
+    if published is not None and not published.sources:
+        raise Fault("there is no file Sources: what is left alone would leave the suite", Exit.REFUSED)
+    due = goal.contents
+    come, go = due.without(before), before.without(due)
     is_same = come.is_empty and go.is_empty and os.path.exists(path)
     if not is_dry and not is_same:
-        heidi.write(path, want)
+        heidi.write(path, due)
     for line in (*(f"came: {line}" for line in come.lines()), *(f"went: {line}" for line in go.lines())):
         print(line)
-    print(f"testing {testing.finished}: {counts(want)}; came {counts(come)}; went {counts(go)}")
+    print(f"testing {testing.finished}: {counts(due)}; came {counts(come)}; went {counts(go)}")
     return int(is_dry and not is_same)
 
 
@@ -138,12 +141,12 @@ def compared(testing: reports.Testing, packages: Sequence[str], sources: Sequenc
     if not have.sources:
         tell("no sources are compared: there is no file Sources")
         want = Contents(have.sources, want.rows, want.built_of)
-    found = difference(want, have)
-    tell_idle(found, tell)
+    goal = target(want, have)
+    tell_alone(goal, tell)
+    found = plan_to(goal, have)
     for line in found.lines():
         print(line)
-    print(f"testing {testing.finished}: {counts(want)}; missing {counts(found.missing)}; "
-          f"too much {counts(found.excess)}")
+    print(f"testing {testing.finished}: {counts(want)}; missing {counts(found.come)}; too much {counts(found.go)}")
     return int(not found.is_empty)
 
 

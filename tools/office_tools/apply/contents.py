@@ -1,7 +1,8 @@
-"""What a suite has, what the office wants in it, and how both differ."""
+"""What a suite has, what the office wants in it, and what is left alone there."""
+import dataclasses
 import enum
 from dataclasses import dataclass, field
-from typing import Iterator, Mapping, NamedTuple, Sequence
+from typing import Iterable, Iterator, Mapping, NamedTuple, Sequence, Union
 
 from office_tools import reports, versions
 from office_tools.apply import marks
@@ -26,18 +27,32 @@ class Row(NamedTuple):
     version: str
 
 
+Item = Union[Source, Row]
+
+
 @dataclass(frozen=True)
 class Contents:
     """The sources and the binary packages of a suite, and the source of each of these, if known.
 
     In an archive that is the source that it was built of, in the office's testing the one that it was sent under.
-    `other_kinds` counts the packages of kinds that the office decides nothing about, like udeb.
+    `other_kinds` counts the packages of kinds that the office decides nothing about, like udeb. `sent` has the versions
+    in the office's testing, with their marks.
     """
 
     sources: frozenset[Source] = frozenset()
     rows: frozenset[Row] = frozenset()
     built_of: Mapping[Row, Source] = field(default_factory=dict, compare=False)
     other_kinds: Mapping[str, int] = field(default_factory=dict, compare=False)
+    sent: Mapping[Item, str] = field(default_factory=dict, compare=False)
+
+    @property
+    def items(self) -> frozenset[Item]:
+        """The sources and the rows."""
+        return self.sources | self.rows
+
+    def made_of(self, items: Iterable[Item]) -> "Contents":
+        """These items, with what is known here of them."""
+        return dataclasses.replace(contents_of(items), built_of=self.built_of, sent=self.sent)
 
     def without(self, other: "Contents") -> "Contents":
         """What is here and not there."""
@@ -57,6 +72,13 @@ class Contents:
             yield f"binary {row.architecture} {row.name} {row.version}{place}"
 
 
+def contents_of(items: Iterable[Item]) -> Contents:
+    """The contents that are these items."""
+    found = list(items)
+    return Contents(frozenset(item for item in found if isinstance(item, Source)),
+                    frozenset(item for item in found if isinstance(item, Row)))
+
+
 class Indexes(enum.Enum):
     """Where an archive has packages of `all`: once, or in the index of each architecture."""
 
@@ -72,10 +94,14 @@ def wanted(testing: reports.Testing, architectures: Sequence[str], indexes: Inde
     if strange:
         raise Fault(f"the suite has no architecture {', '.join(strange)}: the office has another setup", Exit.REFUSED)
     sources = {name: Source(name, marks.source_version(version)) for name, version in testing.sources.items()}
-    told_under = {Row(place, row.architecture, row.package, marks.package_version(row.version)): sources[row.source]
-                  for row in testing.rows for place in places(row.architecture, architectures, indexes)}
+    told_under: dict[Row, Source] = {}
+    sent: dict[Item, str] = {sources[name]: version for name, version in testing.sources.items()}
+    for told in testing.rows:
+        for place in places(told.architecture, architectures, indexes):
+            row = Row(place, told.architecture, told.package, marks.package_version(told.version))
+            told_under[row], sent[row] = sources[told.source], told.version
     real = {source for source in sources.values() if not marks.is_made_up(source.name)}
-    return Contents(frozenset(real), frozenset(told_under), told_under)
+    return Contents(frozenset(real), frozenset(told_under), told_under, sent=sent)
 
 
 def places(architecture: str, architectures: Sequence[str], indexes: Indexes) -> Sequence[str]:
@@ -84,42 +110,33 @@ def places(architecture: str, architectures: Sequence[str], indexes: Indexes) ->
 
 
 @dataclass(frozen=True)
-class Difference:
-    """What the office wants and the suite hasn't, and what the suite has too much.
+class Target:
+    """What a suite is to have: what the office wants in it, and what is left alone of what it has.
 
-    `idle` are sources of the suite that the office doesn't want and that are left alone all the same. For some the
-    suite has no binary package: they build nothing on the office's architectures, so it can't decide about them. Of the
-    others packages stay that the office wants, like old libraries. `older` are packages of `all` that are left alone,
-    too.
+    `idle` are sources of the suite that the office doesn't want. For some the suite has no binary package: they build
+    nothing on the office's architectures, so it can't decide about them. Of the others packages stay that the office
+    wants, like old libraries. `older` are packages of `all`. `odd` have a version that the office takes for none.
     """
 
-    missing: Contents
-    excess: Contents
-    idle: Sequence[Source]
-    older: Sequence[Row]
-
-    @property
-    def is_empty(self) -> bool:
-        """Whether the suite is what the office wants."""
-        return self.missing.is_empty and self.excess.is_empty
-
-    def lines(self) -> Iterator[str]:
-        """A line for each source and each row that differs."""
-        yield from ("missing: " + line for line in self.missing.lines())
-        yield from ("too much: " + line for line in self.excess.lines())
+    want: Contents
+    contents: Contents
+    idle: Sequence[Source] = ()
+    older: Sequence[Row] = ()
+    odd: Sequence[Item] = ()
 
 
-def difference(want: Contents, have: Contents) -> Difference:
-    """How a suite differs from what the office wants."""
-    missing, excess = want.without(have), have.without(want)
+def target(want: Contents, have: Contents) -> Target:
+    """What a suite that has these contents is to have."""
+    excess = have.without(want)
+    odd = contents_of(item for item in excess.items if not versions.is_version(item.version))
     building = set(have.built_of.values())
     needed = {source for row, source in have.built_of.items() if row in want.rows}
-    idle = sorted(source for source in excess.sources if source not in building or source in needed)
-    older = sorted(older_of_all(want, have, excess.rows))
+    idle = sorted(source for source in excess.without(odd).sources if source not in building or source in needed)
+    older = sorted(older_of_all(want, have, excess.without(odd).rows))
     lagging = {(row.place, row.name) for row in older if row.place != ALL}
-    lacking = frozenset(row for row in missing.rows if row.architecture != ALL or (row.place, row.name) not in lagging)
-    return Difference(Contents(missing.sources, lacking),
-                      Contents(excess.sources - set(idle), excess.rows - set(older)), idle, older)
+    unmissed = {row for row in want.rows - have.rows if row.architecture == ALL and (row.place, row.name) in lagging}
+    contents = want.made_of({*want.sources, *idle, *(want.rows - unmissed), *older, *odd.items})
+    return Target(want, contents, idle, older, sorted(odd.items))
 
 
 def check_taken(want: Contents, have: Contents) -> None:

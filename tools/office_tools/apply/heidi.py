@@ -1,6 +1,7 @@
 """The file HeidiResult, by which dak sets a suite: a line `NAME VERSION ARCHITECTURE` for each package and source."""
 import os
 
+from office_tools import versions
 from office_tools.apply.contents import Contents, Row, Source
 from office_tools.faults import Exit, Fault
 from office_tools.files import read_bytes, write_whole
@@ -23,7 +24,7 @@ def read(path: str) -> Contents:
     rows: set[Row] = set()
     for number, line in enumerate(read_bytes(path).decode(errors="backslashreplace").splitlines(), 1):
         words = line.split()
-        if len(words) != 3:
+        if len(words) != 3 or not versions.is_version(words[1]):
             raise Fault(f"{path}:{number}: it isn't PACKAGE VERSION ARCHITECTURE", Exit.REFUSED)
         name, version, architecture = words
         if architecture == SOURCE:

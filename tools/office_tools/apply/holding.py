@@ -29,31 +29,30 @@ class Evidence:
 
 
 @dataclass(frozen=True)
-class Plan:
-    """What testing is made, and the sources that are held back, each with the reason."""
+class Held:
+    """What the office wants without what is held back, and the sources that are held back, each with the reason."""
 
     want: Contents
-    held: Mapping[str, str] = field(default_factory=dict)
+    why: Mapping[str, str] = field(default_factory=dict)
 
 
-def lacking(missing: Contents, want: Contents, origin: Contents) -> Mapping[str, str]:
+def incomplete(lacks: Contents, want: Contents) -> Mapping[str, str]:
     """The sources that can't be copied whole, each with the first line on what is missing."""
     found: dict[str, str] = {}
-    absent = missing.without(origin)
-    for source in sorted(absent.sources):
+    for source in sorted(lacks.sources):
         found.setdefault(source.name, f"there is no source {source.name} {source.version} to copy")
-    for row in sorted(absent.rows):
+    for row in sorted(lacks.rows):
         found.setdefault(want.built_of[row].name,
                          f"there is no binary {row.architecture} {row.name} {row.version} to copy")
     return found
 
 
-def without_source(want: Contents, have: Contents, origin: Contents) -> frozenset[Source]:
-    """The wanted sources with no version in either suite, whose packages are all in one of them."""
+def without_source(lacks: Contents, want: Contents, have: Contents, origin: Contents) -> frozenset[Source]:
+    """The sources that can't be copied and have no version in either suite, and whose packages are all there."""
     names = {source.name for source in have.sources | origin.sources}
-    absent = {want.built_of[row].name for row in want.rows - have.rows - origin.rows}
+    absent = {want.built_of[row].name for row in lacks.rows}
     building = {want.built_of[row].name for row in want.rows}
-    return frozenset(source for source in want.sources if source.name not in names and source.name not in absent
+    return frozenset(source for source in lacks.sources if source.name not in names and source.name not in absent
                      and source.name in building)
 
 
@@ -66,18 +65,18 @@ class Holding:
         self.held: dict[str, str] = {}
         self.texts: Known = {}
 
-    def plan(self, absent: Mapping[str, str]) -> Plan:
-        """What testing is made if these sources are held back."""
+    def held_with(self, absent: Mapping[str, str]) -> Held:
+        """What is held back with these sources."""
         self.held = dict(absent)
         if self.evidence.judge is None:
             self.hold(self.changed, "neither installcheck nor dose-debcheck is installed to judge testing without it")
-            return Plan(self.result(), self.held)
+            return Held(self.result(), self.held)
         groups = self.evidence.groups(frozenset(self.changed))
         self.texts = self.evidence.known()
         before = {architecture: self.broken(architecture, self.have) for architecture in self.evidence.architectures}
         while self.hold_groups(groups) or self.hold_names() or self.hold_broken(self.evidence.judge, before):
             pass
-        return Plan(self.result(), self.held)
+        return Held(self.result(), self.held)
 
     def hold(self, names: Iterator[str] | set[str] | frozenset[str], why: str) -> bool:
         """Holds back those of these sources that change, and says whether one is new."""
@@ -146,7 +145,7 @@ class Holding:
         old = {row: self.have.built_of[row] for row in self.have.rows if self.have.built_of[row].name in self.held}
         sources = {source for source in self.want.sources if source.name not in self.held} | \
             {source for source in self.have.sources if source.name in self.held}
-        return Contents(frozenset(sources), frozenset({**old, **new}), {**old, **new})
+        return Contents(frozenset(sources), frozenset({**old, **new}), {**old, **new}, sent=self.want.sent)
 
 
 def changed(want: Contents, have: Contents) -> frozenset[str]:

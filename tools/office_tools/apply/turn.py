@@ -1,13 +1,33 @@
 """One turn of office-apply: testing becomes what the office wants, as far as the archive has it, or stays as it is."""
 from dataclasses import dataclass, field
-from typing import Callable
+from typing import Callable, Iterator, Mapping, Sequence
 
 from office_tools import reports
-from office_tools.apply.brakes import Terms, listed
-from office_tools.apply.contents import Contents, Difference, check_taken, difference, wanted
-from office_tools.apply.holding import Evidence, Holding, Plan, lacking, without_source
+from office_tools.apply.brakes import Terms, named
+from office_tools.apply.contents import Contents, Item, Target, check_taken, target, wanted
+from office_tools.apply.holding import Evidence, Held, Holding, incomplete, without_source
 from office_tools.apply.managers import Manager
+from office_tools.apply.plans import Plan, lacking, plan_to
 from office_tools.faults import Exit, Fault
+
+
+@dataclass(frozen=True)
+class Work:
+    """What testing is to have, what it has, what can be copied into it, and the sources that are held back."""
+
+    goal: Target
+    have: Contents
+    origin: Contents
+    held: Mapping[str, str] = field(default_factory=dict)
+
+    def over(self, have: Contents) -> "Work":
+        """The same over what testing has now."""
+        return Work(target(self.goal.want, have), have, self.origin, self.held)
+
+    @property
+    def held_back(self) -> str:
+        """How many sources are held back, if any are."""
+        return f"; held back {len(self.held)} sources" if self.held else ""
 
 
 @dataclass(frozen=True)
@@ -23,45 +43,51 @@ class Turn:
 
     def compare(self) -> int:
         """Shows what would change: status 0 if nothing would."""
-        plan, have = self.plan()
-        found = self.difference(plan.want, have)
-        for line in (*(f"would come: {line}" for line in found.missing.lines()),
-                     *(f"would go: {line}" for line in found.excess.lines())):
+        work = self.work()
+        plan = plan_to(work.goal, work.have)
+        for line in moves(plan, "would come", "would go"):
             self.show(line)
-        self.terms.check(plan.want, have, found, self.testing.sources)
-        if found.is_empty and not self.manager.is_published(have):
+        self.terms.plan(work.goal, work.have, work.origin)
+        if plan.is_empty and not self.manager.is_published(work.have):
             self.show("would be published: testing as it is")
             return Exit.NEGATIVE
-        self.show(f"testing {self.testing.finished}: {counts(plan.want)}; would come {counts(found.missing)}; "
-                  f"would go {counts(found.excess)}{held_back(plan)}")
-        return Exit.NEGATIVE if plan.held or not found.is_empty else Exit.DONE
+        self.show(f"testing {self.testing.finished}: {counts(work.goal.want)}; would come {counts(plan.come)}; "
+                  f"would go {counts(plan.go)}{work.held_back}")
+        return Exit.NEGATIVE if work.held or not plan.is_empty else Exit.DONE
 
     def apply(self) -> int:
-        """Makes testing what the office wants: status 0 if it then is, 1 if something is held back."""
-        plan, have = self.plan()
-        before = self.difference(plan.want, have)
-        self.terms.check(plan.want, have, before, self.testing.sources)
-        if not before.missing.is_empty:
-            self.manager.copy(before.missing)
-            have = self.manager.testing()
-            self.check_came(before.missing.without(have))
-        excess = difference(plan.want, have).excess
-        if not excess.is_empty:
-            self.manager.remove(excess)
-            have = self.manager.testing()
-        left = difference(plan.want, have)
-        for line in left.lines():
-            self.show(line)
-        if not left.is_empty:
+        """Makes testing what the office wants: status 0 if it then is, 1 if something is held back.
+
+        The plan is made again after all is copied, and again after all is removed: then it has to be empty.
+        """
+        work = self.work()
+        first = plan = self.terms.plan(work.goal, work.have, work.origin)
+        if not plan.come.is_empty:
+            self.manager.copy(plan.come)
+            work, plan = self.again(work)
+            self.check_came(plan.come)
+        if not plan.go.is_empty:
+            self.manager.remove(plan.go)
+            work, plan = self.again(work)
+        if not plan.is_empty:
+            for line in plan.lines():
+                self.show(line)
             self.tell("testing isn't published: it isn't what the office wants")
             return Exit.NEGATIVE
-        self.publish(have)
-        for line in (*(f"came: {line}" for line in before.missing.lines()),
-                     *(f"went: {line}" for line in before.excess.lines())):
+        self.publish(work.have)
+        for line in moves(first, "came", "went"):
             self.show(line)
-        self.show(f"testing {self.testing.finished}: {counts(plan.want)}; came {counts(before.missing)}; "
-                  f"went {counts(before.excess)}{held_back(plan)}")
-        return Exit.NEGATIVE if plan.held else Exit.DONE
+        self.show(f"testing {self.testing.finished}: {counts(work.goal.want)}; came {counts(first.come)}; "
+                  f"went {counts(first.go)}{work.held_back}")
+        return Exit.NEGATIVE if work.held else Exit.DONE
+
+    def again(self, work: Work) -> tuple[Work, Plan]:
+        """The plan over what testing has now. What is refused now wasn't before: something else changed testing."""
+        found = work.over(self.manager.testing())
+        try:
+            return found, self.terms.plan(found.goal, found.have, found.origin)
+        except Fault as fault:
+            raise Fault(f"testing isn't published: {fault.cause}", Exit.FAILED) from fault
 
     def publish(self, have: Contents) -> None:
         """Publishes testing, if clients see something else."""
@@ -71,59 +97,64 @@ class Turn:
                 raise Fault("testing is published, but its indexes are incomplete or not in the expected place",
                             Exit.FAILED)
 
-    def plan(self) -> tuple[Plan, Contents]:
-        """What testing is made, and what it has. What is held back or has no source is printed."""
+    def work(self) -> Work:
+        """What testing is made, and of what. What is held back, has no source or is left alone is printed."""
         want = wanted(self.testing, self.manager.architectures(), self.manager.indexes)
         have = self.manager.testing()
         check_taken(want, have)
-        missing = difference(want, have).missing
-        if missing.is_empty:
-            return Plan(want), have
-        origin = self.manager.origin()
+        goal, origin, held = target(want, have), Contents(), Held(want)
+        if not lacking(goal, have, origin).is_empty:
+            origin = self.manager.origin()
+            held = self.held_back(goal, have, origin)
+            check_taken(held.want, have)
+            goal = target(held.want, have)
+        tell_alone(goal, self.tell)
+        return Work(goal, have, origin, held.why)
+
+    def held_back(self, goal: Target, have: Contents, origin: Contents) -> Held:
+        """What the office wants without what can't be copied, and without what needs that."""
         for kind, count in sorted(origin.other_kinds.items()):
             self.tell(f"left out: {count} packages of the kind {kind}: the office decides about none of them")
-        bare = without_source(want, have, origin)
+        lacks = lacking(goal, have, origin)
+        bare = without_source(lacks, goal.want, have, origin)
         if bare:
-            names = listed([" ".join(source) for source in sorted(bare)])
+            names = named([" ".join(source) for source in sorted(bare)])
             self.tell(f"no version of these sources is in the archive, and their packages come without: {names}")
-        want = Contents(want.sources - bare, want.rows, want.built_of)
-        absent = lacking(difference(want, have).missing, want, origin)
-        plan = Holding(want, have, self.evidence).plan(absent) if absent else Plan(want)
-        for name, why in plan.held.items():
+        want = goal.want.made_of(goal.want.items - bare)
+        absent = incomplete(Contents(lacks.sources - bare, lacks.rows), want)
+        found = Holding(want, have, self.evidence).held_with(absent) if absent else Held(want)
+        for name, why in found.why.items():
             version = self.testing.sources.get(name, "")
             self.tell(f"held back: {name}{' ' if version else ''}{version}: {why}")
-        return plan, have
-
-    def difference(self, want: Contents, have: Contents) -> Difference:
-        """How testing differs; the sources that are left alone are reported."""
-        check_taken(want, have)
-        found = difference(want, have)
-        tell_idle(found, self.tell)
         return found
 
-    def check_came(self, lacking: Contents) -> None:
+    def check_came(self, lacks: Contents) -> None:
         """Ends the turn, before anything is taken out, if something that was copied is missing."""
-        lines = list(lacking.lines())
+        lines = list(lacks.lines())
         for line in lines:
             self.tell(f"the manager didn't copy {line}")
         if lines:
             raise Fault("nothing is taken out of testing, and nothing is published", Exit.FAILED)
 
 
-def tell_idle(found: Difference, tell: Callable[[str], None]) -> None:
+def moves(plan: Plan, come: str, go: str) -> Iterator[str]:
+    """A line for each source and each row that comes or goes."""
+    yield from (f"{come}: {line}" for line in plan.come.lines())
+    yield from (f"{go}: {line}" for line in plan.go.lines())
+
+
+def tell_alone(goal: Target, tell: Callable[[str], None]) -> None:
     """Reports what is left alone."""
-    older = dict.fromkeys((row.name, row.version) for row in found.older)
-    for what, names in (("sources of which testing has no package, or packages that stay", found.idle),
-                        ("older packages of all, with which packages that stay were built", list(older))):
+    alone: Mapping[str, Sequence[Item]] = {
+        "sources of which testing has no package, or packages that stay": goal.idle,
+        "older packages of all, with which packages that stay were built": goal.older,
+        "versions that no package may have": goal.odd}
+    for what, items in alone.items():
+        names = list(dict.fromkeys(f"{item.name} {item.version}" for item in items))
         if names:
-            tell(f"left alone: {what}: {listed([' '.join(name) for name in names])}")
+            tell(f"left alone: {what}: {named(names)}")
 
 
 def counts(contents: Contents) -> str:
     """How many sources and rows there are; a row of `all` counts once for each index."""
     return f"{len(contents.sources)} sources, {len(contents.rows)} packages"
-
-
-def held_back(plan: Plan) -> str:
-    """How many sources are held back, if any are."""
-    return f"; held back {len(plan.held)} sources" if plan.held else ""

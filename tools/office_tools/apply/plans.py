@@ -1,0 +1,194 @@
+"""Plans of the program `office-plan`, from which all that is done to a suite comes.
+
+It is proved that after the plan of three lists the suite has what the target has, or that there is no plan
+(office-plan(1)). A list has one version of a name on an architecture. A suite may have more: then the others have lines
+of their own, whose architecture says which version they are. Where the manager has packages of `all` in each index,
+their architecture says in which.
+"""
+import contextlib
+import os
+import re
+import subprocess
+from dataclasses import dataclass
+from typing import Iterable, Iterator, Mapping, Optional, Sequence
+
+from office_tools import versions
+from office_tools.apply.contents import Contents, Item, Source, Target, contents_of
+from office_tools.faults import Exit, Fault, cause_of
+
+SECONDS = 3600
+SOURCE = "source"
+MOST = 1_000_000_000  # that may leave, as office-plan takes it
+
+BAD_LINE = re.compile("line ([0-9]+): ")
+
+Key = tuple[str, str]
+"""An architecture, or `source`, and a name."""
+
+
+def program() -> str:
+    """The program's name: `office-plan`, or what the environment's OFFICE_PLAN states."""
+    return os.environ.get("OFFICE_PLAN") or "office-plan"
+
+
+@dataclass(frozen=True)
+class Plan:
+    """What is copied into a suite, and what is removed from it after that."""
+
+    come: Contents
+    go: Contents
+
+    @property
+    def is_empty(self) -> bool:
+        """Whether the suite is what it is to be."""
+        return self.come.is_empty and self.go.is_empty
+
+    def lines(self) -> Iterator[str]:
+        """A line for each source and each row that differs."""
+        yield from ("missing: " + line for line in self.come.lines())
+        yield from ("too much: " + line for line in self.go.lines())
+
+
+@dataclass(frozen=True)
+class Answer:
+    """What the program prints of three lists: a plan, or what can't be copied, goes lower, or how many leave."""
+
+    plan: Optional[Plan] = None
+    lacks: Contents = Contents()
+    lower: Sequence[Item] = ()
+    leaving: int = 0
+
+
+def key_of(item: Item) -> Key:
+    """The architecture and the name in the line of an item."""
+    if isinstance(item, Source):
+        return SOURCE, item.name
+    if item.place == item.architecture:
+        return item.place, item.name
+    return f"{item.architecture}/{item.place}", item.name
+
+
+def line_of(item: Item, is_first: bool) -> str:
+    """The line of an item, or that of another version of what has a line already."""
+    architecture, name = key_of(item)
+    line = f"{name} {item.version} {architecture}"
+    return line if is_first else f"{line}={item.version}"
+
+
+def greatest(items: Iterable[Item]) -> Mapping[Key, Item]:
+    """The item with the greatest version of each key."""
+    found: dict[Key, Item] = {}
+    for item in items:
+        key = key_of(item)
+        other = found.setdefault(key, item)
+        if other is not item and versions.compare(item.version, other.version) > 0:
+            found[key] = item
+    return found
+
+
+@dataclass(frozen=True)
+class Lists:
+    """The lists of what a suite is to have, of what it has, and of what can be copied: the item of each line.
+
+    `first` has the item of the suite that stands for a key, `gone` the keys that leave for good. `others` counts the
+    lines of further versions that go. What is there already is never copied.
+    """
+
+    target: Mapping[str, Item]
+    suite: Mapping[str, Item]
+    origin: Mapping[str, Item]
+    first: Mapping[Key, Item]
+    gone: frozenset[Key]
+    others: int
+    there: Contents
+
+
+def listed(goal: Target, have: Contents, origin: Contents) -> Lists:
+    """The lists for a suite. What can be copied is listed as far as the suite is to have it.
+
+    If the suite has a version above the wanted one, that version stands for it, also if it has the wanted one, too. So
+    the program sees that the suite would go to a lower version.
+    """
+    due = goal.contents.items - frozenset(goal.odd)
+    there = have.items - frozenset(goal.odd)
+    copied = origin.items | there
+    wanted = greatest(goal.want.items)
+    surplus = there - due
+    first = {key: item for key, item in wanted.items() if item in there}
+    for key, item in greatest(surplus).items():
+        if key not in first or versions.compare(item.version, first[key].version) > 0:
+            first[key] = item
+    hidden = {item for key, item in wanted.items() if first.get(key) != item}
+    chosen, best = set(first.values()), set(wanted.values())
+    suite = {line_of(item, item in chosen): item for item in there - hidden}
+    target = {line_of(item, item in best): item for item in due}
+    source = {line: item for line, item in target.items() if item in copied}
+    gone = first.keys() - {key for key, item in wanted.items() if item in due}
+    return Lists(target, suite, source, first, frozenset(gone), len(surplus - chosen), have)
+
+
+def ask(lists: Lists, gone: int, is_back: bool) -> Answer:
+    """What the program says of lists. At most so many may leave, and none goes to a lower version unless allowed."""
+    words = ["--gone", str(min(gone + lists.others, MOST)), *(["--back"] if is_back else [])]
+    told = run([list(lists.target), list(lists.suite), list(lists.origin)], words)
+    try:
+        return answer_of(told, lists)
+    except (KeyError, ValueError) as fault:
+        raise Fault(f"{program()}: it prints {fault.args[0]!r}", Exit.FAILED) from fault
+
+
+def answer_of(told: Sequence[str], lists: Lists) -> Answer:
+    """What the lines say that the program prints of lists."""
+    found: dict[str, list[str]] = {"copy": [], "remove": [], "lacks": [], "lower": [], "leaving": []}
+    for line in told:
+        kind, _, rest = line.partition(" ")
+        found[kind].append(rest)
+    plan = Plan(contents_of(lists.target[line] for line in found["copy"]).without(lists.there),
+                contents_of(lists.suite[line] for line in found["remove"]))
+    is_refused = found["lacks"] or found["lower"] or found["leaving"]
+    return Answer(None if is_refused else plan, contents_of(lists.target[line] for line in found["lacks"]),
+                  [lists.target[line] for line in found["lower"]],
+                  sum(int(count) - lists.others for count in found["leaving"]))
+
+
+def run(lists: Sequence[Sequence[str]], words: Sequence[str]) -> Sequence[str]:
+    """The lines of a plan, or those that say why there is none. The lists are files in memory: none is left behind."""
+    with contextlib.ExitStack() as stack:
+        files = [stack.enter_context(open(os.memfd_create("list"), "wb")) for _ in lists]
+        for file, lines in zip(files, lists):
+            file.write("".join(f"{line}\n" for line in lines).encode())
+            file.flush()
+        numbers = [file.fileno() for file in files]
+        paths = [f"/proc/self/fd/{number}" for number in numbers]
+        try:
+            ran = subprocess.run([program(), *paths, *words], stdin=subprocess.DEVNULL, capture_output=True,
+                                 timeout=SECONDS, check=False, pass_fds=numbers)
+        except (OSError, subprocess.TimeoutExpired) as fault:
+            raise Fault(f"{program()}: {cause_of(fault)}", Exit.FAILED) from fault
+    if ran.returncode == 0 or (ran.returncode == Exit.REFUSED and ran.stdout):
+        return ran.stdout.decode().split("\n")[:-1]
+    told = ran.stderr.decode(errors="backslashreplace").strip().split("\n")[-1] or f"status {ran.returncode}"
+    cause = cause_in(told.removeprefix("office-plan: "), paths, lists)
+    raise Fault(f"{program()}: {cause}", Exit.REFUSED if ran.returncode == Exit.REFUSED else Exit.FAILED)
+
+
+def cause_in(told: str, paths: Sequence[str], lists: Sequence[Sequence[str]]) -> str:
+    """What the program says of a file, with the line in place of its number."""
+    path, _, cause = told.partition(": ")
+    found = BAD_LINE.match(cause)
+    if path not in paths:
+        return told
+    return f"{lists[paths.index(path)][int(found[1]) - 1]!r}: {cause[found.end():]}" if found else cause
+
+
+def lacking(goal: Target, have: Contents, origin: Contents) -> Contents:
+    """What is missing in a suite and can't be copied."""
+    return ask(listed(goal, have, origin), MOST, True).lacks
+
+
+def plan_to(goal: Target, have: Contents) -> Plan:
+    """How a suite becomes what it is to be, if all can be copied and all is allowed."""
+    found = ask(listed(goal, have, goal.contents), MOST, True).plan
+    if found is None:
+        raise Fault(f"{program()}: it has no plan where all can be copied", Exit.FAILED)
+    return found
