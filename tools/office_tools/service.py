@@ -183,7 +183,7 @@ class Service:
     def proposed(self, day: Optional[datetime.date] = None) -> Optional[str]:
         """The hints for groups that the office proposes, one a line; None if no run is finished and no day is stated.
 
-        With a day they are those for a run on that day or later over all mail without a gap, as its order would have it.
+        With a day they are those for a run on that day or later over all mail without a gap, as an order covers it.
         """
         path = f"/propose/{day.isoformat()}" if day else "/propose"
         reply = self.get(path)

@@ -39,7 +39,7 @@ class Aptly:
         try:
             return os.path.expanduser(str(json.loads(self.aptly("config", "show"))["rootDir"]))
         except (ValueError, TypeError, KeyError) as fault:
-            raise Fault(f"{self.config}: aptly shows no rootDir of it", REFUSED) from fault
+            raise Fault(f"{self.config}: aptly shows no rootDir of it", Exit.REFUSED) from fault
 
     def folder(self) -> str:
         """Where aptly publishes testing."""
