@@ -4,7 +4,7 @@ They are kept by what the test itself did, by docs/RULES.md, part 12.2, and neve
 """
 import datetime
 from collections import defaultdict
-from dataclasses import dataclass, field
+from dataclasses import dataclass, field, replace
 from typing import Iterator, Mapping, Optional, Sequence
 
 import apt_pkg
@@ -79,6 +79,12 @@ class Books:
         for package in upload.packages:
             for own in ("all",) if package.is_all else upload.architectures:
                 self.rows[package.name, own] = upload.source, upload.version, package.depends
+
+    def seen_late(self, first: str, day: str) -> None:
+        """What came since a first day was seen on a later one, since nothing looked at unstable before."""
+        for source, found in self.arrivals.items():
+            self.arrivals[source] = [replace(arrival, day=day) if arrival.day >= first else arrival
+                                     for arrival in found]
 
     def leave(self, source: str) -> None:
         """A source leaves unstable."""

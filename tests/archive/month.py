@@ -1,12 +1,13 @@
 #!/usr/bin/python3
 """A seeded month of a real archive that the office runs, with faults; after each day testing is checked.
 
-Usage: month.py OFFICE [--all] [--seed N] [--days N] [--manager reprepro|aptly] [--quiet] [--fault NAME]..
+Usage: month.py OFFICE [--all] [--seed N] [--days N] [--manager reprepro|aptly] [--quiet] [--events] [--fault NAME]..
 
 Without further words it lives a short month of six days. `--all` lives three of thirty days with reprepro, and one
 with aptly. With `--quiet` no fault is made, with `--fault` this one alone (of troubles.py), on the second day, and
 little else happens. Each day has a line, and each month in the end
-`month SEED: N days, M faults, P problems`. The exit status is 1 if there is a problem.
+`month SEED: N days, M faults, P problems`. With `--events` all that people do is printed, too. The exit status is 1 if
+there is a problem.
 """
 import argparse
 import os
@@ -77,23 +78,23 @@ def is_skipped(month: Simulation, running: list[Steps]) -> bool:
     return is_asked
 
 
-def month_of(program: str, world: World, manager: str, days: int, begins: Mapping[int, Sequence[Trouble]]) -> bool:
+def month_of(program: str, world: World, asked: argparse.Namespace, begins: Mapping[int, Sequence[Trouble]]) -> bool:
     """Lives a month in a folder of its own, and says whether there was no problem."""
     folder = tempfile.mkdtemp(prefix="month-")
     is_mounted = os.getuid() == 0 and subprocess.run(["mount", "-t", "tmpfs", "-o", f"size={ROOM}", "tmpfs", folder],
                                                      capture_output=True, check=False).returncode == 0
     month = None
     try:
-        month = begun(program, folder, manager, world)
-        month.has_disk = is_mounted
-        live(month, days, begins)
+        month = begun(program, folder, asked.manager, world)
+        month.has_disk, month.is_loud = is_mounted, asked.events
+        live(month, asked.days, begins)
     finally:
         if month is not None:
             month.stage.office.stop()
         if is_mounted:
             subprocess.run(["umount", "-l", folder], check=False)
         shutil.rmtree(folder, ignore_errors=True)
-    print(f"month {world.seed}: {days} days, {month.faults} faults, {len(month.problems)} problems", flush=True)
+    print(f"month {world.seed}: {asked.days} days, {month.faults} faults, {len(month.problems)} problems", flush=True)
     return not month.problems
 
 
@@ -106,17 +107,21 @@ def main(words: Sequence[str]) -> int:
     known.add_argument("--days", type=int, default=SHORT)
     known.add_argument("--manager", choices=("reprepro", "aptly"), default="reprepro")
     known.add_argument("--quiet", action="store_true")
+    known.add_argument("--events", action="store_true")
     known.add_argument("--fault", action="append", default=[], metavar="NAME")
     asked = known.parse_args(words)
     program = os.path.abspath(asked.office)
     signal.signal(signal.SIGTERM, lambda number, _: sys.exit(128 + number))  # so that what was begun is cleared away
     if asked.all:
-        return int(not all([month_of(program, World(seed, 2), manager, LONG, troubles.USUAL)
-                            for seed, manager in SEEDS]))
+        asked.days = LONG
+        good = []
+        for seed, asked.manager in SEEDS:
+            good.append(month_of(program, World(seed, 2), asked, troubles.USUAL))
+        return int(not all(good))
     begins = {} if asked.quiet else plan(asked.days, asked.fault)
     busy = (0, 1) if asked.fault else (2, 5)
     world = World(asked.seed, 2 if asked.days >= LONG else 1, busy)
-    return int(not month_of(program, world, asked.manager, asked.days, begins))
+    return int(not month_of(program, world, asked, begins))
 
 
 if __name__ == "__main__":

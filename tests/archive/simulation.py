@@ -13,7 +13,7 @@ from judge import Books, Testing
 from loop import MANAGERS, archived
 from packages import BOTH
 from stage import COMMANDS, Failed, Office, Stage, command, run
-from world import Bug, Come, Cut, Event, Hint, Leave, Unhint, World, day_text
+from world import Bug, Come, Cut, Event, Hint, Leave, Unhint, World, day_text, shown
 
 REBUILT = re.compile(r"\+b[0-9]+$")
 BACK = re.compile(r"\+back[0-9]+(?:\.(.*))?$")
@@ -82,6 +82,7 @@ class Simulation:
     """The sources that the archive lacks as an order saw them, each with the last day of that."""
     sourceless: set[str] = field(default_factory=set)  # packages whose source the archive never had
     has_disk: bool = False
+    is_loud: bool = False  # prints each event
     problems: list[str] = field(default_factory=list)
     told: list[str] = field(default_factory=list)
     faults: int = 0
@@ -111,6 +112,8 @@ class Simulation:
 
     def do(self, event: Event) -> None:
         """Does what an event says, and enters it into the books."""
+        if self.is_loud:
+            print(f"  {shown(event)}", flush=True)
         if isinstance(event, Come):
             self.books.come(event.upload, self.today)
             self.stage.takes([event.upload])
@@ -236,8 +239,9 @@ class Simulation:
         for source, days in self.books.waits.items():
             if days == PATIENCE + 1:
                 why = self.stage.office.service.get(f"/why/{source}").text.splitlines()[:9]
+                came = [f"{arrival.version} {arrival.urgency} {arrival.day}" for arrival in self.books.arrivals[source]]
                 self.problem(f"source {source} {self.books.unstable[source]} waits since {days} days without a reason: "
-                             + "; ".join(why))
+                             f"{'; '.join(why)}; it came as {', '.join(came[-4:])}")
 
 
 def ran_by(name: str, *words: str, clock: str = "") -> Ran:

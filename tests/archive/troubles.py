@@ -82,6 +82,13 @@ def refused(month: Simulation, may_be: Sequence[int] = (3,), clock: str = "") ->
     return ran
 
 
+def accepted(month: Simulation) -> None:
+    """The day's command up to its order: what came is decided, and isn't applied yet."""
+    month.look_at(ran_by("office-apply", *month.stage.apply_words()), (0, 1))
+    month.stage.line = month.stage.archive.ready()
+    month.look_at(ran_by("office-feed", *month.stage.feed_words(month.today, "--propose")), (0, 1))
+
+
 def withdraw(month: Simulation, kept: Kept, before: Kept) -> None:
     """The last upload of a source is withdrawn."""
     month.stage.archive.withdraw(kept.name, kept.version)
@@ -112,8 +119,7 @@ def withdrawn_late(month: Simulation) -> Steps:
     kept = settled(month)
     before = dataclasses.replace(kept)
     renewed(month, kept, "critical")
-    month.stage.line = month.stage.archive.ready()
-    month.look_at(ran_by("office-feed", *month.stage.feed_words(month.today, "--propose")), (0, 1))
+    accepted(month)
     withdraw(month, kept, before)
     month.stage.archive.ready()
     month.lacks[kept.name] = month.number + 1
@@ -168,6 +174,17 @@ def own_date(month: Simulation) -> Steps:
     renewed(month, kept, "medium", day=day_text(month.number - 30))
     month.world.untouched.discard(kept.name)
     yield None
+
+
+def replaced(month: Simulation) -> Steps:
+    """A critical upload is replaced on the same day by one of low urgency. The greater urgency counts."""
+    kept = settled(month)
+    renewed(month, kept, "critical")
+    renewed(month, kept, "low")
+    yield None
+    if month.testing.sources.get(kept.name) != kept.version:
+        month.problem(f"{kept.name} {kept.version} isn't in testing, which replaced a critical upload")
+    month.world.untouched.discard(kept.name)
 
 
 def came_back(month: Simulation) -> Steps:
@@ -264,8 +281,7 @@ def missed_apply(month: Simulation) -> Steps:
     """What was ordered isn't applied that day, and on the next there is a newer version. Nothing is lost."""
     kept = settled(month)
     first = renewed(month, kept, "critical")
-    month.stage.line = month.stage.archive.ready()
-    month.look_at(ran_by("office-feed", *month.stage.feed_words(month.today, "--propose")), (0, 1))
+    accepted(month)
     yield SKIP
     renewed(month, kept, "low")
     month.day()
@@ -437,9 +453,11 @@ def numbers(month: Simulation) -> Mapping[str, int]:
 
 
 def nothing_run(month: Simulation) -> Steps:
-    """Nothing runs for three days."""
+    """Nothing runs for three days. What came meanwhile is as old as the day after them."""
+    first = month.today
     for _ in range(3):
         yield SKIP
+    month.books.seen_late(first, month.today)
     yield None
 
 
@@ -649,6 +667,6 @@ USUAL: Mapping[int, Sequence[Trouble]] = {
     17: [put_back_old], 18: [strange_blank, strange_field], 19: [killed_service, hasty], 20: [needed_gone, gap],
     21: [nothing_run], 24: [clock_back, truncated], 25: [full_disk]}
 BRIEF: Mapping[int, Sequence[Trouble]] = {
-    1: [withdrawn, bad_changes], 2: [restored, conflict], 3: [short_index], 4: [listed],
+    1: [withdrawn, bad_changes], 2: [restored, conflict], 3: [short_index], 4: [listed, replaced],
     5: [killed_feed, strange_blank], 6: [gap]}
 """On which days which faults begin, in a long month and in a short one."""

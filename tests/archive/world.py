@@ -75,6 +75,13 @@ Event = Union[Come, Leave, Cut, Bug, Hint, Unhint]
 Job = Callable[[], Iterator[Event]]
 
 
+def shown(event: Event) -> str:
+    """An event in a line."""
+    if not isinstance(event, Come):
+        return str(event)
+    return f"{event.upload.name} {event.upload.urgency} {' '.join(event.upload.architectures)}"
+
+
 @dataclass
 class Kept:
     """A source in unstable: its version, the templates of its packages, and how often it was rebuilt.

@@ -75,11 +75,15 @@ def shown(text: str) -> str:
     return text[:60] if text[:60].isprintable() else ascii(text[:60])[1:-1]
 
 
+CHANGES_FIELDS = ("Source", "Version", "Architecture", "Urgency", "Date", "Distribution")
+
+
 @dataclass(frozen=True)
 class Changes:
     """What a file `.changes` says of an upload: the urgency's first word, and the date as it is written.
 
-    `has_source` says whether it brings the source, and not what was built alone.
+    `has_source` says whether it brings the source, and not what was built alone. `distribution` has the suites for
+    which it was made, as its uploader calls them.
     """
 
     source: str
@@ -87,6 +91,7 @@ class Changes:
     has_source: bool
     urgency: Optional[str]
     date: Optional[str]
+    distribution: str = ""
 
 
 def read_changes(path: str) -> Changes:
@@ -96,7 +101,7 @@ def read_changes(path: str) -> Changes:
     """
     try:
         fields = deb822.Changes(io.BytesIO(read_regular(path).decode(errors="backslashreplace").encode()))
-        found = {name: str(fields.get(name, "")) for name in ("Source", "Version", "Architecture", "Urgency", "Date")}
+        found = {name: str(fields.get(name, "")) for name in CHANGES_FIELDS}
     except Fault:
         raise
     except Exception as fault:  # the library has faults of many types, and no file may end the command
@@ -106,7 +111,7 @@ def read_changes(path: str) -> Changes:
         raise Fault(f"{path}: it states no source and version")
     urgency = words["Urgency"]
     return Changes(words["Source"][0], found["Version"], "source" in words["Architecture"],
-                   urgency[0].lower() if urgency else None, found["Date"] or None)
+                   urgency[0].lower() if urgency else None, found["Date"] or None, " ".join(words["Distribution"]))
 
 
 def split_at_white(value: str) -> Sequence[str]:

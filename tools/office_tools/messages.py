@@ -53,6 +53,11 @@ class Urgency(enum.Enum):
     CRITICAL = "critical"
 
 
+def rank(urgency: Urgency) -> int:
+    """The place of an urgency among all of them, from the least one on."""
+    return list(Urgency).index(urgency)
+
+
 class Severity(enum.Enum):
     """How severe a bug is. The first three are release-critical."""
 

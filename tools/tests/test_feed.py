@@ -9,7 +9,9 @@ import unittest
 from helpers import SETUP, Serving, needs_office, tool
 from office_tools import bags, messages
 from office_tools.feed.mailbox import Outgoing
-from office_tools.messages import Label, label_of, paragraphs
+from office_tools.feed.news import replaced
+from office_tools.from_packages.sources import Arrival
+from office_tools.messages import Label, Urgency, label_of, paragraphs
 from office_tools.service import Kept, Service
 
 CHANGES = """Format: 1.8
@@ -180,6 +182,72 @@ class Feeds(Feeding):
         fcntl.flock(number, fcntl.LOCK_EX)
         self.assertIn("another office-feed works for this office", self.feed(FIRST, "2025-03-03", status=3)[1][-1])
         os.close(number)
+
+
+class Replaced(unittest.TestCase):
+    """Which upload counts that a newer one replaced before a feed saw it."""
+
+    def replaced(self, uploads, told="1"):
+        """That of uploads `version urgency distribution`, the last of which is the one that the archive has."""
+        known = {}
+        for line in uploads:
+            version, urgency, *distribution = line.split()
+            known[version] = Arrival(Urgency(urgency), "2025-03-05", " ".join(distribution))
+        return replaced(known, version, told)
+
+    def test_the_most_urgent_one(self):
+        self.assertEqual(self.replaced(["2 high sid", "3 critical sid", "4 medium sid", "5 low sid"]), "3")
+        self.assertEqual(self.replaced(["2 high sid", "3 high sid", "4 low sid"]), "3")
+        self.assertEqual(self.replaced(["2 high sid", "3 low sid"], told=None), "2")
+
+    def test_none(self):
+        self.assertIsNone(self.replaced(["2 medium sid", "3 medium sid"]))
+        self.assertIsNone(self.replaced(["2 low sid", "3 high sid"]))
+        self.assertIsNone(self.replaced(["1 critical sid", "2 low sid"]), "it was sent")
+        self.assertIsNone(self.replaced(["9 critical sid", "2 low sid"]), "it is above the archive's")
+        self.assertIsNone(replaced({"2": Arrival(Urgency.HIGH, "2025-03-05", "sid")}, "3", "1"), "3 has no file")
+
+    def test_uploads_to_other_suites(self):
+        self.assertIsNone(self.replaced(["2 high experimental", "3 low sid"]))
+        self.assertEqual(self.replaced(["2 critical experimental", "3 high sid", "4 low sid"]), "3")
+
+    def test_files_without_a_distribution(self):
+        """They brought no source, or say too little."""
+        self.assertIsNone(self.replaced(["2 high", "3 low sid"]))
+        self.assertIsNone(self.replaced(["2 high", "3 low"]))
+
+    def test_what_is_no_version(self):
+        self.assertIsNone(self.replaced(["2_1 high sid", "3 low sid"]))
+
+
+@needs_office
+class Replacing(Feeding):
+
+    def changes(self, version, urgency, distribution="unstable", architecture="source"):
+        text = CHANGES.replace("Version: 1", f"Version: {version}").replace("Urgency: high", f"Urgency: {urgency}")
+        self.file(f"changes/lib_{version}_{architecture}.changes", text.replace("source amd64", architecture) +
+                  f"Distribution: {distribution}\n")
+
+    def test_its_urgency_counts(self):
+        """Three uploads on a day, one of them to another suite, and what was built of one of them alone."""
+        more = ("--changes", self.path("changes"))
+        self.changes(1, "medium")
+        self.feed(FIRST, "2025-03-03", *more)
+        self.changes(2, "high")
+        self.changes(3, "critical", "experimental")
+        self.changes(4, "critical", architecture="amd64")
+        self.changes(5, "low")
+        newer = FIRST.replace("Source: lib\nVersion: 1", "Source: lib\nVersion: 5")
+        printed, told = self.feed(newer, "2025-03-08", *more)
+        self.assertEqual(printed[0], "uploads 2, drops 0, builds 1, hints 0, unhints 0, orders 1")
+        self.assertIn("office-feed: source lib 2: it was replaced before a feed saw it; its urgency, high, counts",
+                      told)
+        plain = b"From: ftp\nNumber: %d\nKind: upload\nSource: lib\nVersion: %d\nUrgency: %s\nDay: 2025-03-08\n"
+        self.assertEqual([self.service.kept_text("ftp", number) for number in (3, 4)],
+                         [plain % (3, 2, b"high"), plain % (4, 5, b"low")])
+        self.assertIn("lib - 5\n age 0 of 2\n too young\n", self.service.good_text("/excuses/2"))
+        self.assertEqual(self.feed(newer, "2025-03-08", *more)[0][0],
+                         "uploads 0, drops 0, builds 0, hints 0, unhints 0, orders 0")
 
 
 KNOT = "".join(package(name, "1", depends=other, architecture=arch) for arch in ("amd64", "arm64")

@@ -243,6 +243,14 @@ class Changes(Folder):
             with self.assertRaisesRegex(Fault, "No such file"):
                 later.read(self.path("none.changes"))
 
+    def test_what_an_older_version_wrote(self):
+        """It read fewer fields, so the file is read again."""
+        path = self.file("one.changes", CHANGES + "Distribution: unstable\n")
+        first = ChangesRead({})
+        self.assertEqual(first.read(path).distribution, "unstable")
+        del first.now[path]["distribution"]
+        self.assertEqual(ChangesRead(first.now).read(path).distribution, "unstable")
+
 
 class Restoring(Folder):
 

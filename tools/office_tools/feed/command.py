@@ -176,7 +176,7 @@ class Turn:
         found = read_arrivals(self.asked.changes, arrived, self.changes.read)
         if not feed.box.known.last_day:
             return found
-        return {upload: Arrival(arrival.urgency, self.day.isoformat()) for upload, arrival in found.items()}
+        return {upload: replace(arrival, day=self.day.isoformat()) for upload, arrival in found.items()}
 
     def send(self, feed: Feed, found: News) -> None:
         """Sends what is new, and orders the runs."""

@@ -61,17 +61,17 @@ class ChangesRead:
             raise Fault(f"{path}: {cause_of(fault)}") from fault
         state = f"{kept.st_mtime_ns} {kept.st_size} {kept.st_ino}"
         part = self.before.get(path, {})
-        if part.get("state") != state:
+        if part.get("state") != state or "distribution" not in part:
             part = {"state": state, **written(read_changes(path))}
         self.now[path] = part
         return Changes(part.get("source", ""), part.get("version", ""), part.get("has_source") == "yes",
-                       part.get("urgency") or None, part.get("date") or None)
+                       part.get("urgency") or None, part.get("date") or None, part.get("distribution", ""))
 
 
 def written(changes: Changes) -> dict[str, str]:
     """What a file .changes says, as texts."""
     return {"source": changes.source, "version": changes.version, "has_source": "yes" if changes.has_source else "no",
-            "urgency": changes.urgency or "", "date": changes.date or ""}
+            "urgency": changes.urgency or "", "date": changes.date or "", "distribution": changes.distribution}
 
 
 def parts_of(found: Any) -> dict[str, dict[str, str]]:

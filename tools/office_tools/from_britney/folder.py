@@ -12,12 +12,11 @@ from office_tools.faults import Exit, Fault
 from office_tools.files import read_bytes
 from office_tools.from_britney.told import tell
 from office_tools.from_packages.sources import Arrival, Arrivals
-from office_tools.messages import Urgency
+from office_tools.messages import Urgency, rank
 
 PACKAGES = "Packages_"
 EPOCH = datetime.date(1970, 1, 1)
 MOST_DAYS = 2932896  # up to 9999-12-31
-ORDER: Sequence[Urgency] = (Urgency.LOW, Urgency.MEDIUM, Urgency.HIGH, Urgency.EMERGENCY, Urgency.CRITICAL)
 DAYS = re.compile(r"[0-9]{1,7}")
 
 
@@ -98,10 +97,10 @@ class Folder:
             urgency = urgency_of(word)
             if urgency is not None and is_between(testing.get(name), version, unstable.get(name)):
                 known = urgencies.get(name)
-                urgencies[name] = urgency if known is None else max(known, urgency, key=ORDER.index)
+                urgencies[name] = urgency if known is None else max(known, urgency, key=rank)
         found = {}
         for name, version in unstable.items():
-            urgency = urgencies[name] if name in testing else min(urgencies[name], default.urgency, key=ORDER.index)
+            urgency = urgencies[name] if name in testing else min(urgencies[name], default.urgency, key=rank)
             found[name, version] = Arrival(urgency, days.get((name, version)) or default.day)
         return found
 

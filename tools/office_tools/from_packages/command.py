@@ -1,6 +1,7 @@
 """The command office-from-packages: its words, and what it writes."""
 import argparse
 import os
+from dataclasses import replace
 from typing import Mapping, Sequence
 
 from office_tools import bags, setups, versions
@@ -56,7 +57,7 @@ def main(given: Sequence[str]) -> int:
     arrived = Arrival(Urgency(asked.urgency), str(asked.uploaded))
     known = read_arrivals(asked.changes, arrived)
     if asked.after:  # what is new came since the mail before, whatever its uploader wrote
-        known = {upload: Arrival(arrival.urgency, arrived.day) for upload, arrival in known.items()}
+        known = {upload: replace(arrival, day=arrived.day) for upload, arrival in known.items()}
     arrivals = mail.Uploading(known, arrived, sources.maintainers)
     suites = Suites(current_of(binaries, current), architectures)
     if not asked.with_uninstallable:

@@ -71,10 +71,14 @@ def read_sources(paths: Sequence[str], binaries: Sequence[Binary], read: Reader 
 
 @dataclass(frozen=True)
 class Arrival:
-    """How urgent an upload is, and the day on which it came."""
+    """How urgent an upload is, and the day on which it came.
+
+    `distribution` has the suites for which it was made, if that is known and the source came with it.
+    """
 
     urgency: Urgency
     day: str
+    distribution: str = ""
 
 
 Arrivals = Mapping[tuple[str, str], Arrival]
@@ -129,7 +133,7 @@ def arrival_of(path: str, changes: Changes, default: Arrival) -> Arrival:
         tell(f"{path}: its urgency is taken as {urgency.value}: it states {changes.urgency or 'none'}", Weight.NOTE)
     if day is None:
         tell(f"{path}: its day is taken as {default.day}: its date is {changes.date or 'missing'}", Weight.NOTE)
-    return Arrival(urgency, day or default.day)
+    return Arrival(urgency, day or default.day, changes.distribution if changes.has_source else "")
 
 
 def day_of(date: str) -> Optional[str]:
