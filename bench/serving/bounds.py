@@ -8,6 +8,7 @@ it has (34,000). ROUNDS says how often each is asked (3): a round sends 500 newe
 run over them, and then asks each question. The figures are medians. The removals are of the sources that most of testing
 needs, so that each is refused.
 """
+import datetime
 import os
 import re
 import statistics
@@ -22,6 +23,7 @@ from serving import Server, get, post, post_to
 BAG = os.path.join(HERE, "..", "replay", "bag.py")
 USUAL = ("runs", "34000")
 REMOVED = 12
+DAYS = 20  # between two runs, so that what came for one moves in it
 
 
 def messages_in(bag):
@@ -62,7 +64,8 @@ class Mail:
         covers = b", ".join(b"%s %d" % (sender, number) for sender, number in sorted(self.numbers.items())
                             if sender != b"clock")
         order = re.sub(rb"^Covers: .*$", b"Covers: " + covers, self.numbered(self.order), 1, re.MULTILINE)
-        return newer, order
+        day = datetime.date.fromisoformat(field(order, b"Day").decode()) + datetime.timedelta(DAYS * self.rounds)
+        return newer, re.sub(rb"^Day: .*$", b"Day: " + day.isoformat().encode(), order, 1, re.MULTILINE)
 
 
 def body_of(reply):
