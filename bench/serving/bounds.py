@@ -3,10 +3,10 @@
 
 usage: bounds.py OFFICE [SHAPE [SOURCES]]
 
-OFFICE is the built program, SHAPE one of ../replay/bag.py with runs (`runs` if none is stated), SOURCES how many sources
-it has (34,000). ROUNDS says how often each is asked (3): a round sends 500 newer uploads with their builds and orders a
-run over them, and then asks each question. The figures are medians. The removals are of the sources that most of testing
-needs, so that each is refused.
+OFFICE is the built program, SHAPE one of ../replay/bag.py with runs (`runs` if none is stated), SOURCES how many
+sources it has (34,000). ROUNDS says how often each is asked (3): a round sends 500 newer uploads with their builds and
+orders a run over them, and then asks each question. The figures are medians. The removals are of the sources that most
+of testing needs, so that each is refused.
 """
 import datetime
 import os
@@ -18,7 +18,7 @@ import tempfile
 sys.dont_write_bytecode = True
 HERE = os.path.dirname(os.path.realpath(__file__))
 sys.path.insert(0, HERE)
-from serving import Server, get, post, post_to
+from serving import Server, get, post, post_to  # noqa: E402
 
 BAG = os.path.join(HERE, "..", "replay", "bag.py")
 USUAL = ("runs", "34000")

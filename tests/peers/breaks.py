@@ -16,8 +16,7 @@ import re
 import subprocess
 import sys
 import tempfile
-import time
-from typing import Iterator
+from typing import Iterator, Sequence
 
 TOP = os.path.join(os.path.dirname(os.path.realpath(__file__)), "..", "..")
 sys.path[:0] = [os.path.join(TOP, "tools")]
@@ -26,10 +25,10 @@ sys.dont_write_bytecode = True
 from office_tools import bags  # noqa: E402
 
 
-
-def run(*words: str, given: str = "") -> "subprocess.CompletedProcess[str]":
-    with open(given or os.devnull, "rb") as opened:
-        return subprocess.run(words, stdin=opened, capture_output=True, text=True)
+def run(*words: str, given: str = os.devnull) -> str:
+    """What a command prints."""
+    with open(given, "rb") as opened:
+        return subprocess.run(words, stdin=opened, capture_output=True, text=True).stdout
 
 
 def built(bag: str) -> Iterator[str]:
@@ -41,51 +40,45 @@ def built(bag: str) -> Iterator[str]:
                 yield from packages
 
 
-def broken(index: str) -> set[str]:
-    """The packages of an index that can't be installed."""
-    told = run("dose-debcheck", "--failures", "--explain", index).stdout
-    return set(re.findall(r"^  package: (\S+)$", told, re.MULTILINE))
+def word(text: str, field: str) -> str:
+    """The first word of a field, or nothing."""
+    found = re.search(rf"^{field}: (\S+)", text, re.MULTILINE)
+    return found[1] if found else ""
 
 
-def write(path: str, paragraphs: Iterator[str], without: str) -> None:
-    """An index of the packages of all other sources."""
-    with open(path, "w", encoding="utf-8") as written:
-        for text in paragraphs:
-            source = re.search(r"^Source: (\S+)", text, re.MULTILINE) or re.search(r"^Package: (\S+)", text, re.MULTILINE)
-            assert source is not None, text
-            if source[1] != without:
+def broken(index: str, texts: Sequence[str], without: str = "") -> set[str]:
+    """Which of these packages can't be installed, if those of a source are left out."""
+    with open(index, "w", encoding="utf-8") as written:
+        for text in texts:
+            if (word(text, "Source") or word(text, "Package")) != without:
                 written.write(text + "\n\n")
+    told = run("dose-debcheck", "--failures", "--explain", index)
+    return set(re.findall(r"^  package: (\S+)$", told, re.MULTILINE))
 
 
 def main() -> int:
     office, packages, *sources = sys.argv[1:]
     faults = 0
     with tempfile.TemporaryDirectory() as folder:
-        made, store = os.path.join(folder, "made"), os.path.join(folder, "store")
-        subprocess.run([os.path.join(TOP, "tools", "bin", "office-from-packages"), "--uploaded", "2025-03-01",
-                        "--run", "2025-03-20", made, packages], check=True, stderr=subprocess.DEVNULL, env={**os.environ, "OFFICE": os.path.realpath(office)})
-        conf, bag = os.path.join(made, "setup.conf"), os.path.join(made, "bag")
-        over = ["--conf", conf, "--db", store]
-        run(office, "replay", *over, given=bag)
-        testing = run(office, "report", "testing", *over).stdout
+        made, store, index = (os.path.join(folder, name) for name in ("made", "store", "Packages"))
+        words = ["--uploaded", "2025-03-01", "--run", "2025-03-20", made, packages]
+        subprocess.run([os.path.join(TOP, "tools", "bin", "office-from-packages"), *words], check=True,
+                       stderr=subprocess.DEVNULL, env={**os.environ, "OFFICE": os.path.realpath(office)})
+        over = ["--conf", os.path.join(made, "setup.conf"), "--db", store]
+        run(office, "replay", *over, given=os.path.join(made, "bag"))
+        testing = run(office, "report", "testing", *over)
         versions = dict(re.findall(r"^source (\S+) (\S+)$", testing, re.MULTILINE))
         rows = set(re.findall(r"^binary \S+ (\S+) ", testing, re.MULTILINE))
-        texts = [text for text in built(bag) if re.search(r"^Package: (\S+)", text, re.MULTILINE)[1] in rows]  # type: ignore
-        index = os.path.join(folder, "Packages")
-        write(index, iter(texts), "")
-        before = broken(index)
+        texts = [text for text in built(os.path.join(made, "bag")) if word(text, "Package") in rows]
+        before = broken(index, texts)
         print(f"{len(versions)} sources, {len(texts)} packages, {len(before)} of them not installable")
         for source in sources:
-            begun = time.monotonic()
-            told = run(office, "breaks", f"remove {source}/{versions[source]}", *over).stdout
-            took = time.monotonic() - begun
-            write(index, iter(texts), source)
-            due = broken(index) - before
+            told = run(office, "breaks", f"remove {source}/{versions[source]}", *over)
+            due = broken(index, texts, source) - before
             count = sum(map(int, re.findall(r"^broken \S+ (\d+)$", told, re.MULTILINE)))
-            shown = set(re.findall(r"^uninstallable \S+ (\S+) ", told, re.MULTILINE))
-            is_fault = count != len(due) or not shown <= due
+            is_fault = count != len(due) or not due.issuperset(re.findall(r"^uninstallable \S+ (\S+) ", told, re.M))
             faults += is_fault
-            print(f"{'FAIL ' if is_fault else ''}{source}: {count} break, by dose {len(due)}; {took:.1f} s with the store opened")
+            print(f"{'FAIL ' if is_fault else ''}{source}: {count} break, by dose {len(due)}")
     print(f"{len(sources)} changes, {faults} faults")
     return int(faults > 0)
 
