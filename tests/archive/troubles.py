@@ -87,6 +87,7 @@ def accepted(month: Simulation) -> None:
     month.look_at(ran_by("office-apply", *month.stage.apply_words()), (0, 1))
     month.stage.line = month.stage.archive.ready()
     month.look_at(ran_by("office-feed", *month.stage.feed_words(month.today, "--propose")), (0, 1))
+    month.books.seen(month.today)
 
 
 def withdraw(month: Simulation, kept: Kept, before: Kept) -> None:
@@ -453,11 +454,9 @@ def numbers(month: Simulation) -> Mapping[str, int]:
 
 
 def nothing_run(month: Simulation) -> Steps:
-    """Nothing runs for three days. What came meanwhile is as old as the day after them."""
-    first = month.today
+    """Nothing runs for three days."""
     for _ in range(3):
         yield SKIP
-    month.books.seen_late(first, month.today)
     yield None
 
 
