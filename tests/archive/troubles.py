@@ -570,10 +570,15 @@ def full_disk(month: Simulation) -> Steps:
 
 
 def clock_back(month: Simulation) -> Steps:
-    """The system's clock is twenty days back, and later forty days ahead. Both days are refused."""
+    """The system's clock is twenty days back, and later forty days ahead. Both days are refused.
+
+    An index that is of a later day by that clock, as aptly's is, which has its own, is a fault to apt before that.
+    """
     if shutil.which("faketime"):
         for days in (-20, 40):
-            refused(month, (3,), day_text(month.number + days))
+            ran = refused(month, (3, 4), day_text(month.number + days))
+            if ran.status == 4 and "is not valid yet" not in ran.err:
+                month.problem(f"a wrong clock isn't told:\n{ran.err[-1500:]}")
     else:
         month.note("(no faketime)")
     yield None
