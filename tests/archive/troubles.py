@@ -585,7 +585,10 @@ def clock_back(month: Simulation) -> Steps:
 
 
 def restored(month: Simulation) -> Steps:
-    """The store of three days ago is put back. Its missing mail comes back by the command that the refusal names."""
+    """The store of three days ago is put back. Its missing mail comes back by the command that the refusal names.
+
+    That is mail up to the last feed. So the day's command is run before: later mail is in no bag.
+    """
     office = month.stage.office
     office.stop()
     save(month.stage.folder, "store.db")
@@ -597,6 +600,7 @@ def restored(month: Simulation) -> Steps:
     bug = Bug(month.world.bugs, kept.name, "serious", kept.version)
     month.do(bug)
     yield None
+    month.day()
     office.stop()
     clear(month.stage.folder)
     put_back(month.stage.folder, "store.db")
