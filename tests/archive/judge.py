@@ -31,11 +31,12 @@ def days_between(first: str, last: str) -> int:
 
 @dataclass(frozen=True)
 class Arrival:
-    """A version that came to unstable: how urgently, and the day on which it was seen there first."""
+    """A version that came to unstable: how urgently, and the day on which a feed saw it there, or it came unseen."""
 
     version: str
     urgency: str
     day: str
+    is_seen: bool = False
 
 
 @dataclass(frozen=True)
@@ -80,10 +81,10 @@ class Books:
             for own in ("all",) if package.is_all else upload.architectures:
                 self.rows[package.name, own] = upload.source, upload.version, package.depends
 
-    def seen_late(self, first: str, day: str) -> None:
-        """What came since a first day was seen on a later one, since nothing looked at unstable before."""
+    def seen(self, day: str) -> None:
+        """A feed looked at unstable: what none saw before is as old as this day."""
         for source, found in self.arrivals.items():
-            self.arrivals[source] = [replace(arrival, day=day) if arrival.day >= first else arrival
+            self.arrivals[source] = [arrival if arrival.is_seen else replace(arrival, day=day, is_seen=True)
                                      for arrival in found]
 
     def leave(self, source: str) -> None:

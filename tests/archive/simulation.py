@@ -143,6 +143,8 @@ class Simulation:
         words = ["--conf", settings(self.stage, self.setup), *([] if clock else ["--day", self.today]), *more]
         ran = ran_by("office-day", *words, clock=clock)
         self.said = ran.err
+        if ran.status <= 1 and not clock:
+            self.books.seen(self.today)
         self.look_at(ran, may_be)
         return ran
 
@@ -284,6 +286,7 @@ def begun(program: str, folder: str, manager: str, world: World) -> Simulation:
     uploads = [event.upload for event in world.first()]
     for upload in uploads:
         found.books.come(upload, day_text(0))
+    found.books.seen(day_text(0))
     stage.begins(uploads)
     stage.line = stage.archive.ready()
     stage.archive.copy_all()
