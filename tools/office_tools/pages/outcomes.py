@@ -6,6 +6,8 @@ from dataclasses import dataclass
 from typing import Iterable, Mapping, Optional, Sequence, Union
 
 from office_tools import reports
+from office_tools.faults import Fault
+from office_tools.pages.state import UNREADABLE
 from office_tools.reports import Change, Excuse, Offender, ReasonKind, Update, Word
 
 REASON_WORDS: Mapping[ReasonKind, str] = {
@@ -63,9 +65,13 @@ def outcome_text(outcome: SourceOutcome) -> str:
 @functools.lru_cache(maxsize=None)
 def outcome_in(told: str) -> SourceOutcome:
     """The outcome that `as_json` wrote, from its text."""
-    part = json.loads(told)
-    offender = Offender(part["arch"], part["package"]) if "package" in part else None
-    return SourceOutcome(What(part["what"]), part.get("hint"), Word(part["kind"]) if "kind" in part else None, offender)
+    try:
+        part = json.loads(told)
+        offender = Offender(part["arch"], part["package"]) if "package" in part else None
+        kind = Word(part["kind"]) if "kind" in part else None
+        return SourceOutcome(What(part["what"]), part.get("hint"), kind, offender)
+    except (AttributeError, KeyError, TypeError, ValueError) as fault:
+        raise Fault(UNREADABLE) from fault
 
 
 NOTHING = (SourceOutcome(What.NONE),)

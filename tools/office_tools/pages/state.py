@@ -15,6 +15,7 @@ from office_tools.faults import Fault
 from office_tools.reports import Run
 
 SCHEMA = 4
+UNREADABLE = "what the pages remember can't be read: remove the folder .state, and it is fetched again"
 MOST_WORDS = 500  # words in one question to the database
 
 TABLES = """
@@ -418,7 +419,10 @@ def packed(text: str) -> bytes:
 
 def unpacked(data: bytes) -> str:
     """A text that was compressed."""
-    return zlib.decompress(data).decode()
+    try:
+        return zlib.decompress(data).decode()
+    except (TypeError, ValueError, zlib.error) as fault:
+        raise Fault(UNREADABLE) from fault
 
 
 def line_of(run: Run) -> str:
@@ -429,5 +433,8 @@ def line_of(run: Run) -> str:
 
 def run_in(line: str) -> Run:
     """The line of a run that was kept."""
-    number, date, *counts = json.loads(line)
-    return Run(number, datetime.date.fromisoformat(date), *counts)
+    try:
+        number, date, *counts = json.loads(line)
+        return Run(number, datetime.date.fromisoformat(date), *counts)
+    except (TypeError, ValueError) as fault:
+        raise Fault(UNREADABLE) from fault
