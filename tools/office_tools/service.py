@@ -222,7 +222,7 @@ def split_url(url: str) -> urllib.parse.SplitResult:
         good = parts.scheme in ("http", "https") and parts.hostname and parts.port != 0
     except ValueError:
         good = None
-    if not good or parts.query or parts.fragment:
+    if not good or parts.query or parts.fragment or re.search(r"[\x00-\x20\x7f]", url):
         shown = re.sub(r"//[^/@]*@", "//", url)
         raise Fault(f"{shown!r} is no URL of a service, such as {DEFAULT_URL}", Exit.USAGE)
     return parts

@@ -58,7 +58,8 @@ class Clients(unittest.TestCase):
         self.assertRegex(found.exception.cause, r"^http://127.0.0.1:\d+/status: Connection refused$")
 
     def test_urls(self):
-        for url in ("", "127.0.0.1:8080", "ftp://h", "http://", "http://h:x", "http://h?x", "http://u:p@h:99999"):
+        for url in ("", "127.0.0.1:8080", "ftp://h", "http://", "http://h:x", "http://h?x", "http://u:p@h:99999",
+                    "http://h\x049", "http://h /x"):
             with self.subTest(url=url), self.assertRaises(Fault) as found:
                 Service(url)
             self.assertEqual(found.exception.status, 2)
