@@ -1,7 +1,7 @@
 #!/usr/bin/env python3
 """Finds each file and each name that docs/TRUST.md and the pages of crates cite, the files that other pages cite, the
-counts of lines that TRUST.md and README.md give, the code that pages quote, the book of the headline (book.py), the run
-bits of scripts, and the program's version in CHANGELOG.md.
+counts of lines that TRUST.md and README.md give, the code that pages quote, the book of the headline (book.py), the
+sizes in README.md (sizes.py), the run bits of scripts, and the program's version in CHANGELOG.md.
 
 usage: trust.py [TOP]     (exit status 0: all are found; 1: a line for each that isn't)
 
@@ -133,7 +133,7 @@ def quotations():
     return missing, count
 
 def checked(script):
-    """The faults that trusted.py, book.py or diagrams.py finds: in counts and first lines, the book, or the drawings."""
+    """The faults that a script beside this one finds: in counts and first lines, the book, the drawings or the sizes."""
     command = [sys.executable, TOP / 'tests' / script, TOP, '--check']
     done = subprocess.run(command, capture_output=True, text=True, check=False)
     return (done.stdout + done.stderr).splitlines()
@@ -158,7 +158,8 @@ def main():
         for part in parts(cells):
             cited += len(re.findall(r'`([^`]+)`', part))
             faults += faults_of(number, part)
-    faults += [*crate_faults(), *file_faults(), *checked('trusted.py'), *checked('book.py'), *checked('diagrams.py')]
+    faults += [*crate_faults(), *file_faults(), *checked('trusted.py'), *checked('book.py'), *checked('diagrams.py'),
+               *checked('sizes.py')]
     missing, quoted = quotations()
     faults += missing
     for fault in faults:
