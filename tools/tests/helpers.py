@@ -88,3 +88,25 @@ class Serving:
         self.process.wait()
         assert self.process.stdout is not None
         self.process.stdout.close()
+
+
+class Keyring:
+    """A folder of keys that nobody else has, for a test."""
+
+    def __init__(self, home: str) -> None:
+        self.home = home
+        os.mkdir(home, 0o700)
+
+    def gpg(self, *words: str, given: bytes = b"") -> bytes:
+        """What gpg prints."""
+        return subprocess.run(["gpg", "--homedir", self.home, "--batch", "-q", *words], input=given,
+                              stdout=subprocess.PIPE, stderr=subprocess.DEVNULL, check=True).stdout
+
+    def make(self, user: str) -> bytes:
+        """Makes a key of USER@example.org, and gives its public part."""
+        self.gpg("--passphrase", "", "--quick-generate-key", f"{user}@example.org", "ed25519", "sign", "never")
+        return self.gpg("--export", f"{user}@example.org")
+
+    def end(self) -> None:
+        """Ends what gpg has started for this folder."""
+        subprocess.run(["gpgconf", "--homedir", self.home, "--kill", "all"], check=False)
