@@ -85,6 +85,12 @@ class FirstWeek(Folder):
         self.assertEqual(list(setup.senders), ["ftp", "hand", *(f"again{number}" for number in range(8, 0, -1)), "bd",
                                                "bts", "rt", "clock"])
 
+    def test_spare_senders(self):
+        self.convert(*DAYS, "--spare", "2", self.path("week"), self.file("Packages", package("aa", "1")))
+        with open(self.path("week/setup.conf"), "rb") as file:
+            self.assertEqual(list(setups.parse(file.read()).senders),
+                             ["ftp", "hand", "again2", "again1", "bd", "bts", "rt", "clock"])
+
     def test_maintainers(self):
         """The maintainers of files Sources come with the uploads, as their last field; all else keeps its bytes."""
         self.file("plain", "".join(package(name, "1") for name in ("aa", "bb", "cc", "dd")))
