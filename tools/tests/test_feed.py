@@ -10,7 +10,7 @@ from helpers import SETUP, Serving, needs_office, tool
 from office_tools import bags, messages
 from office_tools.feed import mailbox
 from office_tools.feed.mailbox import Outgoing
-from office_tools.feed.news import replaced
+from office_tools.from_packages.mail import replaced
 from office_tools.from_packages.sources import Arrival
 from office_tools.letters import letters
 from office_tools.messages import Label, Urgency, label_of, paragraphs
@@ -208,7 +208,7 @@ class Mail(Feeding):
 
 
 class Replaced(unittest.TestCase):
-    """Which upload counts that a newer one replaced before a feed saw it."""
+    """Which upload counts that a newer one replaced before it was sent."""
 
     def replaced(self, uploads, told="1"):
         """That of uploads `version urgency distribution`, the last of which is the one that the archive has."""
@@ -263,7 +263,7 @@ class Replacing(Feeding):
         newer = FIRST.replace("Source: lib\nVersion: 1", "Source: lib\nVersion: 5")
         printed, told = self.feed(newer, "2025-03-08", *more)
         self.assertEqual(printed[0], "uploads 2, drops 0, builds 1, hints 0, unhints 0, orders 1")
-        self.assertIn("office-feed: source lib 2: it was replaced before a feed saw it; its urgency, high, counts",
+        self.assertIn("office-feed: source lib 2: it was replaced before it was sent; its urgency, high, counts",
                       told)
         plain = b"From: ftp\nNumber: %d\nKind: upload\nSource: lib\nVersion: %d\nUrgency: %s\nDay: 2025-03-08\n"
         self.assertEqual([self.service.kept_text("ftp", number) for number in (3, 4)],
