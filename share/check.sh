@@ -19,7 +19,7 @@ if [ $# -eq 1 ]; then
 fi
 share=$(cd "$(dirname "$0")" && pwd) || exit 1
 cd "$share" || exit 1
-plan=$(realpath -- "${OFFICE_PLAN:-$share/../crates/office_plan/out/office_plan}")
+plan=$(realpath -m -- "${OFFICE_PLAN:-$share/../crates/office_plan/out/office_plan}")
 if [ -x "$plan" ]; then
     export OFFICE_PLAN="$plan"
 else

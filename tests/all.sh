@@ -49,7 +49,7 @@ try replicas python3 "$here/service/replicas.py" "$office"
 try hold python3 "$here/service/hold.py" "$office"
 try browser /usr/bin/python3 "$here/service/browser.py" "$office"
 try journal python3 "$here/service/journal.py" "$office"
-try firewall "$here/service/firewall.sh" "$office"
+try firewall python3 "$here/service/firewall.py" "$office"
 try proxy python3 "$here/service/proxy.py" "$office"
 try peers sh "$here/peers/store.sh" --by "$office"
 try trust python3 "$here/trust.py"
@@ -76,6 +76,12 @@ try rows python3 "$here/rows/check.py"
 try judges python3 "$here/judges/check.py"
 try counts python3 "$here/rows/counts.py"
 try suites python3 "$here/judges/counts.py"
+cases=$here/../crates/cases_libraries/out/cases_libraries
+if [ -x "$cases" ]; then
+    try more_suites python3 "$here/judges/more_suites.py" "$cases" 1001-1020
+else
+    echo "not tried: more_suites: .ci/run has left no cases_libraries in this checkout"
+fi
 try drawn python3 "$here/rows/drawn_rows.py" --check
 try again python3 "$here/rows/opened_again.py" "$office" 1001-1200
 try stopped timeout 3600 python3 "$here/stops/stopped.py" "$office" "$step"

@@ -5,12 +5,11 @@ import signal
 import socket
 import subprocess
 import tempfile
-from types import TracebackType
-from typing import Any, Mapping, Optional, TypeVar
+from typing import Any, Mapping, Optional, Sequence, TypeVar
 
 CONF = os.path.join(os.path.dirname(os.path.dirname(os.path.realpath(__file__))), "examples", "setup.conf")
 SECONDS = 60
-Self = TypeVar("Self", bound="Service")
+Self = TypeVar("Self", bound="Server")
 
 
 def free_port() -> int:
@@ -20,20 +19,16 @@ def free_port() -> int:
         return int(free.getsockname()[1])
 
 
-class Service:
-    """The service of a program. A `with` starts it, fails if it doesn't listen, and ends it.
+class Server:
+    """A process that prints `listening PORT` once it does. A `with` starts it, fails if it doesn't listen, and ends it.
 
-    With a number of connections it ends on its own after these, and the end of the `with` waits for that. Otherwise it
-    is killed there. What it prints on standard error goes to a file without a name, which is removed with it.
+    What it prints on standard error goes to a file without a name, which is removed with it.
     """
 
-    def __init__(self, program: str, *words: str, conf: str = CONF, port: int = 0, connections: int = 0,
-                 **how: Any) -> None:
-        """`words` follow the others, and `how` is for `subprocess.Popen`."""
-        self.port, self.connections, self.how = port or free_port(), connections, how
+    def __init__(self, words: Sequence[str], port: int, ends_by: int = signal.SIGKILL, **how: Any) -> None:
+        """`ends_by` is the signal at the end of the `with`, and `how` is for `subprocess.Popen`."""
+        self.words, self.port, self.ends_by, self.how = words, port, ends_by, how
         self.url = f"http://127.0.0.1:{self.port}"
-        self.words = [program, "serve", "--conf", conf, "--port", str(self.port),
-                      *(["--connections", str(connections)] if connections else []), *words]
         self.said = ""
         self.process: Optional["subprocess.Popen[bytes]"] = None
 
@@ -73,12 +68,27 @@ class Service:
             raise RuntimeError(f"{' '.join(self.words)}: it doesn't listen: {self.said}")
         return self
 
-    def __exit__(self, kind: Optional[type[BaseException]], fault: Optional[BaseException],
-                 trace: Optional[TracebackType]) -> None:
-        if self.connections and kind is None:
+    def __exit__(self, *_: object) -> None:
+        self.end(self.ends_by)
+
+
+class Service(Server):
+    """The service of a program. With a number of connections it ends on its own after these, and the end of the `with`
+    waits for that.
+    """
+
+    def __init__(self, program: str, *words: str, conf: str = CONF, port: int = 0, connections: int = 0,
+                 **how: Any) -> None:
+        """`words` follow the others."""
+        self.connections, port = connections, port or free_port()
+        super().__init__([program, "serve", "--conf", conf, "--port", str(port),
+                          *(["--connections", str(connections)] if connections else []), *words], port, **how)
+
+    def __exit__(self, *fault: object) -> None:
+        if self.connections and not any(fault):
             self.wait()
         else:
-            self.end()
+            super().__exit__()
 
     def ask(self, method: str, path: str, body: Optional[bytes] = None,
             fields: Mapping[str, str] = {}) -> tuple[int, bytes]:

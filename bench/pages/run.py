@@ -11,7 +11,7 @@ sources at most, 3,600 seconds without it.
 """
 import os
 import re
-import socket
+import signal
 import subprocess
 import sys
 import tempfile
@@ -22,13 +22,10 @@ SETUP = os.path.join(HERE, "..", "replay", "both.conf")
 PAGES = os.path.join(HERE, "..", "..", "tools", "bin", "office-pages")
 
 
-def free_port():
-    with socket.socket() as one:
-        one.bind(("127.0.0.1", 0))
-        return one.getsockname()[1]
+sys.path.insert(0, os.path.join(HERE, "..", "..", "tests"))
+import serving  # noqa: E402
 
-
-PORT = free_port()
+PORT = serving.free_port()
 
 
 def stamps_of(folder):
@@ -59,19 +56,9 @@ def call(folder, words):
             f"largest {max(html.values())}")
 
 
-class Service:
+def served(office, store):
     """The program over a store, for a `with`."""
-
-    def __init__(self, office, store):
-        self.words = [office, "serve", "--conf", SETUP, "--port", str(PORT), "--db", store]
-
-    def __enter__(self):
-        self.process = subprocess.Popen(self.words, stdout=subprocess.PIPE)
-        self.process.stdout.readline()
-
-    def __exit__(self, *_):
-        self.process.terminate()
-        self.process.wait()
+    return serving.Service(office, "--db", store, conf=SETUP, port=PORT, ends_by=signal.SIGTERM)
 
 
 def replay(office, store, bag):
@@ -93,10 +80,10 @@ def main(office, sources):
         store = os.path.join(work, "store.db")
         for run in (1, 2, 3):
             print(f"run {run}: {replay(office, store, os.path.join(work, f'bag{run}'))}", flush=True)
-            with Service(office, store):
+            with served(office, store):
                 print("  from nothing:" if run == 1 else "  behind it:", call(folder, []), flush=True)
                 print("  once more:", call(folder, []), flush=True)
-        with Service(office, store):
+        with served(office, store):
             print("  with all answers:", call(folder, ["--why-seconds", os.environ.get("WHY", "3600")]), flush=True)
             print("  once more:", call(folder, []), flush=True)
 

@@ -58,7 +58,7 @@ class Turns:
         """The service after another run."""
         print(f"run {number}: {run.replay(self.office, self.store, os.path.join(self.work, f'bag{number}'))}",
               flush=True)
-        return run.Service(self.office, self.store)
+        return run.served(self.office, self.store)
 
     def time(self, kind, tree, folder):
         self.took[kind][tree].append(seconds(tree, folder))

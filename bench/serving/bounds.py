@@ -18,7 +18,7 @@ import tempfile
 sys.dont_write_bytecode = True
 HERE = os.path.dirname(os.path.realpath(__file__))
 sys.path.insert(0, HERE)
-from serving import Server, get, post, post_to  # noqa: E402
+from servers import Server, get, post, post_to  # noqa: E402
 
 BAG = os.path.join(HERE, "..", "replay", "bag.py")
 USUAL = ("runs", "34000")

@@ -17,7 +17,7 @@ import tempfile
 sys.dont_write_bytecode = True
 HERE = os.path.dirname(os.path.realpath(__file__))
 sys.path.insert(0, HERE)
-from serving import Server, get, post_to
+from servers import Server, get, post_to  # noqa: E402
 
 REPLAY = os.path.join(HERE, "..", "replay")
 SENDERS = ["ftp", "bd", "bts", "rt", "clock"]

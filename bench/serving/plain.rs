@@ -1,4 +1,4 @@
-//! A plain server: one connection after the other, one request each, always the same reply.
+//! A plain server: one connection after the other, one request each, always the same reply. It says when it listens.
 use std::io::{Read, Write};
 use std::net::{Shutdown, TcpListener};
 
@@ -9,6 +9,7 @@ fn main() {
     let head = format!("HTTP/1.1 200 OK\r\nContent-Type: text/plain\r\nContent-Length: {length}\r\nConnection: close");
     let reply = format!("{head}\r\n\r\n{body}");
     let listener = TcpListener::bind(format!("127.0.0.1:{}", words[1])).expect("a port");
+    println!("listening {}", words[1]);
     for connection in listener.incoming() {
         let mut connection = connection.expect("a connection");
         let mut head = Vec::new();

@@ -16,7 +16,7 @@ import tempfile
 sys.dont_write_bytecode = True
 HERE = os.path.dirname(os.path.realpath(__file__))
 sys.path.insert(0, HERE)
-from serving import Server, get, post
+from servers import Server, get, post  # noqa: E402
 
 REPLAY = os.path.join(HERE, "..", "replay")
 

@@ -1,13 +1,18 @@
 #!/usr/bin/python3
 """Garbled files of each kind that a tool reads: each ends by a status and a sentence, never by a traceback or a signal.
 
-Usage: garbled.py OFFICE [COUNT [KIND..]]
+Usage: garbled.py OFFICE [--jobs N] [--first NUMBER] [--minutes N] [COUNT [KIND..]]
 
-COUNT files of each kind are drawn, 100 if nothing is stated. A tool reads each by its own `main`, a hundred files in a
-process that is forked from this one. A file that ends a tool wrongly is kept, and named with the command. The exit
-status is 1 if there is one. Set TMPDIR to a folder in memory, since the tools wait until a disk has what they write.
+COUNT files of each kind are drawn, 100 if nothing is stated, from a seed that is the kind and a NUMBER (from 0 on). A
+tool reads each by its own `main`, up to a hundred files in a process that is forked from this one. All kinds come by
+turns, N parts at once (1), until the MINUTES are over. A file that ends a tool wrongly is kept, and named with the
+command. The exit status is 1 if there is one. Set TMPDIR to a folder in memory, since the tools wait until a disk has
+what they write.
 """
+import argparse
+import contextlib
 import importlib
+import multiprocessing
 import os
 import random
 import re
@@ -16,9 +21,11 @@ import signal
 import subprocess
 import sys
 import tempfile
+import time
 import traceback
+from collections import Counter
 from dataclasses import dataclass, field
-from typing import Callable, Mapping, Optional, Sequence
+from typing import Callable, Iterator, Mapping, Optional, Sequence
 
 from stage import TOP, Office, run
 
@@ -224,6 +231,29 @@ class Reading:
     is_input: bool = False
 
 
+@dataclass(frozen=True)
+class Part:
+    """Some files of a kind, by their numbers."""
+
+    kind: str
+    numbers: range
+
+
+@dataclass
+class Tried:
+    """How many files of a kind were tried, and what was wrong."""
+
+    kind: str
+    count: int = 0
+    faults: list[str] = field(default_factory=list)
+
+
+def parts(kinds: Sequence[str], numbers: range) -> Iterator[Part]:
+    """The files of all kinds, which come by turns."""
+    for start in range(0, len(numbers), BATCH):
+        yield from (Part(kind, numbers[start:start + BATCH]) for kind in kinds)
+
+
 @dataclass
 class Bench:
     """A running office, good files of each kind, and what was found."""
@@ -231,7 +261,7 @@ class Bench:
     url: str
     folder: str
     good: Mapping[str, bytes] = field(default_factory=dict)
-    wrong: int = 0
+    last: float = float("inf")  # the end of the time, by the monotonic clock
 
     def readings(self, kind: str) -> Sequence[Reading]:
         """How files of a kind are read. The folder has a good file of each other kind, under its kind's name."""
@@ -334,18 +364,22 @@ class Bench:
         """The folder of a case."""
         return os.path.join(self.folder, f"{kind}-{number}")
 
-    def try_all(self, kind: str, count: int) -> None:
-        """Tries files of a kind, those of one reading after those of another."""
-        readings = self.readings(kind)
-        for turn, reading in enumerate(readings):
-            numbers = range(turn, count, len(readings))
+    def try_part(self, part: Part) -> Tried:
+        """Tries files of a kind, those of one reading after those of another, if there is time."""
+        readings = self.readings(part.kind)
+        found = Tried(part.kind)
+        for turn, reading in enumerate(readings if time.monotonic() < self.last else ()):
+            numbers = [number for number in part.numbers if number % len(readings) == turn]
             start = 0
             while start < len(numbers):
-                start += self.try_some(kind, numbers[start:start + BATCH], reading)
+                start += self.try_some(found, numbers[start:], reading)
+            found.count += len(numbers)
+        return found
 
-    def try_some(self, kind: str, numbers: Sequence[int], reading: Reading) -> int:
+    def try_some(self, found: Tried, numbers: Sequence[int], reading: Reading) -> int:
         """Tries some files in a process of its own: how many it tried. One that ended by a signal is its last."""
-        report = os.path.join(self.folder, "report")
+        kind = found.kind
+        report = os.path.join(self.folder, f"report-{os.getpid()}")
         child = os.fork()
         if child == 0:
             try:
@@ -359,11 +393,10 @@ class Bench:
         lines = read(report).splitlines()
         if len(lines) % 2:
             lines.append(f"ended by signal {os.WTERMSIG(status)}" if os.WIFSIGNALED(status) else "the test failed")
-        for number, fault in zip(lines[::2], lines[1::2]):
+        for name, fault in zip(lines[::2], lines[1::2]):
             if fault:
-                self.wrong += 1
-                print(f"{kind} {number}: office-{' '.join(reading.words)}: {fault}\n  in "
-                      f"{self.place(kind, int(number))}", flush=True)
+                found.faults.append(f"{kind} {name}: office-{' '.join(reading.words)}: {fault}\n  in "
+                                    f"{self.place(kind, int(name))}")
         return max(1, len(lines) // 2)
 
     def try_one(self, kind: str, number: int, reading: Reading) -> Optional[str]:
@@ -387,9 +420,11 @@ def places(kind: str) -> Sequence[str]:
 def main_of(name: str) -> Optional[faults.Main]:
     """What a tool runs; nothing if there is no such tool."""
     try:
-        return importlib.import_module("office_tools." + MODULES.get(name, name.replace("-", "_") + ".command")).main
+        module = importlib.import_module("office_tools." + MODULES.get(name, name.replace("-", "_") + ".command"))
     except ModuleNotFoundError:
         return None
+    found: faults.Main = module.main
+    return found
 
 
 def write(path: str, text: bytes) -> None:
@@ -500,9 +535,9 @@ def remembered(bench: Bench) -> Mapping[str, bytes]:
     return found
 
 
-def main(words: Sequence[str]) -> int:
-    """Tries the files of each kind."""
-    program, count, kinds = os.path.abspath(words[0]), int(words[1]) if len(words) > 1 else 100, words[2:]
+@contextlib.contextmanager
+def laid_out(program: str) -> Iterator[Bench]:
+    """A running office, and good files of each kind. The folder stays if a file in it ended a tool wrongly."""
     folder = tempfile.mkdtemp(prefix="garbled-")
     bench = Bench("", folder, good_files(program, folder))
     setup = os.path.join(folder, "good/setup.conf")
@@ -514,16 +549,47 @@ def main(words: Sequence[str]) -> int:
     bench.url = office.url
     try:
         bench.good = {**bench.good, **remembered(bench)}
-        tried = kinds or bench.kinds()
-        for kind in tried:
-            bench.try_all(kind, count)
+        yield bench
     finally:
         office.stop()
         os.chdir("/")
-        if not bench.wrong:
-            shutil.rmtree(folder)
-    print(f"garbled: {len(tried) * count} files of {len(tried)} kinds, {bench.wrong} ended wrongly")
-    return int(bench.wrong > 0)
+
+
+def try_all(bench: Bench, asked: argparse.Namespace) -> tuple[Counter[str], int]:
+    """Tries the files of the kinds: how many of each, and how many of all ended a tool wrongly."""
+    kinds = asked.kinds or bench.kinds()
+    numbers = range(asked.first, asked.first + asked.count)
+    count: Counter[str] = Counter({kind: 0 for kind in kinds})
+    wrong = 0
+    with multiprocessing.get_context("fork").Pool(asked.jobs) as pool:
+        for tried in pool.imap_unordered(bench.try_part, parts(kinds, numbers)):
+            count[tried.kind] += tried.count
+            wrong += len(tried.faults)
+            for fault in tried.faults:
+                print(fault, flush=True)
+    return count, wrong
+
+
+def main(words: Sequence[str]) -> int:
+    """Tries the files of each kind."""
+    known = argparse.ArgumentParser(prog="garbled.py")
+    known.add_argument("office")
+    known.add_argument("count", type=int, nargs="?", default=100)
+    known.add_argument("kinds", metavar="KIND", nargs="*")
+    known.add_argument("--jobs", type=int, default=1)
+    known.add_argument("--first", type=int, default=0, metavar="NUMBER")
+    known.add_argument("--minutes", type=float, default=float("inf"))
+    asked = known.parse_args(words)
+    last = time.monotonic() + 60 * asked.minutes
+    with laid_out(os.path.abspath(asked.office)) as bench:
+        bench.last = last
+        count, wrong = try_all(bench, asked)
+    if not wrong:
+        shutil.rmtree(bench.folder)
+    if min(count.values()) < asked.count:
+        print(", ".join(f"{kind} {tried}" for kind, tried in count.items()))
+    print(f"garbled: {sum(count.values())} files of {len(count)} kinds, {wrong} ended wrongly")
+    return int(wrong > 0)
 
 
 if __name__ == "__main__":

@@ -12,6 +12,7 @@ import random
 import subprocess
 import sys
 import tempfile
+from typing import Sequence
 
 import apt_pkg
 
@@ -19,25 +20,28 @@ VERSIONS = ["1.0", "1.00", "1:0.5", "1.0~rc1", "2.0-1", "2.0-1+b1", "10-1", "9-2
 NAMES = ["app", "app-data", "lib+", "lib1"]
 ARCHITECTURES = ["all", "amd64", "source"]
 
+Suite = dict[tuple[str, str], str]
+"""The version of a name on an architecture."""
 
-def drawn(seeds, share):
+
+def drawn(seeds: random.Random, share: float) -> Suite:
     """A suite: a version for some of the names on some of the architectures."""
     return {(architecture, name): seeds.choice(VERSIONS) for architecture in ARCHITECTURES for name in NAMES
             if seeds.random() < share}
 
 
-def near(seeds, suite, share):
+def near(seeds: random.Random, suite: Suite, share: float) -> Suite:
     """A suite with some other versions."""
     return {key: seeds.choice(VERSIONS) if seeds.random() < share else version for key, version in suite.items()
             if seeds.random() > share / 3}
 
 
-def lines(suite):
+def lines(suite: Suite) -> list[str]:
     """The lines of a suite, in no order."""
     return ["%s %s %s" % (name, version, architecture) for (architecture, name), version in suite.items()]
 
 
-def due(testing, suite, origin, gone, back):
+def due(testing: Suite, suite: Suite, origin: Suite, gone: int, back: bool) -> tuple[int, list[str]]:
     """The status and the lines that are due."""
     come = {key: version for key, version in testing.items() if suite.get(key) != version}
     lacks = {key: version for key, version in come.items() if origin.get(key) != version}
@@ -55,7 +59,8 @@ def due(testing, suite, origin, gone, back):
         ["remove " + line for line in lines(dict(sorted(go.items())))]
 
 
-def planned(program, folder, suites, gone, back):
+def planned(program: str, folder: str, suites: Sequence[Sequence[str]], gone: int,
+            back: bool) -> tuple[int, list[str]]:
     """What the program prints, and its status."""
     paths = []
     for name, suite in zip(("testing", "suite", "from"), suites):
@@ -67,7 +72,8 @@ def planned(program, folder, suites, gone, back):
     return ran.returncode, ran.stdout.splitlines()
 
 
-def main():
+def main() -> None:
+    """Tries suites of a seed."""
     program, count = os.path.abspath(sys.argv[1]), int(sys.argv[2]) if len(sys.argv) > 2 else 1000
     seeds, faults, made = random.Random(int(sys.argv[3]) if len(sys.argv) > 3 else 1), 0, 0
     apt_pkg.init_system()

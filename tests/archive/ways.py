@@ -1,11 +1,11 @@
 """Adopts a testing that isn't clean, looks before an order, moves groups as the office proposes them, and runs days of
 an archive in which things go wrong.
 
-Usage: ways.py OFFICE FOLDER
+Usage: ways.py OFFICE FOLDER [adopted|aptly|looked|proposed|unattended|unattended-aptly..]
 """
 import os
 import sys
-from typing import Sequence
+from typing import Callable, Mapping, Sequence
 
 import clients
 from loop import MANAGERS, archived, expect
@@ -267,15 +267,19 @@ def unattended_by_aptly(program: str, folder: str) -> str:
     return unattended(program, folder, "aptly")
 
 
+WAYS: Mapping[str, Callable[[str, str], str]] = {
+    "adopted": adopted, "aptly": adopted_by_aptly, "looked": looked, "proposed": proposed, "unattended": unattended,
+    "unattended-aptly": unattended_by_aptly}
+
+
 def main(words: Sequence[str]) -> None:
-    """Tries all of them."""
-    program, folder = words
+    """Tries all of them, or those that are named."""
+    program, folder, *parts = words
     build_all(ALL, os.path.join(folder, "built"))
     told = []
-    for name, way in (("adopted", adopted), ("aptly", adopted_by_aptly), ("looked", looked), ("proposed", proposed),
-                      ("unattended", unattended), ("unattended-aptly", unattended_by_aptly)):
+    for name in parts or WAYS:
         os.makedirs(os.path.join(folder, name))
-        told.append(way(program, os.path.join(folder, name)))
+        told.append(WAYS[name](program, os.path.join(folder, name)))
     print("\n".join(told))
 
 

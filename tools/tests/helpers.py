@@ -6,9 +6,8 @@ PATH has. What needs a program that isn't there is skipped.
 import contextlib
 import io
 import os
-import re
 import shutil
-import socket
+import signal
 import subprocess
 import sys
 import unittest
@@ -22,11 +21,13 @@ OFFICE = os.path.realpath(os.environ["OFFICE"]) if os.environ.get("OFFICE") else
 BUILT_PLAN = os.path.join(TOP, "crates/office_plan/out/office_plan")
 PLAN = shutil.which(os.environ.get("OFFICE_PLAN") or BUILT_PLAN) or shutil.which("office-plan") or ""
 
-sys.path.insert(0, TOOLS)
+sys.path[:0] = [TOOLS, os.path.join(TOP, "tests")]
 if OFFICE:
     os.environ["OFFICE"] = OFFICE  # some tests change the folder
 if PLAN:
     os.environ["OFFICE_PLAN"] = os.path.realpath(PLAN)
+
+import serving  # noqa: E402
 
 needs_office = unittest.skipUnless(OFFICE, "OFFICE names no built program")
 needs_plan = unittest.skipUnless(PLAN, "OFFICE_PLAN names no built office-plan, and none is built")
@@ -65,26 +66,31 @@ def office(*words: str, given: bytes = b"") -> "subprocess.CompletedProcess[byte
     return subprocess.run([OFFICE, *words], input=given, capture_output=True, timeout=600, check=False)
 
 
-class Serving:
+class Serving(serving.Service):
     """A running `office serve` in memory, or over a store, for a `with`."""
 
     def __init__(self, setup: str = SETUP, store: Optional[str] = None) -> None:
-        with socket.socket() as free:
-            free.bind(("127.0.0.1", 0))
-            port = free.getsockname()[1]
-        self.url = f"http://127.0.0.1:{port}"
-        self.words: Sequence[str] = [OFFICE, "serve", "--conf", setup, "--port", str(port),
-                                     *(["--db", store] if store else [])]
+        super().__init__(OFFICE, *(["--db", store] if store else []), conf=setup, ends_by=signal.SIGTERM,
+                         stdin=subprocess.DEVNULL)
 
-    def __enter__(self) -> "Serving":
-        self.process = subprocess.Popen(self.words, stdin=subprocess.DEVNULL, stdout=subprocess.PIPE)
-        assert self.process.stdout is not None
-        line = self.process.stdout.readline()
-        assert re.fullmatch(rb"listening \d+\n", line), line
-        return self
 
-    def __exit__(self, *_: object) -> None:
-        self.process.terminate()
-        self.process.wait()
-        assert self.process.stdout is not None
-        self.process.stdout.close()
+class Keyring:
+    """A folder of keys that nobody else has, for a test."""
+
+    def __init__(self, home: str) -> None:
+        self.home = home
+        os.mkdir(home, 0o700)
+
+    def gpg(self, *words: str, given: bytes = b"") -> bytes:
+        """What gpg prints."""
+        return subprocess.run(["gpg", "--homedir", self.home, "--batch", "-q", *words], input=given,
+                              stdout=subprocess.PIPE, stderr=subprocess.DEVNULL, check=True).stdout
+
+    def make(self, user: str) -> bytes:
+        """Makes a key of USER@example.org, and gives its public part."""
+        self.gpg("--passphrase", "", "--quick-generate-key", f"{user}@example.org", "ed25519", "sign", "never")
+        return self.gpg("--export", f"{user}@example.org")
+
+    def end(self) -> None:
+        """Ends what gpg has started for this folder."""
+        subprocess.run(["gpgconf", "--homedir", self.home, "--kill", "all"], check=False)

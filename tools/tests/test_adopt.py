@@ -113,6 +113,18 @@ class Adopt(unittest.TestCase):
         self.assertIn("left alone: older packages of all, with which packages that stay were built: three-doc 1-1",
                       told.stderr)
 
+    @needs_office
+    def test_a_package_without_its_source(self):
+        """It is adopted, and that its source is missing is printed and no difference."""
+        with open(self.path("Packages"), "a", encoding="utf-8") as file:
+            file.write("\nPackage: vendor-tool\nVersion: 1.0\nArchitecture: amd64\nSource: vendor\n")
+        told = self.adopt()
+        self.assertEqual(told.returncode, 0, told.stdout + told.stderr)
+        self.assertEqual(told.stdout.splitlines()[1:], [
+            "uploads 7, builds 7, hints 1, orders 1, unhints 1", "adopted: 7 sources, 8 packages; 0 wait, 0 refused"])
+        self.assertIn("office-adopt: testing has no version of these sources, and has their packages: vendor 1.0\n",
+                      told.stderr)
+
     def by(self, program):
         """What the command does by another program in the place of office."""
         with unittest.mock.patch.dict(os.environ, OFFICE=program):

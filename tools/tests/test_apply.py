@@ -245,6 +245,15 @@ class Listed(unittest.TestCase):
         doc, lag = row("lag-doc", "1-2", "all", "arm64"), Source("lag", "1-2")
         self.assertEqual((found.sources, found.rows, found.built_of), ({lag}, {doc}, {doc: lag}))
 
+    def test_other_kinds(self):
+        """Installers' packages and debug packages in files of their own are counted, and are no rows."""
+        told = "".join(f"{place} {kind} lone-{kind} 1 lone 1 {place}\n" for kind in ("udeb", "ddeb")
+                       for place in ("amd64", "arm64"))
+        with unittest.mock.patch.object(Reprepro, "reprepro", return_value=told + "source dsc lone 1 lone 1 any\n"):
+            found = Reprepro("/nowhere", "ordered", "testing").origin()
+        self.assertEqual((found.sources, found.rows, found.other_kinds),
+                         ({Source("lone", "1")}, set(), {"udeb": 2, "ddeb": 2}))
+
 
 class Manager:
     """An archive in memory, which notes what is asked of it."""

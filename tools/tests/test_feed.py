@@ -1,16 +1,18 @@
 """office-feed: what its manual page and docs/ARCHIVE.md say of it. A whole archive is fed by tests/archive."""
 import fcntl
-import hashlib
 import os
 import shutil
 import tempfile
 import unittest
+from unittest import mock
 
 from helpers import SETUP, Serving, needs_office, tool
 from office_tools import bags, messages
+from office_tools.feed import mailbox
 from office_tools.feed.mailbox import Outgoing
-from office_tools.feed.news import replaced
+from office_tools.from_packages.mail import replaced
 from office_tools.from_packages.sources import Arrival
+from office_tools.letters import letters
 from office_tools.messages import Label, Urgency, label_of, paragraphs
 from office_tools.service import Kept, Service
 
@@ -184,8 +186,29 @@ class Feeds(Feeding):
         os.close(number)
 
 
+@needs_office
+class Mail(Feeding):
+
+    def fetched(self):
+        """The messages that a feed asks for, without the ends by which it knows the office."""
+        with mock.patch.object(mailbox, "letters", side_effect=letters) as asked:
+            box = mailbox.fetch(self.service, self.path("cache"))
+        with open(box.path, "rb") as file:
+            return [call.args[1:] for call in asked.call_args_list], len(list(bags.messages_in(file.read())))
+
+    def test_only_what_is_new_is_fetched(self):
+        self.feed(FIRST, "2025-03-03")
+        self.assertEqual(self.fetched(), ([], 5))
+        for number in (1, 2):
+            self.service.post("/mail", f"From: bts\nNumber: {number}\nKind: none\n".encode())
+        self.assertEqual(self.fetched(), ([("bts", 1)], 7))
+        self.service.post("/mail", b"From: bts\nNumber: 3\nKind: none\n")
+        self.assertEqual(self.fetched(), ([("bts", 3)], 8))
+        self.assertEqual(self.fetched(), ([], 8))
+
+
 class Replaced(unittest.TestCase):
-    """Which upload counts that a newer one replaced before a feed saw it."""
+    """Which upload counts that a newer one replaced before it was sent."""
 
     def replaced(self, uploads, told="1"):
         """That of uploads `version urgency distribution`, the last of which is the one that the archive has."""
@@ -240,7 +263,7 @@ class Replacing(Feeding):
         newer = FIRST.replace("Source: lib\nVersion: 1", "Source: lib\nVersion: 5")
         printed, told = self.feed(newer, "2025-03-08", *more)
         self.assertEqual(printed[0], "uploads 2, drops 0, builds 1, hints 0, unhints 0, orders 1")
-        self.assertIn("office-feed: source lib 2: it was replaced before a feed saw it; its urgency, high, counts",
+        self.assertIn("office-feed: source lib 2: it was replaced before it was sent; its urgency, high, counts",
                       told)
         plain = b"From: ftp\nNumber: %d\nKind: upload\nSource: lib\nVersion: %d\nUrgency: %s\nDay: 2025-03-08\n"
         self.assertEqual([self.service.kept_text("ftp", number) for number in (3, 4)],
@@ -404,22 +427,6 @@ class Rebuilding(Folder):
             self.assertEqual(self.service.good_text("/testing").splitlines()[2:], [
                 "binary amd64 lib1 1+b2 lib", "binary arm64 lib1 1+back1 lib", "binary all lib-data 1+back1 lib"])
             self.assertEqual(self.feed(twice)[0], "uploads 0, drops 0, builds 0, hints 0, unhints 0, orders 0")
-
-
-class Fetching(Folder):
-
-    def test_apt_fetches_into_a_folder_that_is_named_from_here(self):
-        """An archive without signature, of one architecture, as apt takes it."""
-        self.file("archive/dists/x/main/binary-amd64/Packages", FIRST)
-        self.file("archive/dists/x/Release", "Suite: x\nArchitectures: amd64\nComponents: main\nSHA256:\n "
-                  f"{hashlib.sha256(FIRST.encode()).hexdigest()} {len(FIRST)} main/binary-amd64/Packages\n")
-        here = os.getcwd()
-        os.chdir(self.folder)
-        self.addCleanup(os.chdir, here)
-        told = tool("office-feed", "--url", "http://127.0.0.1:1", "--cache", "cache", "--apt",
-                    f"deb [trusted=yes arch=amd64] file:{self.folder}/archive x main")
-        self.assertEqual(told.returncode, 4, told.stderr)
-        self.assertIn("http://127.0.0.1:1/kept: ", told.stderr)
 
 
 class Words(Folder):

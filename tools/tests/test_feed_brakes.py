@@ -40,6 +40,7 @@ class Gone(Feeding):
         self.assertIn("22 of 30 packages are gone from the archive: app10 amd64, app10 arm64, ", told[-1])
         self.assertIn("allow it by --gone 22", told[-1])
         self.feed(few, "2025-03-04", "--gone", "21", status=3)
+        self.assertEqual(self.feed(few, "2025-03-04", "--dry-run", status=3)[0], [])
         self.assertEqual(self.service.good_text("/kept"), before)
         self.assertEqual(self.feed(few, "2025-03-04", "--gone", "22")[0][0],
                          "uploads 0, drops 22, builds 0, hints 0, unhints 0, orders 1")

@@ -85,6 +85,12 @@ class FirstWeek(Folder):
         self.assertEqual(list(setup.senders), ["ftp", "hand", *(f"again{number}" for number in range(8, 0, -1)), "bd",
                                                "bts", "rt", "clock"])
 
+    def test_spare_senders(self):
+        self.convert(*DAYS, "--spare", "2", self.path("week"), self.file("Packages", package("aa", "1")))
+        with open(self.path("week/setup.conf"), "rb") as file:
+            self.assertEqual(list(setups.parse(file.read()).senders),
+                             ["ftp", "hand", "again2", "again1", "bd", "bts", "rt", "clock"])
+
     def test_maintainers(self):
         """The maintainers of files Sources come with the uploads, as their last field; all else keeps its bytes."""
         self.file("plain", "".join(package(name, "1") for name in ("aa", "bb", "cc", "dd")))
@@ -236,6 +242,25 @@ class Changes(Folder):
     def test_another_version(self):
         self.changes("one.changes", Version="1.0-2")
         self.assertEqual(self.arrivals(), ([("low", "2025-03-01"), ("low", "2025-03-01")], []))
+
+    def test_replaced(self):
+        """A more urgent upload for the same suite that a newer one replaced is sent before that one, once."""
+        self.changes("one_0.9-1.changes", Version="0.9-1", Urgency="critical", Date="Sat, 01 Mar 2025 09:00:00 +0000")
+        self.changes("one_0.9-2.changes", Version="0.9-2", Urgency="emergency", Distribution="experimental")
+        self.changes("one_1.0-1.changes", Urgency="low")
+        arrived, told = self.arrivals()
+        self.assertEqual(arrived, [("critical", "2025-03-01"), ("low", "2025-03-03"), ("low", "2025-03-01")])
+        self.assertEqual(told, ["office-from-packages: source one 0.9-1: it was replaced before it was sent; its "
+                                "urgency, critical, counts"])
+        self.assertEqual(self.values("out", Kind.UPLOAD, "Version"), ["0.9-1", "1.0-1", "1.0-1"])
+        self.assertEqual(self.values("out", Kind.RUN, "Covers"), ["ftp 3, bd 2"])
+        self.changes("one_1.1-1.changes", Version="1.1-1", Urgency="high")
+        self.changes("one_1.2-1.changes", Version="1.2-1", Urgency="low")
+        newer = self.file("newer", package("one", "1.2-1") + package("two", "1.0-1"))
+        self.convert(*NEXT, "--after", self.path("out/bag"), "--changes", self.path("changes"), self.path("next"),
+                     newer)
+        self.assertEqual([self.values("next", Kind.UPLOAD, field) for field in ("Number", "Version", "Urgency", "Day")],
+                         [["4", "5"], ["1.1-1", "1.2-1"], ["high", "low"], ["2025-03-07"] * 2])
 
     def test_signed(self):
         text = self.changes("one.changes")

@@ -31,7 +31,7 @@ class Script(unittest.TestCase):
             file.write(text.replace("</body>", f"<script>addEventListener('load', () => {{ {does} }})</script></body>"))
         told = subprocess.run([BROWSER, "--headless", "--no-sandbox", "--disable-gpu", "--virtual-time-budget=2000",
                                "--dump-dom", f"file://{self.folder}/tried.html{fragment}"],
-                              capture_output=True, text=True, timeout=120, check=True).stdout
+                              capture_output=True, text=True, timeout=600, check=True).stdout
         rows = re.findall(r"<tr([^>]*)><td[^>]*><a [^>]*>([^<]*)</a>", told)
         return [name for attributes, name in rows if "hidden" not in attributes], told
 

@@ -6,7 +6,7 @@ import subprocess
 import tempfile
 import unittest
 
-from helpers import TOOLS, Serving, needs_office
+from helpers import TOOLS, Keyring, Serving, needs_office
 from office_tools.service import Service
 
 TEXT = b"From: ftp\nNumber: 1\nKind: none\nOffice: trixie\n"
@@ -21,29 +21,20 @@ class Signed(unittest.TestCase):
         cls.folder = tempfile.TemporaryDirectory()
         cls.addClassCleanup(cls.folder.cleanup)
         cls.keys = os.path.join(cls.folder.name, "keys")
-        cls.home = os.path.join(cls.folder.name, "home")
+        cls.keyring = Keyring(os.path.join(cls.folder.name, "home"))
+        cls.addClassCleanup(cls.keyring.end)
         os.mkdir(cls.keys)
-        os.mkdir(cls.home, 0o700)
         for user in ("ftp", "rt", "other"):
-            cls.gpg("--passphrase", "", "--quick-generate-key", f"{user}@example.org", "ed25519", "sign", "never")
+            public = cls.keyring.make(user)
             if user != "other":
                 with open(os.path.join(cls.keys, f"{user}.gpg"), "wb") as file:
-                    file.write(cls.gpg("--export", f"{user}@example.org"))
-
-    @classmethod
-    def tearDownClass(cls):
-        subprocess.run(["gpgconf", "--homedir", cls.home, "--kill", "all"], check=False)
-
-    @classmethod
-    def gpg(cls, *words, given=b""):
-        words = ["gpg", "--homedir", cls.home, "--batch", "-q", *words]
-        return subprocess.run(words, input=given, stdout=subprocess.PIPE, stderr=subprocess.DEVNULL, check=True).stdout
+                    file.write(public)
 
     def sign(self, user, text, how="--sign"):
-        return self.gpg("-u", f"{user}@example.org", how, given=text)
+        return self.keyring.gpg("-u", f"{user}@example.org", how, given=text)
 
     def armoured(self, user, text):
-        return self.gpg("-u", f"{user}@example.org", "--sign", "--armor", given=text)
+        return self.keyring.gpg("-u", f"{user}@example.org", "--sign", "--armor", given=text)
 
     def post(self, serving, signed, office="trixie"):
         words = [os.path.join(TOOLS, "bin", "office-signed"), self.keys, office, serving.url]
@@ -86,11 +77,11 @@ class Signed(unittest.TestCase):
         """Two messages in one input are refused in each form, and nothing is posted; each alone is held."""
         texts = [TEXT, TEXT.replace(b"Number: 1", b"Number: 2")]
         plain = [self.sign("ftp", text) for text in texts]
-        bare = [self.gpg("-u", "ftp@example.org", "--sign", "--compress-algo", "none", given=text) for text in texts]
-        zlib = [self.gpg("-u", "ftp@example.org", "--sign", "--compress-algo", "bzip2", given=text) for text in texts]
+        bare, zlib = ([self.keyring.gpg("-u", "ftp@example.org", "--sign", "--compress-algo", way, given=text)
+                       for text in texts] for way in ("none", "bzip2"))
         armoured = [self.armoured("ftp", text) for text in texts]
         clear = [self.sign("ftp", text, "--clearsign") for text in texts]
-        both = self.gpg("--enarmor", given=plain[0] + plain[1]).replace(b"ARMORED FILE", b"MESSAGE")
+        both = self.keyring.gpg("--enarmor", given=plain[0] + plain[1]).replace(b"ARMORED FILE", b"MESSAGE")
         due = ("", "office-signed: it isn't one signed message alone: send each on its own", 3)
         with Serving() as serving:
             for signed in [*map(b"".join, (plain, zlib, armoured, reversed(armoured))), both, armoured[0] + plain[1],
@@ -110,13 +101,13 @@ class Signed(unittest.TestCase):
         other = TEXT.replace(b"ftp", b"bts")
         with Serving() as serving:
             for how in ("--sign", "--clearsign"):
-                signed = self.gpg(*two, how, given=TEXT)
+                signed = self.keyring.gpg(*two, how, given=TEXT)
                 self.assertEqual(self.post(serving, signed), ("held ftp 1\n", "", 0))
-            as_rt = self.gpg(*two, "--sign", given=TEXT.replace(b"ftp", b"rt"))
+            as_rt = self.keyring.gpg(*two, "--sign", given=TEXT.replace(b"ftp", b"rt"))
             self.assertEqual(self.post(serving, as_rt), ("held rt 1\n", "", 0))
-            as_other = self.gpg(*two, "--sign", given=other)
+            as_other = self.keyring.gpg(*two, "--sign", given=other)
             self.assertEqual(self.post(serving, as_other), ("refused OtherSender\n", "", 3))
-            unknown = self.gpg(*two[:2], "-u", "other@example.org", "--sign", given=TEXT)
+            unknown = self.keyring.gpg(*two[:2], "-u", "other@example.org", "--sign", given=TEXT)
             self.assertEqual(self.post(serving, unknown), ("", "office-signed: no key fits", 1))
 
 

@@ -7,7 +7,9 @@ from typing import Sequence
 
 from office_tools import bags, days, faults, messages, program, reports, setups
 from office_tools.adopt.rows import lifted, stripped
+from office_tools.apply.brakes import named
 from office_tools.apply.contents import Contents, Indexes, target, wanted
+from office_tools.apply.holding import without_source
 from office_tools.apply.plans import plan_to
 from office_tools.apply.published import read_indexes
 from office_tools.apply.turn import tell_alone
@@ -68,8 +70,7 @@ def checked(setup: str, bag: bytes, have: Contents) -> int:
     place = told.rfind("\ntesting ") + 1
     testing = reports.read_testing(told[place:], f"{program.name()} replay")
     want = wanted(testing, sorted({row.architecture for row in have.rows}), Indexes.ONCE)
-    if not have.sources:
-        want = Contents(have.sources, want.rows, want.built_of)
+    want = as_archived(want, have) if have.sources else Contents(have.sources, want.rows, want.built_of)
     goal = target(want, have)
     found = plan_to(goal, have)
     beside = [line for line in found.go.lines() if is_beside(line, want)]
@@ -83,6 +84,15 @@ def checked(setup: str, bag: bytes, have: Contents) -> int:
     print(f"adopted: {len(testing.sources)} sources, {len(testing.rows)} packages; {waiting} wait, "
           f"{len(refused)} refused")
     return int(bool(refused or waiting or left))
+
+
+def as_archived(want: Contents, have: Contents) -> Contents:
+    """The office's testing without the sources that the archive's doesn't have, though it has all their packages."""
+    bare = without_source(want.without(have), want, have, Contents())
+    if bare:
+        tell("testing has no version of these sources, and has their packages: "
+             f"{named([' '.join(source) for source in sorted(bare)])}")
+    return want.made_of(want.items - bare)
 
 
 def is_beside(line: str, want: Contents) -> bool:

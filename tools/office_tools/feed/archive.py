@@ -14,6 +14,8 @@ from office_tools.faults import Exit, Fault, cause_of
 from office_tools.files import write_whole
 
 RELEASES = ("_InRelease", "_Release")
+UNSIGNED = " is not signed."
+KEY = " by a key that apt trusts here: name the archive's key in the line, as [signed-by=/etc/office/archive.gpg]"
 
 
 @dataclass(frozen=True)
@@ -100,7 +102,7 @@ def apt_options(folder: str) -> Sequence[str]:
 
 
 def apt(words: Sequence[str]) -> str:
-    """What apt-get prints. If it fails, its first error is the `Fault`."""
+    """What apt-get prints. If it fails, its first error is the `Fault`, with the way out if a key is missing."""
     try:
         ran = subprocess.run(["apt-get", *words], stdin=subprocess.DEVNULL, capture_output=True, check=False, text=True,
                              errors="backslashreplace", env={**os.environ, "LC_ALL": "C"})
@@ -108,5 +110,6 @@ def apt(words: Sequence[str]) -> str:
         raise Fault(f"apt-get: {cause_of(fault)}", Exit.FAILED) from fault
     if ran.returncode:
         told = [line for line in ran.stderr.splitlines() if line.startswith("E:")]
-        raise Fault(f"apt-get: {told[0][2:].strip() if told else f'status {ran.returncode}'}", Exit.FAILED)
+        cause = told[0][2:].strip() if told else f"status {ran.returncode}"
+        raise Fault("apt-get: " + (cause[:-1] + KEY if cause.endswith(UNSIGNED) else cause), Exit.FAILED)
     return ran.stdout

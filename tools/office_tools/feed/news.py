@@ -1,7 +1,7 @@
 """What is new in an archive since the office's kept mail: the messages on it."""
 import dataclasses
 import datetime
-from collections import Counter, defaultdict
+from collections import Counter
 from dataclasses import dataclass, field
 from typing import Iterator, Mapping, Optional, Sequence
 
@@ -20,7 +20,7 @@ from office_tools.from_packages import mail
 from office_tools.from_packages.binaries import Binary, Key
 from office_tools.from_packages.proposals import PROPOSED
 from office_tools.from_packages.sources import Arrival, Arrivals
-from office_tools.messages import Kind, Label, Paragraph, Urgency, kind_of, rank
+from office_tools.messages import Kind, Label, Paragraph, Urgency, kind_of
 from office_tools.reports import ItemStanding
 
 UPLOADS, BUILDS, HINTS = "ftp", "bd", "rt"
@@ -137,15 +137,15 @@ def uploads(archive: Archive, box: Mailbox, retold: Retold, ways: Ways) -> Itera
         if not marks.is_made_up(name):
             tell(f"source {name} {box.known.versions[name]}: it is gone, and nothing takes an upload back", Weight.NOTE)
     number = box.known.taken.get(UPLOADS, 0)
-    others = by_source(ways.known)
+    others = mail.by_source(ways.known)
     for name, version in sorted(archive.sources.items()):
         told = archive.told_version(name)
         if name not in retold.sources and (told is None or versions.compare(version, told) > 0):
             arrival: Optional[Arrival] = arrival_of(name, version, ways)
-            other = replaced(others[name], version, told)
+            other = mail.replaced(others.get(name, {}), version, told)
             if other is not None:
                 number += 1
-                yield more_urgent(Label(UPLOADS, number), name, other, others[name][other])
+                yield mail.more_urgent(Label(UPLOADS, number), name, other, others[name][other])
         elif name in retold.urgent:
             arrival = long_ago(ways.day, box.known.low_days)
         else:
@@ -173,37 +173,6 @@ def long_ago(day: str, wait: int) -> Arrival:
 def arrival_of(name: str, version: str, ways: Ways) -> Arrival:
     """How a source came that the feed sees for the first time."""
     return ways.known.get((name, version), Arrival(Urgency.MEDIUM, ways.day))
-
-
-def by_source(known: Arrivals) -> Mapping[str, dict[str, Arrival]]:
-    """How the versions of each source came."""
-    found: dict[str, dict[str, Arrival]] = defaultdict(dict)
-    for (source, version), arrival in known.items():
-        found[source][version] = arrival
-    return found
-
-
-def replaced(known: Mapping[str, Arrival], version: str, told: Optional[str]) -> Optional[str]:
-    """The most urgent upload of a source after the one that was sent last, if this version replaced it unseen.
-
-    It is one only if it is more urgent than this version, and was made for the same distribution: what was uploaded to
-    another suite was never in this one.
-    """
-    own = known.get(version)
-    if own is None or not own.distribution:
-        return None
-    between = [other for other, arrival in known.items()
-               if arrival.distribution == own.distribution and rank(arrival.urgency) > rank(own.urgency)
-               and versions.is_version(other) and versions.compare(other, version) < 0
-               and (told is None or versions.compare(other, told) > 0)]
-    return max(between, key=lambda other: (rank(known[other].urgency), versions.key(other))) if between else None
-
-
-def more_urgent(label: Label, name: str, version: str, arrival: Arrival) -> bytes:
-    """An upload that was replaced unseen. Its urgency counts until the source moves, as for britney."""
-    tell(f"source {name} {version}: it was replaced before a feed saw it; its urgency, {arrival.urgency.value}, counts",
-         Weight.NOTE)
-    return messages.upload(label, name, version, arrival.urgency, arrival.day)
 
 
 def first_arrival(box: Mailbox, name: str, version: str) -> Optional[Arrival]:

@@ -1,4 +1,5 @@
 """The messages of the bag."""
+from collections import defaultdict
 from dataclasses import dataclass, field
 from typing import Iterator, Mapping, Optional, Sequence
 
@@ -10,7 +11,7 @@ from office_tools.from_packages.binaries import Binary
 from office_tools.from_packages.sent import Sent
 from office_tools.from_packages.sources import Arrival, Arrivals
 from office_tools.from_packages.told import Weight, tell
-from office_tools.messages import Label, Role
+from office_tools.messages import Label, Role, rank
 
 SENDERS: Mapping[str, Role] = {
     "ftp": Role.UPLOAD, "bd": Role.BUILD, "bts": Role.BUGS, "rt": Role.RELEASE, "clock": Role.RUNS}
@@ -58,15 +59,52 @@ class Uploading:
 
 
 def uploads(current: Mapping[str, str], sent: Sent, arrivals: Uploading) -> Iterator[bytes]:
-    """An upload of each source that is new."""
+    """An upload of each source that is new, after a more urgent one that it replaced."""
     for name in sorted(set(sent.versions) - set(current)):
         tell(f"source {name} {sent.versions[name]}: it is gone, and nothing takes an upload back",
              Weight.NOTE)
     new = [name for name in sorted(current) if is_new("source " + name, current[name], sent.versions.get(name))]
-    for number, name in enumerate(new, sent.last["ftp"] + 1):
+    number, others = sent.last["ftp"], by_source(arrivals.known)
+    for name in new:
+        other = replaced(others.get(name, {}), current[name], sent.versions.get(name))
+        if other is not None:
+            number += 1
+            yield more_urgent(Label("ftp", number), name, other, others[name][other])
+        number += 1
         arrival = arrivals.known.get((name, current[name]), arrivals.others)
         yield messages.upload(Label("ftp", number), name, current[name], arrival.urgency, arrival.day,
                               arrivals.maintainers.get(name))
+
+
+def by_source(known: Arrivals) -> Mapping[str, Mapping[str, Arrival]]:
+    """How the versions of each source came."""
+    found: dict[str, dict[str, Arrival]] = defaultdict(dict)
+    for (source, version), arrival in known.items():
+        found[source][version] = arrival
+    return found
+
+
+def replaced(known: Mapping[str, Arrival], version: str, last: Optional[str]) -> Optional[str]:
+    """The most urgent upload of a source after the one that was sent last, if this version replaced it unsent.
+
+    It is one only if it is more urgent than this version, and was made for the same distribution: what was uploaded to
+    another suite was never in this one.
+    """
+    own = known.get(version)
+    if own is None or not own.distribution:
+        return None
+    between = [other for other, arrival in known.items()
+               if arrival.distribution == own.distribution and rank(arrival.urgency) > rank(own.urgency)
+               and versions.is_version(other) and versions.compare(other, version) < 0
+               and (last is None or versions.compare(other, last) > 0)]
+    return max(between, key=lambda other: (rank(known[other].urgency), versions.key(other))) if between else None
+
+
+def more_urgent(label: Label, name: str, version: str, arrival: Arrival) -> bytes:
+    """An upload that was replaced unsent. Its urgency counts until the source moves, as for britney."""
+    tell(f"source {name} {version}: it was replaced before it was sent; its urgency, {arrival.urgency.value}, counts",
+         Weight.NOTE)
+    return messages.upload(label, name, version, arrival.urgency, arrival.day)
 
 
 def drops(binaries: Sequence[Binary], sent: Sent, after: int) -> Iterator[bytes]:

@@ -1,30 +1,20 @@
 """A server that is asked, and the processor time that it takes."""
+import os
+import signal
 import socket
-import subprocess
 import sys
-import time
+
+sys.path.insert(0, os.path.join(os.path.dirname(os.path.realpath(__file__)), "..", "..", "tests"))
+import serving  # noqa: E402
 
 
-def free_port():
-    with socket.socket() as one:
-        one.bind(("127.0.0.1", 0))
-        return one.getsockname()[1]
-
-
-class Server:
-    """A server on a port of its own, and its requests."""
+class Server(serving.Server):
+    """A server on a port of its own, and its requests. In its words `{port}` stands for the port."""
 
     def __init__(self, words):
-        self.port = free_port()
-        words = [word.format(port=self.port) for word in words]
-        self.process = subprocess.Popen(words, stdout=subprocess.DEVNULL, stderr=subprocess.DEVNULL)
-        for _ in range(600):
-            try:
-                socket.create_connection(("127.0.0.1", self.port)).close()
-                return
-            except OSError:
-                time.sleep(0.1)
-        sys.exit("no server answers")
+        port = serving.free_port()
+        super().__init__([word.format(port=port) for word in words], port)
+        self.__enter__()
 
     def ask(self, request):
         with socket.create_connection(("127.0.0.1", self.port)) as client:
@@ -48,9 +38,8 @@ class Server:
             self.ask(request)
         return (self.processor_time() - before) / count / 1000
 
-    def end(self):
-        self.process.terminate()
-        self.process.wait()
+    def end(self, number=signal.SIGTERM):
+        return super().end(number)
 
 
 def get(path):
