@@ -96,6 +96,18 @@ def sent_by(row):
     return "%s %d" % (SENDERS[sender], number)
 
 
+def later_lines(office, source, version):
+    """Unstable's rows of a source at this version that testing doesn't have."""
+    places, lines = ARCHS + ["all"], []
+    for key, row in sorted(office.known.rows.items(), key=lambda it: (places.index(it[0][0]), it[0][1])):
+        there = office.rows.get(key)
+        if row["source"] == source and vcmp(row["source_version"], version) == 0 \
+                and (there is None or vcmp(there["version"], row["version"]) != 0):
+            lines.append("%s %s %s %s by %s" % ("rebuilt" if there else "not in testing", *key, row["version"],
+                                                sent_by(row)))
+    return lines
+
+
 def origin_lines(office, source):
     """The state of a source, and the origin of the reasons that keep it out, over the testing that an office's last run
     left."""
@@ -105,7 +117,7 @@ def origin_lines(office, source):
     _, version, _, day, sender, number = upload
     lines, old = ["upload %s %d %s" % (SENDERS[sender], number, day)], office.sources.get(source)
     if old is not None and vcmp(old, version) == 0:
-        lines.insert(0, "in testing " + version)
+        lines = ["in testing " + version, *later_lines(office, source, version), *lines]
     _, need, aged, why = known.excuse(source) or (0, 0, [], [])
     for reason in why:
         words = reason.split()

@@ -1,2 +1,3 @@
+pub mod KeySearch
 pub mod SeenFacts
 pub mod WhyFacts

@@ -25,6 +25,7 @@ use Rattle.office_store_keeper.specs.declared.values.Reports.{Reports}
 use Rattle.office_core_facts.specs.Outcome.{covered_items, reports_of, testing_after}
 use Rattle.testing_rules_reports.specs.Reports.{line}
 use Rattle.testing_rules_reports.specs.Sources.{source_text, waits_in}
+use Rattle.office_core_why.specs.Later.{later_lines}
 use Rattle.office_core_why.specs.declared.WhyText.{WhyText}
 
 -- unstable as messages give it: its sources and rows, the states of bugs, and the hints in force
@@ -45,11 +46,12 @@ sender_names setup = map (λ sender. sender.name) setup.senders
 abbrev pub said_in : Unstable → Suite → UploadIn → SaidLists
 said_in unstable t u = record { rows = filter (is_of_source u) unstable.rows; bugs = unstable.bugs; hints = unstable.hints; testing = testing_version t u.source }
 
--- The line on a source that has nothing to move. It is unknown if unstable, the origin of all of testing, doesn't have
--- it; or testing has it at unstable's version, which the line gives.
-abbrev pub standing_line : Suite → Text → Option UploadIn → Text
-standing_line t source None = line (codes "unknown" ∷ source ∷ [])
-standing_line t source (Some u) = if is_in_testing t source u.version then line (codes "in testing" ∷ u.version ∷ []) else []
+-- The lines on a source that has nothing to move. It is unknown if unstable, the origin of all of testing, doesn't have
+-- it; or testing has it at unstable's version, which the first line gives, before those of its later rows.
+abbrev pub standing_lines : List Text → List Text → List RowIn → Suite → Text → Option UploadIn → Text
+standing_lines senders archs rows t source None = line (codes "unknown" ∷ source ∷ [])
+standing_lines senders archs rows t source (Some u) =
+    if is_in_testing t source u.version then line (codes "in testing" ∷ u.version ∷ []) ++ later_lines senders archs t rows u else []
 
 -- The lines on the origin of the reasons that keep a source out: its upload, and what gave each reason of its excuse.
 -- There are none if unstable doesn't have the source.
@@ -77,7 +79,7 @@ pub record IsToldBy (senders archs : List Text) (unstable : Unstable) (t : Suite
   pub refusal : Text
   pub come : AreOrigins senders archs unstable t (excuse_of excuses source) (source_in unstable.sources source) origins
   pub refused : IsRefusedWhere (waits_in source reports.updates) archs unstable t excuses (excuse_of excuses source) refusal
-  pub is : told.text ≡ source_text run source reports.excuses reports.updates (standing_line t source (source_in unstable.sources source) ++ origins) ++ refusal
+  pub is : told.text ≡ source_text run source reports.excuses reports.updates (standing_lines senders archs unstable.rows t source (source_in unstable.sources source) ++ origins) ++ refusal
   pub known : told.is_known ≡ is_some (source_in unstable.sources source)
 
 -- the same over covered messages and the testing that a run of this date left: its excuses are of the messages over it

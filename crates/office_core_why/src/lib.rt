@@ -3,6 +3,7 @@
 #![tactic(auto)]
 
 mod hints;
+mod later;
 pub mod laws;
 mod seen;
 mod standing;

@@ -1,44 +1,64 @@
 //! The state of a source that has nothing to move.
 
-ghost use Rattle.std.specs.Prelude.{◌≡◌, IfOk, Some, option_copied};
-ghost use Rattle.office_core_why.specs.Why.{standing_line};
+ghost use Rattle.std.specs.Prelude.{◌≡◌, ◌++◌, ◌∷◌, [], codes, IfOk, Some, option_copied};
+ghost use Rattle.testing_rules_model.specs.Unstable.{built_rows};
+ghost use Rattle.testing_rules_reports.specs.Reports.{line};
+ghost use Rattle.office_core_why.specs.Later.{later_lines};
+ghost use Rattle.office_core_why.specs.Why.{standing_lines};
 
-use crate::told::no_lines;
+use crate::later::push_later;
+use crate::told::{Ground, no_lines};
 use deb_control::{NoMemory, Text};
 use std::alloc::Global;
+use testing_rules_facts::built_rows;
 use testing_rules_model::UploadIn;
 use testing_rules_refusals::is_in_testing;
 use testing_rules_suites::Testing;
 
-/// The line on a source of unstable, if testing has it at the same version.
-fn line_in_testing(
+/// The lines on a source that testing has at its version in unstable.
+fn lines_in_testing(
     alloc: Global,
+    ground: &Ground<'_>,
+    testing: &Testing,
+    upload: &UploadIn,
+) -> Result<Text, NoMemory>
+    ensures { IfOk result (λ text. text ≡ line (codes "in testing" ∷ upload.now.version ∷ []) ++ later_lines ground.now.senders.now ground.now.archs.now testing.now (built_rows ground.now.archs.now ground.now.facts.now.rows) upload.now) }
+{
+    let mut text = format!(in alloc; "in testing {}\n", upload.version.text())?;
+    let rows = built_rows(alloc, ground.archs, ground.facts.rows())?;
+    push_later(&mut text, ground, testing, &rows, upload)?;
+    Ok(Text::from_string(text))
+}
+
+/// The lines on a source of unstable, if testing has it at the same version.
+fn lines_if_in_testing(
+    alloc: Global,
+    ground: &Ground<'_>,
     testing: &Testing,
     source: &str,
     upload: &UploadIn,
 ) -> Result<Text, NoMemory>
-    ensures { IfOk result (λ text. text ≡ standing_line testing.now source.now (Some upload.now)) }
+    ensures { IfOk result (λ text. text ≡ standing_lines ground.now.senders.now ground.now.archs.now (built_rows ground.now.archs.now ground.now.facts.now.rows) testing.now source.now (Some upload.now)) }
 {
-    let version = &upload.version;
-    if is_in_testing(testing, source, version) {
-        let line = format!(in alloc; "in testing {}\n", version.text())?;
-        Ok(Text::from_string(line))
+    if is_in_testing(testing, source, &upload.version) {
+        lines_in_testing(alloc, ground, testing, upload)
     } else {
         Ok(no_lines(alloc))
     }
 }
 
-/// The line on a source missing in unstable, or with unstable's version in testing; no line on any other.
-pub(crate) fn standing_line(
+/// The lines on a source missing in unstable, or with unstable's version in testing; no line on any other.
+pub(crate) fn standing_lines(
     alloc: Global,
+    ground: &Ground<'_>,
     testing: &Testing,
     source: &str,
     upload: Option<&UploadIn>,
 ) -> Result<Text, NoMemory>
-    ensures { IfOk result (λ text. text ≡ standing_line testing.now source.now (option_copied upload.entry)) }
+    ensures { IfOk result (λ text. text ≡ standing_lines ground.now.senders.now ground.now.archs.now (built_rows ground.now.archs.now ground.now.facts.now.rows) testing.now source.now (option_copied upload.entry)) }
 {
     match upload {
-        Some(upload) => line_in_testing(alloc, testing, source, upload),
+        Some(upload) => lines_if_in_testing(alloc, ground, testing, source, upload),
         None => {
             let line = format!(in alloc; "unknown {source}\n")?;
             Ok(Text::from_string(line))

@@ -12,7 +12,7 @@ ghost use Rattle.office_core_why.specs.Telling.{unstable_of};
 ghost use Rattle.office_core_why.specs.Why.{AreOrigins, IsRefused, IsRefusedWhere, IsTold, IsToldBy, IsToldOf, said_in, sender_names};
 
 use crate::WhyText;
-use crate::standing::standing_line;
+use crate::standing::standing_lines;
 use deb_control::{NoMemory, Text};
 use jiff_core::civil::Date;
 use office_mail::Setup;
@@ -36,10 +36,10 @@ pub(crate) struct AskedSource<'a> {
 
 /// The basis of lines on a source: the names of the senders, the architectures, and the facts of a run.
 #[derive(Clone, Copy)]
-struct Ground<'g> {
-    senders: &'g [Text],
-    archs: &'g Archs,
-    facts: &'g Facts,
+pub(crate) struct Ground<'g> {
+    pub senders: &'g [Text],
+    pub archs: &'g Archs,
+    pub facts: &'g Facts,
 }
 
 /// The names of the senders.
@@ -209,7 +209,7 @@ fn lines_from_excuses(
     let source = asked.source;
     let update = reports.updates.as_str();
     let upload = source_in(ground.facts.sources(), source);
-    let standing = standing_line(alloc, testing, source, upload)?;
+    let standing = standing_lines(alloc, ground, testing, source, upload)?;
     let origins = origins_in(alloc, ground, testing, excuses, source)?;
     let refusal = refusal_by(alloc, ground, testing, excuses, update, source)?;
     let text = with_reasons(alloc, asked, reports, &standing, &origins, &refusal)?;

@@ -4,9 +4,10 @@ use Rattle.testing_rules_items.specs.Words.{Text}
 use Rattle.testing_rules_excuses.specs.States.{excuse_of}
 use Rattle.testing_rules_model.specs.declared.facts.UploadIn.{UploadIn}
 use Rattle.testing_rules_model.specs.Moves.{source_in}
+use Rattle.testing_rules_model.specs.Unstable.{built_rows}
 use Rattle.testing_rules_reports.specs.Sources.{source_text, waits_in}
 use Rattle.office_core_why.specs.Telling.{unstable_of}
-use Rattle.office_core_why.specs.Why.{IsRefusedWhere, standing_line}
+use Rattle.office_core_why.specs.Why.{IsRefusedWhere, standing_lines}
 use Rattle.office_core_why.proofs.WhyFacts.{is_some-copied}
 use Rattle.office_core_why.proofs.told.lines_from_excuses.Goals as goal
 
@@ -26,6 +27,6 @@ returns-clause-told c =
       come = c.in_ok-origins.ensures;
       refused = subst (λ (update : Text). IsRefusedWhere (waits_in asked.source.now update) ground.archs.now (unstable_of ground.archs.now ground.facts.now) a.testing.now a.excuses.now (excuse_of a.excuses.now asked.source.now) refusal) c.as_str-update.ensures c.in_ok-refusal.ensures.told;
       is = c.in_ok-text.ensures
-          ∙ ap (λ (line : Text). source_text asked.run asked.source.now reports.excuses reports.updates (line ++ origins) ++ refusal) (c.in_ok-standing.ensures ∙ ap (standing_line a.testing.now asked.source.now) found);
+          ∙ ap (λ (line : Text). source_text asked.run asked.source.now reports.excuses reports.updates (line ++ origins) ++ refusal) (c.in_ok-standing.ensures ∙ ap (standing_lines ground.senders.now ground.archs.now (built_rows ground.archs.now ground.facts.now.rows) a.testing.now asked.source.now) found);
       known = c.is_some.ensures ∙ is_some-copied c.source_in-upload.result (source_in ground.facts.now.sources asked.source.now) found;
     }
