@@ -13,31 +13,27 @@ mod replaying;
 mod sitting;
 mod steps;
 
-use noting::put_in_noting;
+use noting::{put_noted_in_memory, put_noted_in_tables};
 use office_over::{put_in_memory, put_in_tables};
 use sitting::tells_asked;
 use std::alloc::{AllocError, Global};
 
-/// Adds what a row prints to an empty text: its result in memory, and its result over tables, if that differs; or its
-/// result in memory, and which mail was asked for.
+/// Adds what a row prints to an empty text: its result in memory, and its result over tables, if that differs. A row may
+/// ask for which mail each store was asked for, too.
 pub fn put_row(alloc: Global, row: &str, came: &mut String) -> Result<(), AllocError> {
-    if tells_asked(row) {
-        return put_in_noting(alloc, row, came);
-    }
     let mut told = String::new(alloc);
-    put_both(alloc, row, came, &mut told)
+    if tells_asked(row) {
+        put_noted_in_memory(alloc, row, came)?;
+        put_noted_in_tables(alloc, row, &mut told)?;
+    } else {
+        put_in_memory(alloc, row, came)?;
+        put_in_tables(alloc, row, &mut told)?;
+    }
+    add_difference(&told, came)
 }
 
-/// Adds the result of a row in memory to one empty text, and that over tables to another. Notes that differ follow the
-/// first.
-fn put_both(
-    alloc: Global,
-    row: &str,
-    came: &mut String,
-    told: &mut String,
-) -> Result<(), AllocError> {
-    put_in_memory(alloc, row, came)?;
-    put_in_tables(alloc, row, told)?;
+/// Adds what came over tables to what came in memory, if it differs. Notes that differ follow the first.
+fn add_difference(told: &String, came: &mut String) -> Result<(), AllocError> {
     if told.as_str() == came.as_str() {
         return Ok(());
     }

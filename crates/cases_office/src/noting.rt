@@ -1,12 +1,12 @@
-//! A store in memory that notes which mail it is asked for between the ends of two runs.
-ghost use Rattle.std.specs.Prelude.{⊤};
-ghost use Rattle.office_store_keeper.specs.MemoryState.{content_of};
+//! A store that notes which mail it is asked for between the ends of two runs.
+ghost use Rattle.std.specs.Prelude.{◌≡◌};
 
 use crate::office_over::REOPEN;
 use crate::sitting::{setup_in, sit};
 use office_http::Office;
 use office_mail::Setup;
-use office_store::{Finished, KeepFault, Keeper, Letter, MailText, Plain, Reports};
+use office_store::{Finished, KeepFault, Keeper, Letter, MailText, Plain, Reports, Tables};
+use sqlite::{Alter, Connection};
 use std::alloc::{AllocError, Global};
 use testing_rules_model::FactRows;
 use testing_rules_suites::Testing;
@@ -31,10 +31,9 @@ const NOTHING: Notes = Notes {
     asked: NONE,
 };
 
-/// A store in memory, what it was asked for since a run was finished, and what for on the way to that run's end.
-#[derive(Drop)]
-pub struct Noting {
-    plain: Plain,
+/// A store, what it was asked for since a run was finished, and what for on the way to that run's end.
+struct Noting<K> {
+    keeper: K,
     now: Notes,
     before: Notes,
 }
@@ -48,56 +47,56 @@ fn note(least: &mut Least, sender: u32, number: u32) {
     }
 }
 
-impl Keeper for Noting {
-    ghost is_clean = { λ _. ⊤ };
+impl<K: Keeper> Keeper for Noting<K> {
+    ghost is_clean = { λ n. K.is_clean n.keeper };
 
-    ghost is_trusted = { λ _. ⊤ };
+    ghost is_trusted = { λ n. K.is_trusted n.keeper };
 
-    ghost setup = { λ n. n.plain.setup };
+    ghost setup = { λ n. K.setup n.keeper };
 
-    ghost content = { λ n. content_of n.plain };
+    ghost content = { λ n. K.content n.keeper };
 
-    ghost is_legible = { λ _. ⊤ };
+    ghost is_legible = { λ n. K.is_legible n.keeper };
 
-    ghost refusals = { λ _. 0 };
+    ghost refusals = { λ n. K.refusals n.keeper };
 
-    ghost disk_faults = { λ _. 0 };
+    ghost disk_faults = { λ n. K.disk_faults n.keeper };
 
     fn find(&mut self, sender: u32, number: u32) -> Result<Option<MailText>, KeepFault> {
         note(&mut self.now.asked, sender, number);
-        self.plain.find(sender, number)
+        self.keeper.find(sender, number)
     }
 
     fn keep(&mut self, sender: u32, number: u32, text: &MailText) -> Result<(), KeepFault> {
-        self.plain.keep(sender, number, text)
+        self.keeper.keep(sender, number, text)
     }
 
     fn finished(&mut self) -> Result<u32, KeepFault> {
-        self.plain.finished()
+        self.keeper.finished()
     }
 
     fn load(&mut self, sender: u32, from: u32, to: u32) -> Result<Vec<Letter>, KeepFault> {
         note(&mut self.now.asked, sender, from);
-        self.plain.load(sender, from, to)
+        self.keeper.load(sender, from, to)
     }
 
     fn next_number(&mut self, sender: u32, from: u32) -> Result<Option<u32>, KeepFault> {
         note(&mut self.now.asked, sender, from);
-        self.plain.next_number(sender, from)
+        self.keeper.next_number(sender, from)
     }
 
     fn finish(&mut self, run: u32, done: &Finished) -> Result<(), KeepFault> {
         self.before = self.now;
         self.now = NOTHING;
-        self.plain.finish(run, done)
+        self.keeper.finish(run, done)
     }
 
     fn reports(&mut self, run: u32) -> Result<Option<Reports>, KeepFault> {
-        self.plain.reports(run)
+        self.keeper.reports(run)
     }
 
     fn testing(&mut self) -> Result<Testing, KeepFault> {
-        self.plain.testing()
+        self.keeper.testing()
     }
 
     fn facts(&mut self) -> Result<FactRows, KeepFault> {
@@ -105,26 +104,33 @@ impl Keeper for Noting {
             counted: self.now.asked,
             asked: NONE,
         };
-        self.plain.facts()
+        self.keeper.facts()
     }
 
     fn is_whole(&mut self, texts: u64) -> Result<bool, KeepFault> {
-        self.plain.is_whole(texts)
+        self.keeper.is_whole(texts)
     }
 }
 
 /// Adds the result of a row in an office in memory, which is rebuilt over its store if the row says so; and then, of
 /// each sender that was asked for on the way to the end of the last run, the least number.
-pub fn put_in_noting(alloc: Global, row: &str, came: &mut String) -> Result<(), AllocError> {
+pub fn put_noted_in_memory(alloc: Global, row: &str, came: &mut String) -> Result<(), AllocError> {
     match Setup::parse(alloc, setup_in(row).as_bytes()) {
-        Ok(setup) => put_over_noting(alloc, setup, row, came),
+        Ok(setup) => put_noted_in_plain(alloc, setup, row, came),
         Err(_) => Err(AllocError),
     }
 }
 
-/// Adds the result of a row in an office in memory with this setup, and of each sender the least number that was asked
-/// for.
-fn put_over_noting(
+/// The same over tables of sqlite.
+pub fn put_noted_in_tables(alloc: Global, row: &str, came: &mut String) -> Result<(), AllocError> {
+    match Setup::parse(alloc, setup_in(row).as_bytes()) {
+        Ok(setup) => put_noted_in_file(alloc, setup, row, came),
+        Err(_) => Err(AllocError),
+    }
+}
+
+/// Adds the result of a row in an office in memory with this setup, and what was asked for.
+fn put_noted_in_plain(
     alloc: Global,
     setup: Setup,
     row: &str,
@@ -132,21 +138,81 @@ fn put_over_noting(
 ) -> Result<(), AllocError> {
     match Plain::new(alloc, &setup) {
         Ok(plain) => {
-            let noting = Noting {
-                plain,
-                now: NOTHING,
-                before: NOTHING,
-            };
-            let (noting, sat) = sit_in_turn(alloc, Office::new(alloc, setup, noting), row, came);
-            let told = put_notes(&noting.before, came);
-            drop(noting);
-            sat.and(told)
+            let (plain, sat) = sit_noted(alloc, setup, plain, row, came);
+            drop(plain);
+            sat
         }
         Err(_) => {
             drop(setup);
             Err(AllocError)
         }
     }
+}
+
+/// Adds the result of a row in an office over new tables with this setup, and what was asked for.
+fn put_noted_in_file(
+    alloc: Global,
+    setup: Setup,
+    row: &str,
+    came: &mut String,
+) -> Result<(), AllocError> {
+    match Connection::open_in_memory(alloc) {
+        Ok(conn) => {
+            let (conn, sat) = sit_noted_over(alloc, setup, conn, row, came);
+            drop(conn);
+            sat
+        }
+        Err(_) => {
+            drop(setup);
+            Err(AllocError)
+        }
+    }
+}
+
+/// Adds the result of a row in an office over tables in this connection, which are closed afterwards.
+fn sit_noted_over<S: Alter + Drop>(
+    alloc: Global,
+    setup: Setup,
+    conn: Connection<S>,
+    row: &str,
+    came: &mut String,
+) -> (Connection<S>, Result<(), AllocError>) {
+    match Tables::open(alloc, conn, &setup) {
+        Ok(tables) => {
+            let (tables, sat) = sit_noted(alloc, setup, tables, row, came);
+            (tables.into_connection(), sat)
+        }
+        Err((_, conn)) => {
+            drop(setup);
+            (conn, Err(AllocError))
+        }
+    }
+}
+
+/// Adds the result of a row in an office over a store, which is returned; and of each sender the least number that was
+/// asked for.
+fn sit_noted<K: Keeper>(
+    alloc: Global,
+    setup: Setup,
+    keeper: K,
+    row: &str,
+    came: &mut String,
+) -> (K, Result<(), AllocError>)
+    requires { K.setup keeper ≡ setup }
+{
+    let noting = Noting {
+        keeper,
+        now: NOTHING,
+        before: NOTHING,
+    };
+    let (noting, sat) = sit_in_turn(alloc, Office::new(alloc, setup, noting), row, came);
+    let Noting {
+        keeper,
+        now: _,
+        before,
+    } = noting;
+    let told = put_notes(&before, came);
+    (keeper, sat.and(told))
 }
 
 /// Takes the steps of each sitting in an office that knows nothing yet, each over the store of the one before. The last
