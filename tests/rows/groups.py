@@ -75,7 +75,9 @@ class Behind:
 
     def may_stand(self, name, dead):
         """The rows that may be in testing once a source has moved and none of the dead has."""
-        return [row for row in self.rows.values() if row["source"] != name] + self.coming(self.living(dead))
+        taken = {(row["arch"], row["package"]) for row in self.coming([name])}
+        left = [row for row in self.rows.values() if row["source"] != name and (row["arch"], row["package"]) not in taken]
+        return left + self.coming(self.living(dead))
 
     def is_due(self, row, name, dead, arch):
         """Whether a row comes with the source, or is one of testing's that worked and stays whatever moves."""
