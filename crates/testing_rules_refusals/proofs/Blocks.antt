@@ -140,13 +140,13 @@ module _ (archs : List Text) (sources : List UploadIn) (unstable : List RowIn) (
   pub told_block : (dead live : List Text) (name text : Text) (o : Offender) (rows old : List RowIn) (steps : List Step) → live ≡ living excuses t dead → old ≡ t.rows
       → IsBlockOf archs sources unstable live t name o rows steps
       → text ≡ stuck_line archs excuses (record { name = name; offender = o; steps = steps })
-      ++ refusal_text (record { archs = archs; sources = sources; excuses = excuses; coming = live; stuck = dead }) (lines_of rows steps (rows_on o.arch old) (rows_on o.arch unstable))
+      ++ refusal_text t (record { archs = archs; sources = sources; excuses = excuses; coming = live; stuck = dead }) (lines_of rows steps (rows_on o.arch old) (rows_on o.arch unstable))
       → IsToldBlock archs sources unstable excuses t dead name text
   told_block dead live name text o rows old steps same before w told =
       let is = subst (λ ls. IsBlockOf archs sources unstable ls t name o rows steps) same w in
       let b : Block = record { name = name; offender = o; steps = steps } in
       let lines : List Text → List RowIn → List RowIn → Text = λ ls rs ts. stuck_line archs excuses b
-      ++ refusal_text (record { archs = archs; sources = sources; excuses = excuses; coming = ls; stuck = dead }) (lines_of rs steps (rows_on o.arch ts) (rows_on o.arch unstable)) in
+      ++ refusal_text t (record { archs = archs; sources = sources; excuses = excuses; coming = ls; stuck = dead }) (lines_of rs steps (rows_on o.arch ts) (rows_on o.arch unstable)) in
       record {
         block = b;
         named = refl;

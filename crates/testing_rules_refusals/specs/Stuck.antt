@@ -94,7 +94,7 @@ block_text archs sources unstable excuses t dead b =
     let live = living excuses t dead in
     let arch = b.offender.arch in
     stuck_line archs excuses b
-    ++ refusal_text (record { archs = archs; sources = sources; excuses = excuses; coming = live; stuck = dead })
+    ++ refusal_text t (record { archs = archs; sources = sources; excuses = excuses; coming = live; stuck = dead })
     (lines_of (rows_on arch (may_stand sources unstable live b.name t)) b.steps (rows_on arch t.rows) (rows_on arch unstable))
 
 -- the lines of all blocks

@@ -1,6 +1,6 @@
 //! Which candidates live, and which rows may be present, whichever of them have moved.
 
-ghost use Rattle.std.specs.Prelude.{◌≡◌, ◌++◌, ℕ, List, IfOk, filter, map, not, option_copied};
+ghost use Rattle.std.specs.Prelude.{◌≡◌, ◌++◌, ℕ, List, IfOk, filter, is_none, map, not, option_copied};
 ghost use Rattle.std.specs.List.{list_any};
 ghost use Rattle.std.specs.Str.{bytes_eq};
 ghost use Rattle.testing_rules_excuses.specs.States as states;
@@ -72,6 +72,16 @@ fn version_in<'a>(testing: &'a Testing, name: &str) -> Option<&'a Version>
     match place_of_name(sources, name) {
         Ok(place) => Some(&sources[place].version),
         Err(_) => None,
+    }
+}
+
+/// Testing doesn't have the source. It costs one look-up among testing's sources.
+pub(crate) fn is_absent(testing: &Testing, name: &str) -> bool
+    ensures { result ≡ is_none (rules.testing_version testing.now name.now) }
+{
+    match version_in(testing, name) {
+        Some(_) => false,
+        None => true,
     }
 }
 

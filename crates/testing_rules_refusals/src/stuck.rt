@@ -261,7 +261,7 @@ fn lines_of<'a>(
     refusal: &Refusal<'a>,
 ) -> Result<Text, NoMemory>
     requires { AreBySource (unboxed ground.now.unstable.sources.now) }
-    ensures { IfOk result (λ text. text ≡ texts.refusal_text (record { archs = ground.now.archs.now; sources = unboxed ground.now.unstable.sources.now; excuses = ground.now.excuses.now; coming = live.now; stuck = dead.now })
+    ensures { IfOk result (λ text. text ≡ texts.refusal_text ground.now.testing.now (record { archs = ground.now.archs.now; sources = unboxed ground.now.unstable.sources.now; excuses = ground.now.excuses.now; coming = live.now; stuck = dead.now })
         (told_words.lines_of (lent refusal.now.rows.items) refusal.now.steps.items (moves.rows_on refusal.now.offender.arch (lent ground.now.rows.now))
         (moves.rows_on refusal.now.offender.arch (lent ground.now.unstable.rows.now)))) }
 {
@@ -269,6 +269,7 @@ fn lines_of<'a>(
         archs: ground.archs,
         unstable: ground.unstable,
         excuses: ground.excuses,
+        testing: ground.testing,
         coming: live,
         stuck: dead,
     };
@@ -286,7 +287,7 @@ fn block_text<'a>(
 ) -> Result<Text, NoMemory>
     requires { AreBySource (unboxed ground.now.unstable.sources.now) }
     ensures { IfOk result (λ text. text ≡ words.stuck_line ground.now.archs.now ground.now.excuses.now (record { name = name.now; offender = refusal.now.offender; steps = refusal.now.steps.items })
-        ++ texts.refusal_text (record { archs = ground.now.archs.now; sources = unboxed ground.now.unstable.sources.now; excuses = ground.now.excuses.now; coming = live.now; stuck = dead.now })
+        ++ texts.refusal_text ground.now.testing.now (record { archs = ground.now.archs.now; sources = unboxed ground.now.unstable.sources.now; excuses = ground.now.excuses.now; coming = live.now; stuck = dead.now })
         (told_words.lines_of (lent refusal.now.rows.items) refusal.now.steps.items (moves.rows_on refusal.now.offender.arch (lent ground.now.rows.now))
         (moves.rows_on refusal.now.offender.arch (lent ground.now.unstable.rows.now)))) }
 {
