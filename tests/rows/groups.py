@@ -25,7 +25,7 @@ class Behind:
         self.office, self.first = office, self.covers[RELEASE] + 1
         self.run = office.finished + 1
         self.late = next_run(office, self.covers, self.date, [])
-        self.rows, self.sources, self.left = self.late.behind_groups
+        self.rows, self.sources, self.left, self.excuse = self.late.behind_groups
 
     def with_hints(self, hints):
         """The office after its next run with these hints, too."""
@@ -75,7 +75,9 @@ class Behind:
 
     def may_stand(self, name, dead):
         """The rows that may be in testing once a source has moved and none of the dead has."""
-        return [row for row in self.rows.values() if row["source"] != name] + self.coming(self.living(dead))
+        taken = {(row["arch"], row["package"]) for row in self.coming([name])}
+        left = [row for row in self.rows.values() if row["source"] != name and (row["arch"], row["package"]) not in taken]
+        return left + self.coming(self.living(dead))
 
     def is_due(self, row, name, dead, arch):
         """Whether a row comes with the source, or is one of testing's that worked and stays whatever moves."""
@@ -96,7 +98,7 @@ class Behind:
         lines = ["leaves %s %s" % (r["package"], r["version"]) for r in on(arch, self.rows) if meets(r, clause)]
         offers = [r for r in on(arch, self.late.known.rows) if meets(r, clause)]
         for row in offers:
-            told = state(self.late.known, Refused(0, (), [name], {}, {}, self.late.known.excuse), row)
+            told = state(self.late.known, Refused(0, (), [name], {}, {}, self.excuse), row)
             told = "is stuck" if row["source"] in dead and told != "isn't current" else told
             lines.append("unstable %s %s of %s %s" % (row["package"], row["version"], row["source"], told))
         return lines if offers else lines + ["unstable nothing"]

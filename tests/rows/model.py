@@ -292,6 +292,11 @@ class Office:
                         return arch, package
             return None
 
+        def excuses_at_turn():
+            """The run's excuses, and one for each source that it has removed so far."""
+            there = set(self.sources)
+            return lambda s: excused.get(s) or (None if s in there else (0, 0, [], ["removal asked"]))
+
         for n, h in standing:
             if h[0] == "remove":
                 for i in h[1:]:
@@ -301,7 +306,7 @@ class Office:
                         bad = offender(new, {})
                         if bad:
                             lines.append("remove %d refuse %s %s uninstallable %s %s" % (n, s, self.sources[s], *bad))
-                            self.refused.append(Refused(n, bad, [], self.rows, new, excused.get))
+                            self.refused.append(Refused(n, bad, [], self.rows, new, excuses_at_turn()))
                         else:
                             lines.append("remove %d accept %s %s" % (n, s, self.sources[s]))
                             self.rows = new
@@ -321,13 +326,13 @@ class Office:
                 off = offender(new, coming)
                 if off:
                     lines.append("easy %d refuse uninstallable %s %s" % (n, *off))
-                    self.refused.append(Refused(n, off, [s for s, _ in todo], self.rows, new, excused.get))
+                    self.refused.append(Refused(n, off, [s for s, _ in todo], self.rows, new, excuses_at_turn()))
                 else:
                     lines.append("easy %d accept %s" % (n, " ".join("%s %s" % (s, left[s]) for s, _ in todo)))
                     self.rows = new
                     for s, _ in todo:
                         self.sources[s] = left.pop(s)
-        self.behind_groups = self.rows, dict(self.sources), dict(left)
+        self.behind_groups = self.rows, dict(self.sources), dict(left), excuses_at_turn()
         last = ""
         while True:
             turn = [s for s in sorted(left) if s > last] + [s for s in sorted(left) if s <= last]

@@ -1,7 +1,7 @@
 //! The candidates that no group frees. Whatever groups and single moves follow, the rows present once a candidate has
-//! moved are among those of testing that aren't its own and those that living candidates bring. The candidate is dead
-//! if a row that it brings, or one of testing that stays whatever moves, isn't installable among these; then its rows
-//! can't be used by any other.
+//! moved are among those of testing that don't leave with it and those that living candidates bring. Its own rows leave,
+//! and those whose keys its new rows take. The candidate is dead if a row that it brings, or one of testing that stays
+//! whatever moves, isn't installable among these; then its rows can't be used by any other.
 
 use crate::flags::{copy_flags, flags_of, is_set, is_set_for, set};
 use crate::found::DeadSource;
@@ -218,7 +218,7 @@ fn falls_by(
     }
 }
 
-/// The row of an architecture whose loss makes a candidate fall once its rows have left testing.
+/// The row of an architecture whose loss makes a candidate fall once the rows that its move takes away have left.
 fn fall_on(
     alloc: Global,
     scope: &Scope,
@@ -227,11 +227,11 @@ fn fall_on(
     arch: u32,
     number: usize,
 ) -> Result<Option<Fall>, NoMemory> {
-    let own = scope.own_rows(alloc, number)?;
-    if own.is_empty() {
+    let leaving = scope.leaving_rows(alloc, number)?;
+    if leaving.is_empty() {
         return Ok(None);
     }
-    let lost = rows.lost_without(alloc, &own)?;
+    let lost = rows.lost_without(alloc, &leaving)?;
     for place in &lost {
         let fall = Fall {
             number,
@@ -245,7 +245,7 @@ fn fall_on(
     Ok(None)
 }
 
-/// The row whose loss makes a candidate fall once its rows have left testing.
+/// The row whose loss makes a candidate fall once the rows that its move takes away have left.
 fn fall_of(
     alloc: Global,
     scope: &Scope,
@@ -264,7 +264,7 @@ fn fall_of(
     Ok(None)
 }
 
-/// The living candidates that fall once their rows have left testing.
+/// The living candidates that fall once the rows that their moves take away have left.
 fn falls_by_leaving(
     alloc: Global,
     scope: &Scope,
@@ -282,7 +282,7 @@ fn falls_by_leaving(
     Ok(falls)
 }
 
-/// Kills the candidates that fall once their rows have left testing.
+/// Kills the candidates that fall once the rows that their moves take away have left.
 fn kill_leaving(
     alloc: Global,
     scope: &Scope,

@@ -204,6 +204,37 @@ impl<'a> Scope<'a> {
         }
         Ok(places)
     }
+
+    /// Adds the places of testing's rows of others that have the key of the candidate's row at this place.
+    fn push_replaced(
+        &self,
+        alloc: Global,
+        places: &mut Vec<usize>,
+        number: usize,
+        place: usize,
+    ) -> Result<(), NoMemory> {
+        if let Some(row) = self.row(place) {
+            for rival in &self.rivals(alloc, &row)? {
+                if *rival < self.first && self.owner(*rival) != Some(number) {
+                    places.push(*rival)?;
+                }
+            }
+        }
+        Ok(())
+    }
+
+    /// The places of testing's rows that leave once a candidate has moved: its own, and those whose keys its rows take.
+    pub fn leaving_rows(&self, alloc: Global, number: usize) -> Result<Vec<usize>, NoMemory> {
+        let mut places = self.own_rows(alloc, number)?;
+        if let Some(candidate) = self.candidates.get(number) {
+            for place in self.pool.of_source(candidate.source.as_str()) {
+                if *place >= self.first && self.owner(*place) == Some(number) {
+                    self.push_replaced(alloc, &mut places, number, *place)?;
+                }
+            }
+        }
+        Ok(places)
+    }
 }
 
 /// The present rows of an architecture, and which of them work. Flags of rows that aren't on it mean nothing.

@@ -1,5 +1,5 @@
 -- What is found of blocks, as what is promised of them.
-use Rattle.std.proofs.Common.{◌≡◌, ℕ, ◌<◌, ◌⊎◌, ◌&&◌, ◌++◌, not, true, false, List, [], ◌∷◌, length, Some, refl, sym, ap, ◌∙◌, subst, inl, inr}
+use Rattle.std.proofs.Common.{◌≡◌, ℕ, ◌<◌, ◌⊎◌, ◌&&◌, ◌++◌, not, Bool, true, false, List, [], ◌∷◌, length, Some, refl, sym, ap, ◌∙◌, subst, inl, inr}
 use Rattle.std.specs.Prelude.{Contains, map, filter}
 use Rattle.std.specs.Borrow.{Bor}
 use Rattle.std.specs.List.{slice_get, list_any}
@@ -12,6 +12,7 @@ use Rattle.testing_rules_model.specs.declared.excuse.Excuse.{Excuse}
 use Rattle.testing_rules_model.specs.declared.facts.UploadIn.{UploadIn}
 use Rattle.testing_rules_model.specs.declared.suite.RowIn.{RowIn}
 use Rattle.testing_rules_model.specs.declared.update.Offender.{Offender}
+use Rattle.testing_rules_model.specs.InOrder.{AreByKey}
 use Rattle.testing_rules_model.specs.Moves.{RowAnswer, rows_on, is_row_on, judged_on, is_row_of, is_same_key, was_installable}
 use Rattle.testing_rules_model.specs.Suite.{Suite}
 use Rattle.testing_rules_model.specs.Updates.{is_remaining}
@@ -20,16 +21,16 @@ use Rattle.testing_rules_model.proofs.MoreMail.{filter-same}
 use Rattle.testing_rules_excuses.specs.States.{is_current_in}
 use Rattle.testing_rules_reports.specs.LentLines.{has_line}
 use Rattle.testing_rules_suites.proofs.Lost.{contains_at}
-use Rattle.testing_rules_suites.specs.AfterMoves.{rows_without}
 use Rattle.testing_install_why.specs.Certificate.{IsShownBy}
 use Rattle.testing_install_why.specs.declared.Step.{Step}
 use Rattle.testing_rules_refusals.specs.Needs.{packages, all_there}
 use Rattle.testing_rules_refusals.specs.Standing.{lives_beside, comes_by, IsOwnAt, IsStayingAt, IsDueAt, IsBlockOf, IsToldBlock, AreToldBlocks, begins_with}
-use Rattle.testing_rules_refusals.specs.Stuck.{is_living, living, coming_rows, may_stand, Block, IsStuckBy, AreStuck, names_of, stuck_line, block_text, stuck_text, IsStuckText}
+use Rattle.testing_rules_refusals.specs.Stuck.{is_living, living, coming_rows, gives_way, may_stand, Block, IsStuckBy, AreStuck, names_of, stuck_line, block_text, stuck_text, IsStuckText}
 use Rattle.testing_rules_refusals.specs.Texts.{comes_with, refusal_text}
 use Rattle.testing_rules_refusals.specs.Told.{lines_of}
-use Rattle.testing_rules_refusals.proofs.Coming.{both_so, or_first, not_so}
+use Rattle.testing_rules_refusals.proofs.Coming.{both_so, or_first}
 use Rattle.testing_rules_refusals.proofs.Failings.{first_of_both, second_of_both}
+use Rattle.testing_rules_refusals.proofs.Leaving.{neither_first}
 
 -- A set that has the names that a list has.
 
@@ -47,8 +48,11 @@ coming_alike sources unstable live keys same =
 
 module _ (sources : List UploadIn) (unstable : List RowIn) (live : List Text) (t : Suite) (name : Text) (o : Offender) (rows : List RowIn) (place : ℕ)
     (rows_are : rows ≡ rows_on o.arch (may_stand sources unstable live name t)) where
+  abbrev stays_there : RowIn → Bool
+  stays_there r = not (gives_way (coming_rows sources unstable (name ∷ [])) name r)
+
   abbrev others : List RowIn
-  others = filter (λ (r : RowIn). not (bytes_eq r.binary.source name)) t.rows
+  others = filter stays_there t.rows
 
   abbrev coming : List RowIn
   coming = coming_rows sources unstable live
@@ -64,7 +68,8 @@ module _ (sources : List UploadIn) (unstable : List RowIn) (live : List Text) (t
     row = w.row;
     is = w.is;
     due = elim (either w.row w.is.stands) [
-      | inl another ↦ absurd (false≢true (sym (not_so (bytes_eq w.row.binary.source name) (from_filter (λ (r : RowIn). not (bytes_eq r.binary.source name)) t.rows w.row another).1) ∙ w.own))
+      | inl another ↦ absurd (false≢true (sym (neither_first (bytes_eq w.row.binary.source name) (list_any (is_same_key w.row) (coming_rows sources unstable (name ∷ [])))
+          (from_filter stays_there t.rows w.row another).1) ∙ w.own))
       | inr comes ↦ (
           let f = from_filter (comes_with sources live) unstable w.row comes in
           inl (to_filter (comes_with sources (name ∷ [])) unstable w.row f.0
@@ -81,7 +86,7 @@ module _ (sources : List UploadIn) (unstable : List RowIn) (live : List Text) (t
     is = w.is;
     due = inr (record {
       there = elim (either w.row w.is.stands) [
-        | inl another ↦ (from_filter (λ (r : RowIn). not (bytes_eq r.binary.source name)) t.rows w.row another).0
+        | inl another ↦ (from_filter stays_there t.rows w.row another).0
         | inr comes ↦ absurd (false≢true (sym w.own ∙ first_of_both (is_row_of live w.row) (is_current_in sources w.row) (from_filter (comes_with sources live) unstable w.row comes).1))
       ];
       worked = ap (λ js. was_installable js w.row) (sym b) ∙ w.worked;
@@ -90,20 +95,14 @@ module _ (sources : List UploadIn) (unstable : List RowIn) (live : List Text) (t
     });
   }
 
--- the rows that may stand, of those of testing that aren't the source's and those that may come
-pub rows_may : (arch : ℕ) (sources : List UploadIn) (unstable : List RowIn) (live : List Text) (t : Suite) (name : Text) (rows old found all : List RowIn)
-    → rows ≡ rows_on arch (rows_without name old ++ found) → old ≡ t.rows → found ≡ all → all ≡ coming_rows sources unstable live
-    → rows ≡ rows_on arch (may_stand sources unstable live name t)
-rows_may arch sources unstable live t name rows old found all e before f g =
-    e ∙ ap (λ rs. rows_on arch (rows_without name rs ++ found)) before ∙ ap (λ rs. rows_on arch (rows_without name t.rows ++ rs)) (f ∙ g)
-
 -- what is found of a block, of lists that are lent
 pub block_found : (archs : List Text) (sources : List UploadIn) (unstable : List RowIn) (live : List Text) (t : Suite) (name : Text) (arch : ℕ) (named copy : Text) (rows first second : List RowIn) (place : ℕ) (steps : List Step)
-    → list_any (bytes_eq name) live ≡ true → arch < length archs → copy ≡ named → rows ≡ rows_on arch (may_stand sources unstable live name t)
+    → AreByKey t.rows → list_any (bytes_eq name) live ≡ true → arch < length archs → copy ≡ named → rows ≡ rows_on arch (may_stand sources unstable live name t)
     → first ≡ rows → IsDueAt sources unstable live t name (record { arch = arch; «package» = named }) first place
     → second ≡ rows → IsShownBy (packages second) all_there place steps
     → IsBlockOf archs sources unstable live t name (record { arch = arch; «package» = copy }) rows steps
-block_found archs sources unstable live t name arch named copy rows first second place steps lives listed c e f due s shown = record {
+block_found archs sources unstable live t name arch named copy rows first second place steps ordered lives listed c e f due s shown = record {
+  ordered = ordered;
   lives = lives;
   listed = listed;
   place = place;
@@ -125,6 +124,7 @@ module _ (archs : List Text) (sources : List UploadIn) (unstable : List RowIn) (
   pub stuck_by : (dead : List Text) (name : Text) (o : Offender) (rows : List RowIn) (steps : List Step) → IsBlockOf archs sources unstable (living excuses t dead) t name o rows steps
       → IsStuckBy archs sources unstable excuses t dead (record { name = name; offender = o; steps = steps })
   stuck_by dead name o rows steps w = record {
+    ordered = w.ordered;
     lives = w.lives;
     listed = w.listed;
     place = w.place;
@@ -140,13 +140,13 @@ module _ (archs : List Text) (sources : List UploadIn) (unstable : List RowIn) (
   pub told_block : (dead live : List Text) (name text : Text) (o : Offender) (rows old : List RowIn) (steps : List Step) → live ≡ living excuses t dead → old ≡ t.rows
       → IsBlockOf archs sources unstable live t name o rows steps
       → text ≡ stuck_line archs excuses (record { name = name; offender = o; steps = steps })
-      ++ refusal_text (record { archs = archs; sources = sources; excuses = excuses; coming = live; stuck = dead }) (lines_of rows steps (rows_on o.arch old) (rows_on o.arch unstable))
+      ++ refusal_text t (record { archs = archs; sources = sources; excuses = excuses; coming = live; stuck = dead }) (lines_of rows steps (rows_on o.arch old) (rows_on o.arch unstable))
       → IsToldBlock archs sources unstable excuses t dead name text
   told_block dead live name text o rows old steps same before w told =
       let is = subst (λ ls. IsBlockOf archs sources unstable ls t name o rows steps) same w in
       let b : Block = record { name = name; offender = o; steps = steps } in
       let lines : List Text → List RowIn → List RowIn → Text = λ ls rs ts. stuck_line archs excuses b
-      ++ refusal_text (record { archs = archs; sources = sources; excuses = excuses; coming = ls; stuck = dead }) (lines_of rs steps (rows_on o.arch ts) (rows_on o.arch unstable)) in
+      ++ refusal_text t (record { archs = archs; sources = sources; excuses = excuses; coming = ls; stuck = dead }) (lines_of rs steps (rows_on o.arch ts) (rows_on o.arch unstable)) in
       record {
         block = b;
         named = refl;

@@ -20,12 +20,12 @@ use Rattle.testing_rules_model.specs.Suite.{Suite}
 use Rattle.testing_rules_model.specs.Unstable.{is_current, is_of_source}
 use Rattle.testing_rules_model.proofs.Least.{from_filter, to_filter}
 use Rattle.testing_rules_model.proofs.MoreMail.{text_same, text_tied}
-use Rattle.testing_rules_model.proofs.Sets.{first_or_rest, at_front, given_by, gives, spread_from, spreads}
+use Rattle.testing_rules_model.proofs.Sets.{first_or_rest, given_by, gives, spread_from, spreads}
 use Rattle.testing_rules_model.proofs.Watching.{found_passes}
 use Rattle.testing_rules_live.specs.Lacks.{arriving}
 use Rattle.testing_rules_suites.proofs.Arranging.{at_some_of}
 use Rattle.testing_rules_suites.proofs.Moving.{AreOthers, puts_have, source_of_group}
-use Rattle.testing_rules_suites.proofs.Shown.{itself_or_other, other_keys, put_from, put_keeps}
+use Rattle.testing_rules_suites.proofs.Shown.{itself_or_other, other_keys, put_keeps}
 use Rattle.testing_rules_excuses.specs.States.{is_current_in}
 use Rattle.testing_rules_refusals.specs.Stuck.{coming_rows}
 use Rattle.testing_rules_refusals.specs.Texts.{comes_with}
@@ -77,13 +77,6 @@ has_named names n h = let s = some_of (bytes_eq n) names h in subst (Contains na
 
 abbrev puts : List RowIn → List RowIn → List RowIn
 puts xs base = fold (λ ys r. put_row r ys) base xs
-
-pub puts_within : (xs base : List RowIn) (r : RowIn) → Contains (puts xs base) r → Contains xs r ⊎ Contains base r
-puts_within [] base r c = inr c
-puts_within (x ∷ xs) base r c = elim (puts_within xs (put_row x base) r c) [
-  | inl later ↦ inl (tail_of x xs r later)
-  | inr before ↦ elim (put_from x r base before) [ inl own ↦ inl (at_front x r xs own) | inr among ↦ inr among ]
-]
 
 pub puts_leave : (xs base : List RowIn) (r : RowIn) → ((x : RowIn) → Contains xs x → row_key x ≡ row_key r → ⊥) → Contains base r → Contains (puts xs base) r
 puts_leave [] base r o c = c

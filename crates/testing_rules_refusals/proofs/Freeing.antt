@@ -36,15 +36,19 @@ use Rattle.testing_rules_model.specs.Suite.{Suite}
 use Rattle.testing_rules_model.specs.Updates.{Outcome, decide, nothing, in_turn, is_in_testing, is_candidate, is_remaining, remaining, move_as_one, move_items, move_easy, moved_alone, offender_alone, is_allowed_alone, accepted, single_moves, move_singles}
 use Rattle.testing_rules_model.proofs.Least.{from_filter, to_filter}
 use Rattle.testing_rules_model.proofs.MoreMail.{text_same}
+use Rattle.testing_rules_model.proofs.Ordered.{by_key-put_all, by_key-kept}
 use Rattle.testing_rules_model.proofs.Sets.{first_or_rest, mapped_from, maps}
 use Rattle.testing_rules_model.proofs.Watching.{found_passes}
 use Rattle.testing_rules_live.specs.Lacks.{arriving}
 use Rattle.testing_rules_suites.proofs.Lost.{contains_at, at_place}
+use Rattle.testing_rules_suites.proofs.Moving.{puts_from}
+use Rattle.testing_rules_suites.proofs.Shown.{IsOther, key_ties}
 use Rattle.testing_rules_refusals.specs.Needs.{packages}
-use Rattle.testing_rules_refusals.specs.Stuck.{living, is_living, coming_rows, may_stand, Stays, Block, IsStuckBy, AreStuck, names_of}
+use Rattle.testing_rules_refusals.specs.Stuck.{living, is_living, coming_rows, gives_way, may_stand, Stays, Block, IsStuckBy, AreStuck, names_of}
 use Rattle.testing_rules_refusals.proofs.Bounding.{bounded}
-use Rattle.testing_rules_refusals.proofs.Coming.{any_of, some_of, is_named, has_named, both_so, not_so, isnt_so, puts_within, puts_leave, comes_group, arriving_comes, coming_more, own_arrives, arrived, version_stays}
+use Rattle.testing_rules_refusals.proofs.Coming.{any_of, some_of, is_named, has_named, both_so, not_so, isnt_so, puts_leave, comes_group, arriving_comes, coming_more, own_arrives, arrived, version_stays}
 use Rattle.testing_rules_refusals.proofs.Failings.{first_of_both, second_of_both}
+use Rattle.testing_rules_refusals.proofs.Leaving.{either_none, keys_tie}
 use Rattle.testing_rules_refusals.proofs.Working.{same_itself, place, at, works, still_works}
 
 eq_of : (o : Ordering) → is_eq o ≡ true → o ≡ Equal
@@ -162,13 +166,16 @@ module _ (archs : List Text) (sources : List UploadIn) (unstable : List RowIn) (
       puts_leave (arriving sources unstable group) (filter (λ (q : RowIn). not (is_row_of group q)) t1.rows) r
       (λ x d e. false≢true (sym s.key ∙ any_of (is_same_key r) (coming_rows sources unstable live) x (arriving_comes sources unstable group live within x d) (keys_alike x r e))) base
 
-  -- a row that stands once a group has moved came with it, or stood before and isn't the group's
-  moved_from : (group : List Text) (t1 : Suite) (r : RowIn) → Contains (move_group sources unstable group t1).rows r
-      → Contains (arriving sources unstable group) r ⊎ (Contains t1.rows r × (is_row_of group r ≡ false))
-  moved_from group t1 r c = elim (puts_within (arriving sources unstable group) (filter (λ (q : RowIn). not (is_row_of group q)) t1.rows) r c) [
-    | inl came ↦ inl came
-    | inr stood ↦ let f = from_filter (λ (q : RowIn). not (is_row_of group q)) t1.rows r stood in inr (f.0, not_so (is_row_of group r) f.1)
-  ]
+  -- a row that stands once a group has moved came with it, or stood before, isn't the group's, and no row that came has its key
+  moved_from : (group : List Text) (t1 : Suite) (r : RowIn) → AreByKey t1.rows → Contains (move_group sources unstable group t1).rows r
+      → Contains (arriving sources unstable group) r
+      ⊎ (Contains t1.rows r × (is_row_of group r ≡ false) × ((x : RowIn) → Contains (arriving sources unstable group) x → IsOther x r))
+  moved_from group t1 r ordered c =
+      let others : RowIn → Bool = λ q. not (is_row_of group q) in
+      elim (puts_from (arriving sources unstable group) (filter others t1.rows) r (by_key-kept others t1.rows ordered) c) [
+        | inl came ↦ inl came
+        | inr stood ↦ let f = from_filter others t1.rows r stood.0 in inr (f.0, not_so (is_row_of group r) f.1, stood.1)
+      ]
 
   module _ (stuck : List Block) (are : AreStuck archs sources unstable excuses t stuck) where
     -- those that live while none of the blocks' sources moves
@@ -178,17 +185,18 @@ module _ (archs : List Text) (sources : List UploadIn) (unstable : List RowIn) (
     -- What holds of testing as long as none of them has moved: its rows are among those before and those of the free, versions stay but for the
     -- free, and staying rows stand and work.
     pub record Holds (t1 : Suite) : Type 0 where
+      pub ordered : AreByKey t1.rows
       pub rows : (r : RowIn) → Contains t1.rows r → Contains t.rows r ⊎ Contains (coming_rows sources unstable free) r
       pub versions : (n : Text) → (testing_version t1 n ≡ testing_version t n) ⊎ Contains free n
       pub stays : (arch : ℕ) (r : RowIn) → arch < length archs → is_watched_on arch r ≡ true → Stays sources unstable free t arch r
           → Contains t1.rows r × (was_installable (judged_on arch t1.rows) r ≡ true)
 
-    holds_first : Holds t
-    holds_first = record { rows = λ r c. inl c; versions = λ n. inl refl; stays = λ arch r listed watched s. (s.there, s.worked) }
+    holds_first : AreByKey t.rows → Holds t
+    holds_first ordered = record { ordered = ordered; rows = λ r c. inl c; versions = λ n. inl refl; stays = λ arch r listed watched s. (s.there, s.worked) }
 
     -- A group of which a source of a block is one breaks that block's row, if none of the dead is in it.
     module _ (dead : List Text) (fewer : Within dead (names_of stuck)) (b : Block) (is : IsStuckBy archs sources unstable excuses t dead b)
-        (t1 : Suite) (h : Holds t1) (group : List Text) (within : Within group (living excuses t dead)) (own : Contains group b.name)
+        (t1 : Suite) (h : Holds t1) (group : List Text) (within : Within group (living excuses t dead)) (own_moves : Contains group b.name)
         (allowed : offender_of archs t1.rows (move_group sources unstable group t1).rows group ≡ None) where
       abbrev live : List Text
       live = living excuses t dead
@@ -205,15 +213,21 @@ module _ (archs : List Text) (sources : List UploadIn) (unstable : List RowIn) (
       -- each row that stands then is one that may stand
       may : (q : RowIn) → Contains new q → Contains (may_stand sources unstable live b.name t) q
       may q c =
-          let others = filter (λ (r : RowIn). not (bytes_eq r.binary.source b.name)) t.rows in
+          let own = coming_rows sources unstable (b.name ∷ []) in
+          let left : RowIn → Bool = λ r. not (gives_way own b.name r) in
+          let others = filter left t.rows in
           let coming = coming_rows sources unstable live in
-          elim (moved_from group t1 q c) [
+          elim (moved_from group t1 q h.ordered c) [
             | inl came ↦ Contains-append_right others coming q (arriving_comes sources unstable group live within q came)
             | inr stood ↦ elim (h.rows q stood.0) [
               | inl before ↦ (
                   let another : bytes_eq q.binary.source b.name ≡ false = isnt_so (bytes_eq q.binary.source b.name) (λ e.
-                  false≢true (sym stood.1 ∙ is_named group q.binary.source (subst (Contains group) (sym ((bytes_eq-Decides q.binary.source b.name).0 e)) own))) in
-                  Contains-append_left others coming q (to_filter (λ (r : RowIn). not (bytes_eq r.binary.source b.name)) t.rows q before (ap not another)))
+                  false≢true (sym stood.1 ∙ is_named group q.binary.source (subst (Contains group) (sym ((bytes_eq-Decides q.binary.source b.name).0 e)) own_moves))) in
+                  let unreplaced : list_any (is_same_key q) own ≡ false = isnt_so (list_any (is_same_key q) own) (λ e.
+                  let x = some_of (is_same_key q) own e in
+                  stood.2 x.0 (own_arrives sources unstable group b.name x.0 own_moves x.1) (key_ties x.0 q (keys_tie q x.0 x.2))) in
+                  Contains-append_left others coming q
+                  (to_filter left t.rows q before (either_none (bytes_eq q.binary.source b.name) (list_any (is_same_key q) own) another unreplaced)))
               | inr came ↦ Contains-append_right others coming q (coming_more sources unstable free live free_live q came)
             ]
           ]
@@ -222,7 +236,7 @@ module _ (archs : List Text) (sources : List UploadIn) (unstable : List RowIn) (
       due : Contains new is.row × ((is_row_of group is.row ≡ true) ⊎ (was_installable (judged_on arch t1.rows) is.row ≡ true))
       due = elim is.due [
         | inl comes ↦ (
-            let c = own_arrives sources unstable group b.name is.row own comes in (
+            let c = own_arrives sources unstable group b.name is.row own_moves comes in (
               arrived sources unstable by_key group (filter (λ (q : RowIn). not (is_row_of group q)) t1.rows) is.row c,
               inl (is_named group is.row.binary.source (comes_group sources unstable group is.row c).1),
             ))
@@ -271,7 +285,8 @@ module _ (archs : List Text) (sources : List UploadIn) (unstable : List RowIn) (
       -- and it holds after the move
       pub holds_next : Holds (move_group sources unstable group t1)
       holds_next = record {
-        rows = λ r c. elim (moved_from group t1 r c) [
+        ordered = by_key-put_all (arriving sources unstable group) (filter (λ (q : RowIn). not (is_row_of group q)) t1.rows) (by_key-kept (λ (q : RowIn). not (is_row_of group q)) t1.rows h.ordered);
+        rows = λ r c. elim (moved_from group t1 r h.ordered c) [
           | inl came ↦ inr (arriving_comes sources unstable group free group_free r came)
           | inr stood ↦ h.rows r stood.0
         ];
@@ -385,16 +400,20 @@ module _ (archs : List Text) (sources : List UploadIn) (unstable : List RowIn) (
               (ap (λ (o : Option Text). not (option_map_or (is_same_version e.unstable) o false)) (sym same) ∙ second_of_both (is_empty e.reasons) (not (is_in_testing t1 e.source e.unstable)) f.1))
         ]
 
-    all_hold : (hints : List HintIn) → Holds (move_singles archs sources unstable excuses (in_turn (move_easy archs sources unstable excuses) hints t).suite).suite
-    all_hold hints =
+    all_hold : AreByKey t.rows → (hints : List HintIn) → Holds (move_singles archs sources unstable excuses (in_turn (move_easy archs sources unstable excuses) hints t).suite).suite
+    all_hold ordered hints =
         let grouped = (in_turn (move_easy archs sources unstable excuses) hints t).suite in
-        let h = hints_hold hints t holds_first in
+        let h = hints_hold hints t (holds_first ordered) in
         singles_hold (length (remaining excuses grouped)) (remaining excuses grouped) grouped (remaining_live grouped h) h
+
+    one_of_each : (blocks : List Block) → AreStuck archs sources unstable excuses t blocks → (b : Block) → Contains blocks b → AreByKey t.rows
+    one_of_each [] stays b c = none_among b c
+    one_of_each (x ∷ blocks) stays b c = stays.0.ordered
 
     -- so the sources of the blocks keep their versions
     pub stuck_stays : (hints : List HintIn) (b : Block) → Contains stuck b
         → testing_version (move_singles archs sources unstable excuses (in_turn (move_easy archs sources unstable excuses) hints t).suite).suite b.name ≡ testing_version t b.name
-    stuck_stays hints b c = elim ((all_hold hints).versions b.name) [
+    stuck_stays hints b c = elim ((all_hold (one_of_each stuck are b c) hints).versions b.name) [
       | inl same ↦ same
       | inr lives ↦ absurd (living_out (names_of stuck) b.name (maps (λ (x : Block). x.name) stuck b c) lives)
     ]

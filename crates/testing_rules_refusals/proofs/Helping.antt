@@ -6,8 +6,9 @@ use Rattle.std.proofs.lemmas.Bool.{true≢false}
 use Rattle.testing_rules_items.specs.Words.{Text, is_empty}
 use Rattle.testing_rules_model.specs.declared.suite.LentRow.{LentRow}
 use Rattle.testing_rules_model.specs.JudgedRows.{lent}
+use Rattle.testing_rules_model.specs.Suite.{Suite}
 use Rattle.testing_rules_refusals.specs.Lines.{need_line}
-use Rattle.testing_rules_refusals.specs.Texts.{Known, comes_with, offer_line, offers_text, help_text, told_text}
+use Rattle.testing_rules_refusals.specs.Texts.{Known, comes_with, offer_line, offers_text, line_within, offers_within, help_text, told_text}
 use Rattle.testing_rules_refusals.specs.Told.{ToldLine}
 
 isnt_none : {A : Type 0} (x : A) (xs : List A) → (length (x ∷ xs) == 0) ≡ true → ⊥
@@ -33,10 +34,20 @@ module _ (k : Known) where
   abbrev pub line_of : ToldLine → Text
   line_of l = need_line (comes_with k.sources k.coming l.need.row) l.number l.need l.met_by
 
-  -- behind a line that nothing meets stands what would help
-  pub helped : (l : ToldLine) → (length l.met_by == 0) ≡ true → told_text k l ≡ line_of l ++ help_text k l
-  helped l e = ap (λ b. line_of l ++ (if b then help_text k l else [])) (empty_at true l.met_by e)
+  module _ (t : Suite) where
+    -- the same within a run
+    pub none_within : (rows : List LentRow) → (length rows == 0) ≡ true → offers_within t k (lent rows) ≡ codes "unstable nothing\n"
+    none_within [] e = refl
+    none_within (r ∷ rows) e = absurd (isnt_none r rows e)
 
-  -- and behind another one nothing
-  pub unhelped : (l : ToldLine) → (length l.met_by == 0) ≡ false → told_text k l ≡ line_of l
-  unhelped l e = ap (λ b. line_of l ++ (if b then help_text k l else [])) (empty_at false l.met_by e) ∙ append-nil (line_of l)
+    pub some_within : (rows : List LentRow) → (length rows == 0) ≡ false → offers_within t k (lent rows) ≡ flat_map (line_within t k) (lent rows)
+    some_within [] e = absurd (true≢false e)
+    some_within (r ∷ rows) e = refl
+
+    -- behind a line that nothing meets stands what would help
+    pub helped : (l : ToldLine) → (length l.met_by == 0) ≡ true → told_text t k l ≡ line_of l ++ help_text t k l
+    helped l e = ap (λ b. line_of l ++ (if b then help_text t k l else [])) (empty_at true l.met_by e)
+
+    -- and behind another one nothing
+    pub unhelped : (l : ToldLine) → (length l.met_by == 0) ≡ false → told_text t k l ≡ line_of l
+    unhelped l e = ap (λ b. line_of l ++ (if b then help_text t k l else [])) (empty_at false l.met_by e) ∙ append-nil (line_of l)

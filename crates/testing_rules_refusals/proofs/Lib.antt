@@ -9,6 +9,7 @@ pub mod Sole
 pub mod Bounding
 pub mod Coming
 pub mod Working
+pub mod Leaving
 pub mod Freeing
 pub mod Blocks
 pub mod LineBearers

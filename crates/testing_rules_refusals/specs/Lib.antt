@@ -7,5 +7,6 @@ pub mod Alone
 pub mod ToldChange
 pub mod Stuck
 pub mod Standing
+pub mod Arrivals
 pub mod Shown
 pub mod LineNumbers

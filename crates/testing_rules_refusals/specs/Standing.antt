@@ -9,6 +9,7 @@ use Rattle.testing_rules_model.specs.declared.excuse.Excuse.{Excuse}
 use Rattle.testing_rules_model.specs.declared.facts.UploadIn.{UploadIn}
 use Rattle.testing_rules_model.specs.declared.suite.RowIn.{RowIn}
 use Rattle.testing_rules_model.specs.declared.update.Offender.{Offender}
+use Rattle.testing_rules_model.specs.InOrder.{AreByKey}
 use Rattle.testing_rules_model.specs.Moves.{RowAnswer, rows_on, is_row_of, is_same_key, is_watched_on, was_installable}
 use Rattle.testing_rules_model.specs.Suite.{Suite}
 use Rattle.testing_rules_model.specs.Updates.{is_remaining}
@@ -55,6 +56,7 @@ pub record IsDueAt (sources : List UploadIn) (unstable : List RowIn) (live : Lis
 
 -- this is found out about the block of the source while these live
 pub record IsBlockOf (archs : List Text) (sources : List UploadIn) (unstable : List RowIn) (live : List Text) (t : Suite) (name : Text) (o : Offender) (rows : List RowIn) (steps : List Step) : Type 0 where
+  pub ordered : AreByKey t.rows
   pub lives : list_any (bytes_eq name) live ≡ true
   pub listed : o.arch < length archs
   pub place : ℕ

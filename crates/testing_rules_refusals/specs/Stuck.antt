@@ -1,6 +1,6 @@
 -- What no group frees: blocks of lines. Each shows that its source can't move in any group while those of the later
 -- blocks don't (Debian Developer's Reference 5.13.2 and 5.13.2.3; this office decides to report it).
-use Rattle.std.specs.Prelude.{◌≡◌, ℕ, ◌<◌, ◌⊎◌, ⊤, Bool, true, false, ◌&&◌, not, List, [], ◌∷◌, ◌++◌, codes, map, filter, length, Some, Contains}
+use Rattle.std.specs.Prelude.{◌≡◌, ℕ, ◌<◌, ◌⊎◌, ⊤, Bool, true, false, ◌&&◌, ◌||◌, not, List, [], ◌∷◌, ◌++◌, codes, map, filter, length, Some, Contains}
 use Rattle.std.specs.List.{slice_get, list_any}
 use Rattle.std.specs.Option.{option_map_or}
 use Rattle.std.specs.Str.{bytes_eq}
@@ -35,9 +35,14 @@ living excuses t dead = map (λ e. e.source) (filter (is_living t dead) excuses)
 abbrev pub coming_rows : List UploadIn → List RowIn → List Text → List RowIn
 coming_rows sources unstable group = filter (comes_with sources group) unstable
 
+-- the row leaves once the source of this name, with these rows, has moved: it is the source's, or one of them has its key
+abbrev pub gives_way : List RowIn → Text → RowIn → Bool
+gives_way own name r = bytes_eq r.binary.source name || list_any (is_same_key r) own
+
 -- the rows that may be present once the source has moved, whichever of the living move
 abbrev pub may_stand : List UploadIn → List RowIn → List Text → Text → Suite → List RowIn
-may_stand sources unstable live name t = filter (λ r. not (bytes_eq r.binary.source name)) t.rows ++ coming_rows sources unstable live
+may_stand sources unstable live name t =
+    filter (λ r. not (gives_way (coming_rows sources unstable (name ∷ [])) name r)) t.rows ++ coming_rows sources unstable live
 
 -- testing's row stays whichever of the living move: it was installable, none of them is its source, and none has a row
 -- with its key
@@ -54,8 +59,10 @@ pub record Block : Type 0 where
   pub steps : List Step
 
 -- The source of the block can't move while none of the dead does: it is a candidate, the offender's row is watched and
--- comes with it or stays, and the steps show that it isn't installable among the rows that may be present.
+-- comes with it or stays, and the steps show that it isn't installable among the rows that may be present. Testing has
+-- one row of a key, so that a row that comes takes the place of the one that was there.
 pub record IsStuckBy (archs : List Text) (sources : List UploadIn) (unstable : List RowIn) (excuses : List Excuse) (t : Suite) (dead : List Text) (b : Block) : Type 0 where
+  pub ordered : AreByKey t.rows
   pub lives : list_any (bytes_eq b.name) (living excuses t dead) ≡ true
   pub listed : b.offender.arch < length archs
   pub place : ℕ
@@ -87,7 +94,7 @@ block_text archs sources unstable excuses t dead b =
     let live = living excuses t dead in
     let arch = b.offender.arch in
     stuck_line archs excuses b
-    ++ refusal_text (record { archs = archs; sources = sources; excuses = excuses; coming = live; stuck = dead })
+    ++ refusal_text t (record { archs = archs; sources = sources; excuses = excuses; coming = live; stuck = dead })
     (lines_of (rows_on arch (may_stand sources unstable live b.name t)) b.steps (rows_on arch t.rows) (rows_on arch unstable))
 
 -- the lines of all blocks

@@ -13,22 +13,23 @@ use Rattle.testing_rules_refusals.specs.Texts.{Known, refusal_text}
 use Rattle.testing_rules_refusals.specs.Told.{lines_of}
 use Rattle.testing_install_why.specs.declared.Step.{Step}
 
--- This text says why a change from the old rows of testing to the new ones is refused, given which sources come. Its
+-- This text says why a change of testing from its old rows to the new ones is refused, given which sources come. Its
 -- lines prove that the offender's row isn't installable among the rows on its architecture after the change, compared
--- with testing's rows there before it and with unstable's.
-pub record IsToldChange (known : Known) (unstable : List RowIn) (old new : List RowIn) (text : Text) : Type 0 where
+-- with testing's rows there before it and with unstable's. The excuses may be those of a run that made testing what it
+-- is.
+pub record IsToldChange (t : Suite) (known : Known) (unstable : List RowIn) (old new : List RowIn) (text : Text) : Type 0 where
   pub offender : Offender
   pub rows : List RowIn
   pub steps : List Step
   pub refusal : IsRefusal known.archs old new known.coming offender rows steps
-  pub told : text ≡ refusal_text known (lines_of rows steps (rows_on offender.arch old) (rows_on offender.arch unstable))
+  pub told : text ≡ refusal_text t known (lines_of rows steps (rows_on offender.arch old) (rows_on offender.arch unstable))
 
 -- this text says why the group can't move as one
 abbrev pub IsToldMove : List Text → List UploadIn → List RowIn → List Excuse → Suite → List Text → Text → Type 0
 IsToldMove archs sources unstable excuses t group text =
-    IsToldChange (record { archs = archs; sources = sources; excuses = excuses; coming = group; stuck = [] }) unstable t.rows (move_group sources unstable group t).rows text
+    IsToldChange t (record { archs = archs; sources = sources; excuses = excuses; coming = group; stuck = [] }) unstable t.rows (move_group sources unstable group t).rows text
 
 -- this text says why the source can't be removed
 abbrev pub IsToldRemoval : List Text → List UploadIn → List RowIn → List Excuse → Suite → Text → Text → Type 0
 IsToldRemoval archs sources unstable excuses t name text =
-    IsToldChange (record { archs = archs; sources = sources; excuses = excuses; coming = []; stuck = [] }) unstable t.rows (remove_source name t).rows text
+    IsToldChange t (record { archs = archs; sources = sources; excuses = excuses; coming = []; stuck = [] }) unstable t.rows (remove_source name t).rows text

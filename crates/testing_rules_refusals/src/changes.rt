@@ -39,7 +39,7 @@ pub(crate) fn text_of<'a>(
     refusal: &Refusal<'a>,
 ) -> Result<Text, NoMemory>
     requires { AreBySource (unboxed telling.now.unstable.sources.now) }
-    ensures { IfOk result (λ text. text ≡ texts.refusal_text (known_of telling.now)
+    ensures { IfOk result (λ text. text ≡ texts.refusal_text telling.now.testing.now (known_of telling.now)
         (lines_of (lent refusal.now.rows.items) refusal.now.steps.items (moves.rows_on refusal.now.offender.arch (lent old.now))
         (moves.rows_on refusal.now.offender.arch (lent telling.now.unstable.rows.now)))) }
 {
@@ -79,7 +79,7 @@ fn refusal_of_change<'a>(
 ) -> Result<Option<Text>, NoMemory>
     requires sources { AreBySource (unboxed telling.now.unstable.sources.now) }
     requires breaks { IfSome known (λ offender. moves.offender_of telling.now.archs.now (lent old.now) (lent new.now) telling.now.coming.now ≡ Some offender) }
-    ensures some { IfOk result (λ told. IfSome told (λ text. IsToldChange (known_of telling.now) (lent telling.now.unstable.rows.now) (lent old.now) (lent new.now) text)) }
+    ensures some { IfOk result (λ told. IfSome told (λ text. IsToldChange telling.now.testing.now (known_of telling.now) (lent telling.now.unstable.rows.now) (lent old.now) (lent new.now) text)) }
     ensures none { IfOk result (λ told. IfNone told (moves.offender_of telling.now.archs.now (lent old.now) (lent new.now) telling.now.coming.now ≡ None)) }
 {
     let Some(refusal) = refusal_of(alloc, telling, old, new, known)? else {
@@ -100,7 +100,7 @@ fn refusal_of_move<'a>(
     requires order { AreByKey (lent old.now) }
     requires breaks { IfSome known (λ offender. moves.offender_of telling.now.archs.now (lent old.now)
         (after.moved_rows (unboxed telling.now.unstable.sources.now) (lent telling.now.unstable.rows.now) telling.now.coming.now (lent old.now)) telling.now.coming.now ≡ Some offender) }
-    ensures some { IfOk result (λ told. IfSome told (λ text. IsToldChange (known_of telling.now) (lent telling.now.unstable.rows.now) (lent old.now)
+    ensures some { IfOk result (λ told. IfSome told (λ text. IsToldChange telling.now.testing.now (known_of telling.now) (lent telling.now.unstable.rows.now) (lent old.now)
         (after.moved_rows (unboxed telling.now.unstable.sources.now) (lent telling.now.unstable.rows.now) telling.now.coming.now (lent old.now)) text)) }
     ensures none { IfOk result (λ told. IfNone told (moves.offender_of telling.now.archs.now (lent old.now)
         (after.moved_rows (unboxed telling.now.unstable.sources.now) (lent telling.now.unstable.rows.now) telling.now.coming.now (lent old.now)) telling.now.coming.now ≡ None)) }
@@ -119,7 +119,7 @@ fn refusal_without<'a>(
 ) -> Result<Option<Text>, NoMemory>
     requires sources { AreBySource (unboxed telling.now.unstable.sources.now) }
     requires breaks { IfSome known (λ offender. moves.offender_of telling.now.archs.now (lent old.now) (after.rows_without name.now (lent old.now)) telling.now.coming.now ≡ Some offender) }
-    ensures some { IfOk result (λ told. IfSome told (λ text. IsToldChange (known_of telling.now) (lent telling.now.unstable.rows.now) (lent old.now) (after.rows_without name.now (lent old.now)) text)) }
+    ensures some { IfOk result (λ told. IfSome told (λ text. IsToldChange telling.now.testing.now (known_of telling.now) (lent telling.now.unstable.rows.now) (lent old.now) (after.rows_without name.now (lent old.now)) text)) }
     ensures none { IfOk result (λ told. IfNone told (moves.offender_of telling.now.archs.now (lent old.now) (after.rows_without name.now (lent old.now)) telling.now.coming.now ≡ None)) }
 {
     let new = rows_without(alloc, old, name)?;
@@ -136,7 +136,7 @@ fn move_if_known<'a>(
     requires sources { AreBySource (unboxed telling.now.unstable.sources.now) }
     requires breaks { IfSome known (λ offender. moves.offender_of telling.now.archs.now testing.now.rows
         (moves.move_group (unboxed telling.now.unstable.sources.now) (lent telling.now.unstable.rows.now) telling.now.coming.now testing.now).rows telling.now.coming.now ≡ Some offender) }
-    ensures some { IfOk result (λ told. IfSome told (λ text. IsToldChange (known_of telling.now) (lent telling.now.unstable.rows.now) testing.now.rows
+    ensures some { IfOk result (λ told. IfSome told (λ text. IsToldChange telling.now.testing.now (known_of telling.now) (lent telling.now.unstable.rows.now) testing.now.rows
         (moves.move_group (unboxed telling.now.unstable.sources.now) (lent telling.now.unstable.rows.now) telling.now.coming.now testing.now).rows text)) }
     ensures none { IfOk result (λ told. IfNone told (moves.offender_of telling.now.archs.now testing.now.rows
         (moves.move_group (unboxed telling.now.unstable.sources.now) (lent telling.now.unstable.rows.now) telling.now.coming.now testing.now).rows telling.now.coming.now ≡ None)) }
@@ -155,7 +155,7 @@ fn removal_if_known<'a>(
 ) -> Result<Option<Text>, NoMemory>
     requires sources { AreBySource (unboxed telling.now.unstable.sources.now) }
     requires breaks { IfSome known (λ offender. moves.offender_of telling.now.archs.now testing.now.rows (moves.remove_source name.now testing.now).rows telling.now.coming.now ≡ Some offender) }
-    ensures some { IfOk result (λ told. IfSome told (λ text. IsToldChange (known_of telling.now) (lent telling.now.unstable.rows.now) testing.now.rows
+    ensures some { IfOk result (λ told. IfSome told (λ text. IsToldChange telling.now.testing.now (known_of telling.now) (lent telling.now.unstable.rows.now) testing.now.rows
         (moves.remove_source name.now testing.now).rows text)) }
     ensures none { IfOk result (λ told. IfNone told (moves.offender_of telling.now.archs.now testing.now.rows (moves.remove_source name.now testing.now).rows telling.now.coming.now ≡ None)) }
 {
@@ -183,6 +183,7 @@ fn group_over_rows(
         archs: basis.archs,
         unstable,
         excuses: basis.excuses,
+        testing,
         coming: group,
         stuck: &[],
     };
@@ -209,6 +210,7 @@ fn removal_over_rows(
         archs: basis.archs,
         unstable,
         excuses: basis.excuses,
+        testing,
         coming: &[],
         stuck: &[],
     };

@@ -1,6 +1,6 @@
 //! Which candidates live, and which rows may be present, whichever of them have moved.
 
-ghost use Rattle.std.specs.Prelude.{◌≡◌, ◌++◌, ℕ, List, IfOk, filter, map, option_copied};
+ghost use Rattle.std.specs.Prelude.{◌≡◌, ◌++◌, ℕ, List, IfOk, filter, is_none, map, not, option_copied};
 ghost use Rattle.std.specs.List.{list_any};
 ghost use Rattle.std.specs.Str.{bytes_eq};
 ghost use Rattle.testing_rules_excuses.specs.States as states;
@@ -8,13 +8,14 @@ ghost use Rattle.testing_rules_items.specs.Words.{is_empty};
 ghost use Rattle.testing_rules_model.specs.Boxed.{unboxed};
 ghost use Rattle.testing_rules_model.specs.Excuses as rules;
 ghost use Rattle.testing_rules_model.specs.FactOrder.{AreBySource};
-ghost use Rattle.testing_rules_model.specs.JudgedRows.{lent};
+ghost use Rattle.testing_rules_model.specs.InOrder.{AreByKey};
+ghost use Rattle.testing_rules_model.specs.JudgedRows.{lent, row_of};
 ghost use Rattle.testing_rules_model.specs.Moves as moves;
 ghost use Rattle.testing_rules_model.specs.Updates as updates;
+ghost use Rattle.testing_rules_refusals.specs.Arrivals.{IsArrival};
 ghost use Rattle.testing_rules_refusals.specs.Standing.{comes_by, lives_beside};
 ghost use Rattle.testing_rules_refusals.specs.Stuck as stuck;
 ghost use Rattle.testing_rules_reports.specs.LentLines.{has_line, lent_lines};
-ghost use Rattle.testing_rules_suites.specs.AfterMoves as after;
 
 use crate::telling::is_current_in;
 use deb_control::Text;
@@ -22,7 +23,7 @@ use deb_version::{NoMemory, Version};
 use std::alloc::{AllocError, Global};
 use std::collections::HashSet;
 use testing_rules_facts::{Unstable, is_same_version};
-use testing_rules_live::{rows_on, rows_without};
+use testing_rules_live::{is_of, is_same_key, rows_on};
 use testing_rules_model::{Excuse, LentRow};
 use testing_rules_suites::{Testing, place_of_name};
 
@@ -71,6 +72,16 @@ fn version_in<'a>(testing: &'a Testing, name: &str) -> Option<&'a Version>
     match place_of_name(sources, name) {
         Ok(place) => Some(&sources[place].version),
         Err(_) => None,
+    }
+}
+
+/// Testing doesn't have the source. It costs one look-up among testing's sources.
+pub(crate) fn is_absent(testing: &Testing, name: &str) -> bool
+    ensures { result ≡ is_none (rules.testing_version testing.now name.now) }
+{
+    match version_in(testing, name) {
+        Some(_) => false,
+        None => true,
     }
 }
 
@@ -167,8 +178,116 @@ pub(crate) fn coming_rows<'a>(
     coming_by(alloc, unstable, &live)
 }
 
-/// The rows on the architecture that may be present once the source has moved: those of testing that aren't its own,
-/// and the rows that may come.
+/// Testing has one row of a key, in order.
+pub(crate) fn in_key_order(testing: &Testing)
+    ensures { AreByKey testing.now.rows }
+{
+    let _ = testing.rows();
+}
+
+/// Some of the rows has the row's key.
+pub(crate) fn has_key_of(rows: &[LentRow], row: &LentRow) -> bool
+    ensures { result ≡ list_any (moves.is_same_key (row_of row.now)) (lent rows.now) }
+{
+    for other in rows {
+        if is_same_key(row, other) {
+            return true;
+        }
+    }
+    false
+}
+
+/// The rows of a source that moves, and the names of their packages as a set.
+#[derive(Clone, Copy)]
+struct Arrival<'m, 'a> {
+    name: &'m str,
+    rows: &'m [LentRow<'a>],
+    packages: &'m NameSet<'a>,
+}
+
+/// The source's rows among these.
+fn rows_of<'a>(
+    alloc: Global,
+    rows: &[LentRow<'a>],
+    name: &str,
+) -> Result<Vec<LentRow<'a>>, NoMemory>
+    ensures { IfOk result (λ own. lent own.items ≡ filter (λ r. bytes_eq r.binary.source name.now) (lent rows.now)) }
+{
+    let mut own = Vec::new(alloc);
+    for row in rows {
+        if is_of(row, name) {
+            own.push(*row)?;
+        }
+    }
+    Ok(own)
+}
+
+/// The names of the rows' packages.
+fn package_names<'a>(alloc: Global, rows: &[LentRow<'a>]) -> Result<Vec<&'a str>, AllocError>
+    ensures { IfOk result (λ found. lent_lines found.items ≡ map (λ r. r.binary.name) (lent rows.now)) }
+{
+    let mut found = Vec::new(alloc);
+    for row in rows {
+        found.push(row.binary.name.as_str())?;
+    }
+    Ok(found)
+}
+
+/// Some row that arrives has the row's key. Few rows have a name that arrives, so the set is asked first.
+fn is_replaced(row: &LentRow, arrival: &Arrival) -> bool
+    requires { IsArrival arrival.now }
+    ensures { result ≡ list_any (moves.is_same_key (row_of row.now)) (lent arrival.now.rows.now) }
+{
+    is_in_set(arrival.packages, row.binary.name.as_str()) && has_key_of(arrival.rows, row)
+}
+
+/// The row leaves once the source has moved: it is the source's, or one that arrives has its key.
+fn gives_way(row: &LentRow, arrival: &Arrival) -> bool
+    requires { IsArrival arrival.now }
+    ensures { result ≡ stuck.gives_way (lent arrival.now.rows.now) arrival.now.name.now (row_of row.now) }
+{
+    is_of(row, arrival.name) || is_replaced(row, arrival)
+}
+
+/// The rows that don't leave once the source has moved.
+fn rows_left<'a>(
+    alloc: Global,
+    rows: &[LentRow<'a>],
+    arrival: &Arrival,
+) -> Result<Vec<LentRow<'a>>, NoMemory>
+    requires { IsArrival arrival.now }
+    ensures { IfOk result (λ left. lent left.items ≡ filter (λ r. not (stuck.gives_way (lent arrival.now.rows.now) arrival.now.name.now r)) (lent rows.now)) }
+{
+    let mut left = Vec::new(alloc);
+    for row in rows {
+        if !gives_way(row, arrival) {
+            left.push(*row)?;
+        }
+    }
+    Ok(left)
+}
+
+/// The rows that don't leave once the source has moved, which has these rows.
+fn rows_beside<'a>(
+    alloc: Global,
+    rows: &[LentRow<'a>],
+    own: &[LentRow<'a>],
+    name: &str,
+) -> Result<Vec<LentRow<'a>>, NoMemory>
+    ensures { IfOk result (λ left. lent left.items ≡ filter (λ r. not (stuck.gives_way (lent own.now) name.now r)) (lent rows.now)) }
+{
+    let names = package_names(alloc, own)?;
+    let packages = set_of(alloc, &names)?;
+    let arrival = Arrival {
+        name,
+        rows: own,
+        packages: &packages,
+    };
+    rows_left(alloc, rows, &arrival)
+}
+
+/// The rows on the architecture that may be present once the source has moved: those of testing that don't leave then,
+/// and the rows that may come, its own among them.
 pub(crate) fn rows_that_may_stand<'a>(
     alloc: Global,
     arch: u32,
@@ -176,9 +295,13 @@ pub(crate) fn rows_that_may_stand<'a>(
     coming: &[LentRow<'a>],
     name: &Text,
 ) -> Result<Vec<LentRow<'a>>, NoMemory>
-    ensures { IfOk result (λ there. lent there.items ≡ moves.rows_on arch (after.rows_without name.now (lent rows.now) ++ lent coming.now)) }
+    ensures { IfOk result (λ there. lent there.items ≡ filter (λ r. not (stuck.gives_way (filter (λ q. bytes_eq q.binary.source name.now) (lent coming.now)) name.now r)) (moves.rows_on arch (lent rows.now))
+        ++ moves.rows_on arch (lent coming.now)) }
 {
-    let mut all = rows_without(alloc, rows, name)?;
-    all.extend_from_slice(coming)?;
-    Ok(rows_on(alloc, arch, &all)?)
+    let own = rows_of(alloc, coming, name.as_str())?;
+    let there = rows_on(alloc, arch, rows)?;
+    let more = rows_on(alloc, arch, coming)?;
+    let mut all = rows_beside(alloc, &there, &own, name.as_str())?;
+    all.extend_from_slice(&more)?;
+    Ok(all)
 }

@@ -21,7 +21,7 @@ use crate::changes::text_of;
 use crate::needs::need_at;
 use crate::refusal::{Refusal, judged_rows};
 use crate::shown::steps_for;
-use crate::standing::{coming_rows, living, rows_that_may_stand};
+use crate::standing::{coming_rows, has_key_of, in_key_order, living, rows_that_may_stand};
 use crate::telling::{Basis, Telling, is_current_in};
 use deb_control::{Clause, Text};
 use deb_version::NoMemory;
@@ -30,7 +30,7 @@ use testing_install::meets;
 use testing_rules_excuses::excuse_of;
 use testing_rules_facts::{Facts, Unstable, built_rows};
 use testing_rules_items::Archs;
-use testing_rules_live::{fails_on, is_of, is_row_of, is_same_key};
+use testing_rules_live::{fails_on, is_of, is_row_of};
 use testing_rules_model::{Excuse, LentRow, Offender};
 use testing_rules_suites::{RowAnswer, Testing, is_watched_on, lend_rows};
 
@@ -81,18 +81,6 @@ fn own_place(rows: &[LentRow], arch: u32, package_name: &str, name: &str) -> Opt
         }
     }
     None
-}
-
-/// Some of the rows has the row's key.
-fn has_key_of(rows: &[LentRow], row: &LentRow) -> bool
-    ensures { result ≡ list_any (moves.is_same_key (row_of row.now)) (lent rows.now) }
-{
-    for other in rows {
-        if is_same_key(row, other) {
-            return true;
-        }
-    }
-    false
 }
 
 /// The row was installable.
@@ -204,6 +192,7 @@ fn shown_among<'a>(
         suspect.now.name r.offender (lent r.rows.items) r.steps.items)) }
 {
     let arch = suspect.arch;
+    in_key_order(ground.testing);
     let coming = coming_rows(alloc, ground.unstable, live)?;
     let rows = rows_that_may_stand(alloc, arch, ground.rows, &coming, &suspect.name)?;
     let Some(place) = due_place(alloc, ground, live, &coming, &rows, suspect)? else {
@@ -272,7 +261,7 @@ fn lines_of<'a>(
     refusal: &Refusal<'a>,
 ) -> Result<Text, NoMemory>
     requires { AreBySource (unboxed ground.now.unstable.sources.now) }
-    ensures { IfOk result (λ text. text ≡ texts.refusal_text (record { archs = ground.now.archs.now; sources = unboxed ground.now.unstable.sources.now; excuses = ground.now.excuses.now; coming = live.now; stuck = dead.now })
+    ensures { IfOk result (λ text. text ≡ texts.refusal_text ground.now.testing.now (record { archs = ground.now.archs.now; sources = unboxed ground.now.unstable.sources.now; excuses = ground.now.excuses.now; coming = live.now; stuck = dead.now })
         (told_words.lines_of (lent refusal.now.rows.items) refusal.now.steps.items (moves.rows_on refusal.now.offender.arch (lent ground.now.rows.now))
         (moves.rows_on refusal.now.offender.arch (lent ground.now.unstable.rows.now)))) }
 {
@@ -280,6 +269,7 @@ fn lines_of<'a>(
         archs: ground.archs,
         unstable: ground.unstable,
         excuses: ground.excuses,
+        testing: ground.testing,
         coming: live,
         stuck: dead,
     };
@@ -297,7 +287,7 @@ fn block_text<'a>(
 ) -> Result<Text, NoMemory>
     requires { AreBySource (unboxed ground.now.unstable.sources.now) }
     ensures { IfOk result (λ text. text ≡ words.stuck_line ground.now.archs.now ground.now.excuses.now (record { name = name.now; offender = refusal.now.offender; steps = refusal.now.steps.items })
-        ++ texts.refusal_text (record { archs = ground.now.archs.now; sources = unboxed ground.now.unstable.sources.now; excuses = ground.now.excuses.now; coming = live.now; stuck = dead.now })
+        ++ texts.refusal_text ground.now.testing.now (record { archs = ground.now.archs.now; sources = unboxed ground.now.unstable.sources.now; excuses = ground.now.excuses.now; coming = live.now; stuck = dead.now })
         (told_words.lines_of (lent refusal.now.rows.items) refusal.now.steps.items (moves.rows_on refusal.now.offender.arch (lent ground.now.rows.now))
         (moves.rows_on refusal.now.offender.arch (lent ground.now.unstable.rows.now)))) }
 {

@@ -1,6 +1,6 @@
 //! The text of a proof that a row isn't installable if sources moved or one was removed.
 
-ghost use Rattle.std.specs.Prelude.{◌≡◌, ◌++◌, ◌∷◌, [], IfOk, OnOk, codes, map, string_bytes};
+ghost use Rattle.std.specs.Prelude.{◌≡◌, ◌++◌, ◌∷◌, [], IfOk, OnOk, codes, if◌then◌else◌, map, string_bytes};
 ghost use Rattle.std.specs.List.{flat_map};
 ghost use Rattle.testing_rules_excuses.specs.States as states;
 ghost use Rattle.testing_rules_model.specs.Boxed.{unboxed};
@@ -12,6 +12,7 @@ ghost use Rattle.testing_rules_refusals.specs.Texts.{known_of};
 ghost use Rattle.testing_rules_refusals.specs.Told.{told_of};
 
 use crate::lines::{push_leaving, push_need, push_package};
+use crate::standing::is_absent;
 use crate::told::Told;
 use deb_control::Text;
 use deb_version::NoMemory;
@@ -22,14 +23,16 @@ use testing_rules_items::Archs;
 use testing_rules_live::is_row_of;
 use testing_rules_model::{Excuse, LentRow, Reason, UploadIn};
 use testing_rules_reports::push_reason_words;
+use testing_rules_suites::Testing;
 
-/// What the lines need to know: the architectures, unstable, the excuses of the run, the sources that come, and those
-/// that no group frees.
+/// What the lines need to know: the architectures, unstable, the excuses of the run, testing at the turn in question,
+/// the sources that come, and those that no group frees.
 #[derive(Clone, Copy)]
 pub struct Telling<'g, 'a> {
     pub archs: &'g Archs,
     pub unstable: Unstable<'g, 'a>,
     pub excuses: &'g [Excuse],
+    pub testing: &'g Testing,
     pub coming: &'g [Text],
     pub stuck: &'g [Text],
 }
@@ -123,6 +126,31 @@ fn moving_with<'a>(group: &[Text], row: &LentRow<'a>) -> &'a str
     }
 }
 
+/// The run removed the source: it had nothing to move, and testing doesn't have it.
+fn was_removed(testing: &Testing, name: &str, state: &State) -> bool
+    ensures { result ≡ texts.was_removed testing.now name.now state.now }
+{
+    match state {
+        State::InTesting => is_absent(testing, name),
+        State::Waits | State::NotCandidate(_) | State::NotCurrent | State::ComesToo => false,
+    }
+}
+
+fn push_state_within(
+    text: &mut String,
+    removed: bool,
+    archs: &Archs,
+    state: &State,
+) -> Result<(), AllocError>
+    ensures { OnOk result (string_bytes text.new ≡ string_bytes text.old ++ texts.state_within removed archs.now state.now) }
+{
+    if removed {
+        text.push_str("isn't a candidate: removal asked")
+    } else {
+        push_state(text, archs, state)
+    }
+}
+
 fn push_offer_state(
     alloc: Global,
     text: &mut String,
@@ -130,8 +158,8 @@ fn push_offer_state(
     row: &LentRow,
 ) -> Result<(), NoMemory>
     requires { AreBySource (unboxed telling.now.unstable.sources.now) }
-    ensures { OnOk result (string_bytes text.new ≡ string_bytes text.old ++ texts.state_text telling.now.archs.now (states.state_of (unboxed telling.now.unstable.sources.now) telling.now.excuses.now
-        (texts.moving_with telling.now.coming.now (row_of row.now)) (row_of row.now))) }
+    ensures { OnOk result (let state = states.state_of (unboxed telling.now.unstable.sources.now) telling.now.excuses.now (texts.moving_with telling.now.coming.now (row_of row.now)) (row_of row.now) in
+        string_bytes text.new ≡ string_bytes text.old ++ texts.state_within (texts.was_removed telling.now.testing.now (row_of row.now).binary.source state) telling.now.archs.now state) }
 {
     let moving = moving_with(telling.coming, row);
     let state = state_of(
@@ -141,7 +169,8 @@ fn push_offer_state(
         moving,
         row,
     )?;
-    Ok(push_state(text, telling.archs, &state)?)
+    let removed = was_removed(telling.testing, row.binary.source.as_str(), &state);
+    Ok(push_state_within(text, removed, telling.archs, &state)?)
 }
 
 /// Adds the state of a row of unstable.
@@ -152,7 +181,7 @@ fn push_offer_words(
     row: &LentRow,
 ) -> Result<(), NoMemory>
     requires { AreBySource (unboxed telling.now.unstable.sources.now) }
-    ensures { OnOk result (string_bytes text.new ≡ string_bytes text.old ++ texts.offer_words (known_of telling.now) (row_of row.now)) }
+    ensures { OnOk result (string_bytes text.new ≡ string_bytes text.old ++ texts.words_within telling.now.testing.now (known_of telling.now) (row_of row.now)) }
 {
     if comes_with(telling.unstable.sources, telling.stuck, row) {
         return Ok(text.push_str("is stuck")?);
@@ -167,7 +196,7 @@ fn push_offer(
     row: &LentRow,
 ) -> Result<(), NoMemory>
     requires { AreBySource (unboxed telling.now.unstable.sources.now) }
-    ensures { OnOk result (string_bytes text.new ≡ string_bytes text.old ++ texts.offer_line (known_of telling.now) (row_of row.now)) }
+    ensures { OnOk result (string_bytes text.new ≡ string_bytes text.old ++ texts.line_within telling.now.testing.now (known_of telling.now) (row_of row.now)) }
 {
     push_unstable(text, row)?;
     push_offer_words(alloc, text, telling, row)?;
@@ -182,7 +211,7 @@ fn push_each_offer(
 ) -> Result<(), NoMemory>
     requires { AreBySource (unboxed telling.now.unstable.sources.now) }
     ensures { OnOk result (string_bytes text.new ≡ string_bytes text.old
-        ++ flat_map (texts.offer_line (known_of telling.now)) (lent rows.now)) }
+        ++ flat_map (texts.line_within telling.now.testing.now (known_of telling.now)) (lent rows.now)) }
 {
     for row in rows {
         push_offer(alloc, text, telling, row)?;
@@ -191,7 +220,7 @@ fn push_each_offer(
 }
 
 /// Adds the lines of the rows of unstable that would meet a clause, or that there are none.
-#[tactic(auto, using(crate::proofs::Helping::none_offered, crate::proofs::Helping::some_offered))]
+#[tactic(auto, using(crate::proofs::Helping::none_within, crate::proofs::Helping::some_within))]
 fn push_offers(
     alloc: Global,
     text: &mut String,
@@ -200,7 +229,7 @@ fn push_offers(
 ) -> Result<(), NoMemory>
     requires { AreBySource (unboxed telling.now.unstable.sources.now) }
     ensures { OnOk result (string_bytes text.new ≡ string_bytes text.old
-        ++ texts.offers_text (known_of telling.now) (lent rows.now)) }
+        ++ texts.offers_within telling.now.testing.now (known_of telling.now) (lent rows.now)) }
 {
     if rows.is_empty() {
         text.push_str("unstable nothing\n")?;
@@ -218,7 +247,7 @@ fn push_help(
 ) -> Result<(), NoMemory>
     requires { AreBySource (unboxed telling.now.unstable.sources.now) }
     ensures { OnOk result (string_bytes text.new ≡ string_bytes text.old
-        ++ texts.help_text (known_of telling.now) (told_of line.now)) }
+        ++ texts.help_text telling.now.testing.now (known_of telling.now) (told_of line.now)) }
 {
     push_leaving(text, &line.leaving)?;
     push_offers(alloc, text, telling, &line.offers)
@@ -234,7 +263,7 @@ fn push_told(
 ) -> Result<(), NoMemory>
     requires { AreBySource (unboxed telling.now.unstable.sources.now) }
     ensures { OnOk result (string_bytes text.new ≡ string_bytes text.old
-        ++ texts.told_text (known_of telling.now) (told_of line.now)) }
+        ++ texts.told_text telling.now.testing.now (known_of telling.now) (told_of line.now)) }
 {
     let comes = comes_with(telling.unstable.sources, telling.coming, &line.need.row);
     push_need(text, comes, line.number, &line.need, &line.met_by)?;
@@ -252,7 +281,7 @@ fn push_each_told(
 ) -> Result<(), NoMemory>
     requires { AreBySource (unboxed telling.now.unstable.sources.now) }
     ensures { OnOk result (string_bytes text.new ≡ string_bytes text.old
-        ++ flat_map (texts.told_text (known_of telling.now)) (map told_of told.now)) }
+        ++ flat_map (texts.told_text telling.now.testing.now (known_of telling.now)) (map told_of told.now)) }
 {
     for line in told {
         push_told(alloc, text, telling, line)?;
@@ -265,7 +294,7 @@ fn push_each_told(
 /// only error is running out of memory.
 pub fn refusal_text(alloc: Global, telling: &Telling, told: &[Told]) -> Result<Text, NoMemory>
     requires { AreBySource (unboxed telling.now.unstable.sources.now) }
-    ensures { IfOk result (λ text. text ≡ texts.refusal_text (known_of telling.now) (map told_of told.now)) }
+    ensures { IfOk result (λ text. text ≡ texts.refusal_text telling.now.testing.now (known_of telling.now) (map told_of told.now)) }
 {
     let mut text = String::new(alloc);
     push_each_told(alloc, &mut text, telling, told)?;

@@ -25,7 +25,7 @@ pub returns-clause-some : goal.returns-clause-some
 returns-clause-some c =
     let l = c.args.telling.now in
     let same = ap lent c.deref.ensures.value ∙ c.in_ok-old.ensures ∙ c.rows.ensures.entries in
-    subst (λ (rows : List RowIn). IfOk c.refusal_of_move.result (λ told. IfSome told (λ text. IsToldChange (known_of l) (lent l.unstable.rows.now) rows
+    subst (λ (rows : List RowIn). IfOk c.refusal_of_move.result (λ told. IfSome told (λ text. IsToldChange l.testing.now (known_of l) (lent l.unstable.rows.now) rows
     (moved_rows (unboxed l.unstable.sources.now) (lent l.unstable.rows.now) l.coming.now rows) text)))
     same c.refusal_of_move.ensures.some
 

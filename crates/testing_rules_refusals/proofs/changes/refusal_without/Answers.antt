@@ -17,7 +17,7 @@ pub returns-clause-some : goal.returns-clause-some
 returns-clause-some c =
     let l = c.args.telling.now in
     let after = ap lent c.deref.ensures.value ∙ c.in_ok-new.ensures in
-    subst (λ (new : List RowIn). IfOk c.refusal_of_change.result (λ told. IfSome told (λ text. IsToldChange (known_of l) (lent l.unstable.rows.now) (lent c.args.old.now) new text)))
+    subst (λ (new : List RowIn). IfOk c.refusal_of_change.result (λ told. IfSome told (λ text. IsToldChange l.testing.now (known_of l) (lent l.unstable.rows.now) (lent c.args.old.now) new text)))
     after c.refusal_of_change.ensures.some
 
 pub returns-clause-none : goal.returns-clause-none

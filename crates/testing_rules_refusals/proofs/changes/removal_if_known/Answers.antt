@@ -19,7 +19,7 @@ pub returns-clause-some : goal.returns-clause-some
 returns-clause-some c =
     let l = c.args.telling.now in
     let same = ap lent c.deref.ensures.value ∙ c.in_ok-old.ensures ∙ c.rows.ensures.entries in
-    subst (λ (rows : List RowIn). IfOk c.refusal_without.result (λ told. IfSome told (λ text. IsToldChange (known_of l) (lent l.unstable.rows.now) rows (rows_without c.args.name.now rows) text)))
+    subst (λ (rows : List RowIn). IfOk c.refusal_without.result (λ told. IfSome told (λ text. IsToldChange l.testing.now (known_of l) (lent l.unstable.rows.now) rows (rows_without c.args.name.now rows) text)))
     same c.refusal_without.ensures.some
 
 pub returns-clause-none : goal.returns-clause-none

@@ -5,7 +5,8 @@ use Rattle.testing_rules_model.specs.JudgedRows.{lent}
 use Rattle.testing_install_why.specs.Certificate.{IsShownBy}
 use Rattle.testing_rules_refusals.specs.Needs.{packages, all_there}
 use Rattle.testing_rules_refusals.specs.Standing.{IsDueAt}
-use Rattle.testing_rules_refusals.proofs.Blocks.{rows_may, block_found}
+use Rattle.testing_rules_refusals.proofs.Blocks.{block_found}
+use Rattle.testing_rules_refusals.proofs.Leaving.{stand_on}
 use Rattle.testing_rules_refusals.proofs.stuck.shown_among.Goals as goal
 
 pub due_place-requires-clause-coming : goal.due_place-requires-clause-coming
@@ -17,8 +18,8 @@ due_place-requires-clause-rows c =
     let g = a.ground.now in
     let s = a.suspect.now in
     ap lent c.deref-3.ensures.value
-    ∙ rows_may s.arch (unboxed g.unstable.sources.now) (lent g.unstable.rows.now) a.live.now g.testing.now s.name (lent c.in_ok-rows.rows.items) (lent g.rows.now)
-    (lent c.deref.result.now) (lent c.in_ok-coming.coming.items) c.in_ok-rows.ensures c.requires.old (ap lent c.deref.ensures.value) c.in_ok-coming.ensures
+    ∙ stand_on (unboxed g.unstable.sources.now) (lent g.unstable.rows.now) a.live.now s.name c.requires.lives s.arch g.testing.now (lent c.in_ok-rows.rows.items) (lent g.rows.now)
+    (lent c.deref.result.now) c.in_ok-rows.ensures c.requires.old (ap lent c.deref.ensures.value ∙ c.in_ok-coming.ensures)
 
 pub returns : goal.returns
 returns c =
@@ -31,9 +32,9 @@ returns c =
     let place = c.in-Some.place in
     let steps = c.in-Some-2.steps.items in
     let are =
-    rows_may s.arch sources unstable a.live.now g.testing.now s.name rows (lent g.rows.now)
-    (lent c.deref.result.now) (lent c.in_ok-coming.coming.items) c.in_ok-rows.ensures c.requires.old (ap lent c.deref.ensures.value) c.in_ok-coming.ensures in
+    stand_on sources unstable a.live.now s.name c.requires.lives s.arch g.testing.now rows (lent g.rows.now)
+    (lent c.deref.result.now) c.in_ok-rows.ensures c.requires.old (ap lent c.deref.ensures.value ∙ c.in_ok-coming.ensures) in
     let due = subst (λ o. IfSome o (λ p. IsDueAt sources unstable a.live.now g.testing.now s.name (record { arch = s.arch; «package» = s.«package» }) (lent c.deref-3.result.now) p)) c.in-Some.is c.in_ok-place.ensures in
     let shown = subst (λ o. IfSome o (λ f. IsShownBy (packages (lent c.deref-4.result.now)) all_there place f.items)) c.in-Some-2.is c.in_ok-steps.ensures in
     block_found g.archs.now sources unstable a.live.now g.testing.now s.name s.arch s.«package» c.in_ok-package.package rows (lent c.deref-3.result.now) (lent c.deref-4.result.now) place steps
-    c.requires.lives c.requires.listed c.in_ok-package.ensures are (ap lent c.deref-3.ensures.value) due (ap lent c.deref-4.ensures.value) shown
+    c.in_key_order.ensures c.requires.lives c.requires.listed c.in_ok-package.ensures are (ap lent c.deref-3.ensures.value) due (ap lent c.deref-4.ensures.value) shown

@@ -25,7 +25,7 @@ returns c =
     let w = subst (λ (ls : List Text). IsBlockOf archs sources unstable ls g.testing.now name r.offender (lent r.rows.items) r.steps.items) c.deref.ensures.value found in
     let Told : Text → List Text → Type 0 = λ n ls.
     c.in_ok-text.text ≡ stuck_line archs g.excuses.now (record { name = n; offender = r.offender; steps = r.steps.items })
-    ++ refusal_text (record { archs = archs; sources = sources; excuses = g.excuses.now; coming = ls; stuck = a.dead.now })
+    ++ refusal_text g.testing.now (record { archs = archs; sources = sources; excuses = g.excuses.now; coming = ls; stuck = a.dead.now })
     (lines_of (lent r.rows.items) r.steps.items (rows_on r.offender.arch (lent g.rows.now)) (rows_on r.offender.arch unstable)) in
     let told = subst (λ n. Told n live) c.as_str-name.ensures (subst (λ ls. Told c.as_str-name.result.now ls) c.deref-2.ensures.value c.in_ok-text.ensures) in
     told_block archs sources unstable g.excuses.now g.testing.now a.dead.now live name c.in_ok-text.text r.offender (lent r.rows.items) (lent g.rows.now) r.steps.items

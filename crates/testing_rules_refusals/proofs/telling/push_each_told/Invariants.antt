@@ -9,4 +9,4 @@ abbrev pub invariant-loop-line : goal.invariant-loop-line
 invariant-loop-line l =
     string_bytes l.text
     ≡ string_bytes l.fn.text
-    ++ flat_map (told_text (known_of l.telling)) (map told_of (take l.line-index l.told))
+    ++ flat_map (told_text l.telling.testing.now (known_of l.telling)) (map told_of (take l.line-index l.told))

@@ -5,7 +5,7 @@ use Rattle.testing_rules_items.proofs.Tests.{list_any-map}
 use Rattle.testing_rules_model.specs.Moves.{is_same_key}
 use Rattle.testing_rules_model.specs.JudgedRows.{row_of}
 use Rattle.testing_rules_model.specs.declared.suite.LentRow.{LentRow}
-use Rattle.testing_rules_refusals.proofs.stuck.has_key_of.Goals as goal
+use Rattle.testing_rules_refusals.proofs.standing.has_key_of.Goals as goal
 
 pub returns-then-is_same_key : goal.returns-then-is_same_key
 returns-then-is_same_key c =
