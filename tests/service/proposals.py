@@ -74,6 +74,19 @@ def trade():
     return letters
 
 
+def rivals():
+    """Two pairs that need each other's new versions, of which one can move: a source needs the old one of either."""
+    letters = Letters()
+    for name, package in [("aa", "aa1"), ("bb", "bb1")]:
+        letters.source(name, "1", "2025-03-01", (package, ""))
+    letters.source("ua", "1", "2025-03-01", ("ua", "aa1 | bb1"))
+    letters.order("2025-03-20")
+    for name, package, other in [("aa", "aa2", "pa"), ("bb", "bb2", "pb"), ("pa", "pa", "aa2"), ("pb", "pb", "bb2")]:
+        letters.source(name, "2", "2025-03-21", (package, other))
+    letters.order("2025-04-10")
+    return letters
+
+
 ALBUM = """stuck album 1-1 uninstallable amd64 album
 1 album 1-1 of album comes in, needs viewer: 2
 2 viewer 1-1 of viewer comes in, needs libfoo2 (>= 2): nothing
@@ -122,6 +135,10 @@ ROWS = [
     (dead_end, ["album", "player"], ALBUM + LIBFOO + PLAYER, 1, None),
     (dead_end, ["libfoo"], LIBFOO, 1, None),
     (dead_end, ["player"], PLAYER, 1, None),
+    (rivals, [], "easy aa/2 pa/2\n", 0, None),
+    (rivals, ["pa"], "easy aa/2 pa/2\n", 0, None),
+    (rivals, ["bb"], "easy bb/2 pb/2\n", 0, None),
+    (rivals, ["pb"], "easy bb/2 pb/2\n", 0, None),
 ]
 
 
