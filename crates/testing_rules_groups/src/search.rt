@@ -2,7 +2,7 @@
 //! who rests on whom.
 
 use crate::agreeing::{Agreement, agree, all_moving};
-use crate::candidates::{brought_rows, current_rows, named, number_of, other_names, remaining};
+use crate::candidates::{brought_rows, current_rows, named, number_of, remaining};
 use crate::dying::{Living, find_living};
 use crate::flags::{copy_flags, is_one_more, is_set};
 use crate::found::Found;
@@ -271,7 +271,6 @@ pub fn find_groups(
         long: Vec::new(alloc),
         waiting: stage.candidates.len(),
         dead: Vec::new(alloc),
-        others: other_names(alloc, &stage.candidates, wanted)?,
     };
     let aim = Aim {
         wanted,

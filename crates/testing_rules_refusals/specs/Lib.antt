@@ -9,3 +9,4 @@ pub mod Stuck
 pub mod Standing
 pub mod Shown
 pub mod LineNumbers
+pub mod NoCandidate
