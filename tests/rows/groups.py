@@ -27,6 +27,26 @@ class Behind:
         self.late = next_run(office, self.covers, self.date, [])
         self.rows, self.sources, self.left, self.excuse = self.late.behind_groups
 
+    def reasons(self):
+        """The reasons of each excuse of the run."""
+        reasons = {}
+        for line in self.late.reports[self.run][0].splitlines()[1:]:
+            if not line.startswith(" "):
+                why = reasons.setdefault(line.split(" ")[0], [])
+            elif not re.fullmatch(r" age .*|( not a)? candidate", line):
+                why.append(line[1:])
+        return reasons
+
+    def line(self, name):
+        """The line on a source that isn't a candidate of the run; none for a candidate."""
+        upload, excuses = self.late.known.sources.get(name), self.reasons()
+        if upload is None:
+            return "unknown " + name
+        if name not in excuses and name in self.sources:
+            return "in testing %s %s" % (name, self.sources[name])
+        why = excuses.get(name, ["removal asked"])
+        return "source %s %s isn't a candidate: %s" % (name, upload[1], ", ".join(why)) if why else None
+
     def with_hints(self, hints):
         """The office after its next run with these hints, too."""
         return next_run(self.office, self.covers, self.date, hints)

@@ -9,8 +9,9 @@ is proposed has to be taken by a trial of all of them, and to move its group the
 mailed under the numbers that were told, and covered by the next order, each has to move its group in that run. What
 moves without the hints has to move with them. The counts that are told have to be those of that run. A source that is
 said to be freed has to move by the hints that are told of it. Each source that blocks of lines show to be stuck has to
-wait for good whatever groups are tried, and a block has to be right, line by line. What the search finds is counted
-beside what all sequences of groups move. Exit status 0 where all was as it is due.
+wait for good whatever groups are tried, and a block has to be right, line by line. A source that is no candidate has to
+have the line that the model gives it. What the search finds is counted beside what all sequences of groups move. Exit
+status 0 where all was as it is due.
 """
 import os
 import random
@@ -31,7 +32,8 @@ from tries import CONF, Tries
 
 tries = Tries(sys.argv, port=18790)
 want = tries.want
-counts = dict.fromkeys(["wait", "can move", "move", "stuck", "shown", "hints", "groups", "in a service"], 0)
+COUNTED = ["wait", "can move", "move", "stuck", "shown", "hints", "groups", "in a service", "no candidates"]
+counts = dict.fromkeys(COUNTED, 0)
 # A day after all orders.
 LATE = "2025-12-01"
 TOLD = re.compile(
@@ -74,6 +76,31 @@ def trade():
     return letters
 
 
+def rivals():
+    """Two pairs that need each other's new versions, of which one can move: a source needs the old one of either."""
+    letters = Letters()
+    for name, package in [("aa", "aa1"), ("bb", "bb1")]:
+        letters.source(name, "1", "2025-03-01", (package, ""))
+    letters.source("ua", "1", "2025-03-01", ("ua", "aa1 | bb1"))
+    letters.order("2025-03-20")
+    for name, package, other in [("aa", "aa2", "pa"), ("bb", "bb2", "pb"), ("pa", "pa", "aa2"), ("pb", "pb", "bb2")]:
+        letters.source(name, "2", "2025-03-21", (package, other))
+    letters.order("2025-04-10")
+    return letters
+
+
+def removal():
+    """Two sources in testing, of which the next run removes one, and one that is too young and has no build."""
+    letters = Letters()
+    for name in ("aa", "cc"):
+        letters.source(name, "1", "2025-03-01", (name, ""))
+    letters.order("2025-03-20")
+    letters.upload("yy", "1", "2025-04-09")
+    letters.order("2025-04-10")
+    letters.add("rt", "hint", "Hint: remove cc/1")
+    return letters
+
+
 ALBUM = """stuck album 1-1 uninstallable amd64 album
 1 album 1-1 of album comes in, needs viewer: 2
 2 viewer 1-1 of viewer comes in, needs libfoo2 (>= 2): nothing
@@ -92,6 +119,9 @@ LEFT = """stuck left 1-1 uninstallable amd64 left
 1 left 1-1 of left comes in, needs app: nothing
 unstable app 1-1 of app isn't a candidate: blocked
 """
+APP = "source app 1-1 isn't a candidate: blocked\n"
+YOUNG = "source yy 1 isn't a candidate: too young, no binaries\n"
+REMOVED = "source cc 1 isn't a candidate: removal asked\n"
 PING, LAST = "easy ping/1-1 pong/1-1\n", "easy app/1-1 left/1-1 right/1-1\n"
 # A case, the named sources, and what is due: what is printed, the status, and what goes to standard error if known.
 ROWS = [
@@ -122,7 +152,22 @@ ROWS = [
     (dead_end, ["album", "player"], ALBUM + LIBFOO + PLAYER, 1, None),
     (dead_end, ["libfoo"], LIBFOO, 1, None),
     (dead_end, ["player"], PLAYER, 1, None),
+    (dead_end, ["tool", "album"], "in testing tool 1-1\n" + ALBUM + LIBFOO, 1, None),
+    (blocked_knot, ["app", "left", "zz"], APP + LEFT + "unknown zz\n", 1, None),
+    (
+        removal,
+        ["aa", "cc", "yy"],
+        "in testing aa 1\n" + REMOVED + YOUNG,
+        1,
+        "office: run 3 of 2025-04-10: 0 hints; 0 of 0 sources that wait move, 0 are stuck\n",
+    ),
+    (rivals, [], "easy aa/2 pa/2\n", 0, None),
+    (rivals, ["pa"], "easy aa/2 pa/2\n", 0, None),
+    (rivals, ["bb"], "easy bb/2 pb/2\n", 0, None),
+    (rivals, ["pb"], "easy bb/2 pb/2\n", 0, None),
+    (rivals, ["ua", "pb"], "easy bb/2 pb/2\nin testing ua 1\n", 1, None),
 ]
+LINE = re.compile(r"unknown (\S+)|in testing (\S+) \S+|source (\S+) \S+ isn't a candidate: .*")
 
 
 def worked():
@@ -133,11 +178,14 @@ def worked():
         want(what, (printed, status), (got, ended))
         if told is not None:
             want(what + ", told", told, said)
-        blocks = [line for line in printed.splitlines() if not line.startswith("easy ")]
+        lines = [line for line in printed.splitlines() if LINE.fullmatch(line)]
+        blocks = [line for line in printed.splitlines() if not line.startswith("easy ") and line not in lines]
         behind = Behind(office_of(case().texts))
+        named = ["".join(filter(None, LINE.fullmatch(line).groups())) for line in lines]
+        want(what + ", lines by the model", [behind.line(name) for name in named], lines)
         want(what + ", by the model", None, behind.stuck_fault(blocks))
         stuck = {line.split(" ")[1] for line in blocks if line.startswith("stuck ")}
-        for name in stuck.intersection(sources):
+        for name in stuck.intersection(sources).union(named):
             want("%s, no sentence on %s" % (what, name), False, "office: %s: " % name in said)
         want(what + ", by all groups", set(), stuck & behind.can_move())
         with tempfile.TemporaryDirectory() as folder:
@@ -167,6 +215,7 @@ def routes():
     asked += [("GET", path, None, no_route) for path in ("/propose/", "/propose/X", "/propose/a", "/propose/app/1")]
     asked += [("POST", "/mail", blocked_knot().texts[-1], None)]
     asked += [("GET", "/propose", None, (200, PING)), ("GET", "/propose/left", None, (200, LEFT))]
+    asked += [("GET", "/propose/app", None, (200, APP)), ("GET", "/propose/zz", None, (200, "unknown zz\n"))]
     asked += [("POST", path, "", (405, "refused MethodNotAllowed\n")) for path in ("/propose", "/propose/app")]
     with tries.serving(len(asked)) as service:
         for method, path, body, due in asked:
@@ -291,7 +340,6 @@ def tell_of(what, behind, hints, late, said):
 
 # How the search ends for a source, and what holds then: whether the run moves it, and whether some groups do, if known.
 ENDS = {
-    "it is no candidate": (False, None),
     "it moves without a hint": (True, True),
     "no group was found, and nothing shows that there is none": (False, None),
 }
@@ -328,6 +376,17 @@ def over_sources(what, behind, terms, bag, can_move):
                 (moves, None if may is None else name in can_move),
             )
             counts["shown"] += does is False and may is False
+
+
+def over_others(what, behind, terms, bag):
+    """What is printed of each source that is no candidate: its line, and nothing else."""
+    for name in [*behind.late.known.sources, "nosuch"]:
+        line = behind.line(name)
+        if line is not None:
+            printed, said, status = tries.run("propose", name, *terms, "--conf", CONF, bag=bag)
+            want("%s: %s" % (what, line), (line + "\n", 1), (printed, status))
+            want("%s: %s, nothing is told" % (what, name), False, "office: %s: " % name in said)
+            counts["no candidates"] += 1
 
 
 def by_service(what, behind, texts, bag):
@@ -374,6 +433,7 @@ def one(seed):
     want(what + ": more than can move", set(), move - can_move)
     found = re.search(r" (\d+) are stuck\n", said)
     over_sources(what, behind, terms, bag, can_move)
+    over_others(what, behind, terms, bag)
     if not terms and seed % 3 == 0:
         by_service(what, behind, texts, bag)
     for name, number in [

@@ -354,7 +354,8 @@ def removed(told: str) -> Sequence[str]:
 def stopped(archive: Archive) -> None:
     """The store is whole, and the program answers over it what office-ask printed of the service, byte for byte."""
     asked = [["why", *SOURCES], ["why", "nosuch"], ["hints"], ["runs"], ["mail"], ["waiting"], ["report", "testing"],
-             ["propose"], ["report", "unstable"], ["try", "remove glibc/2.36-9"],
+             ["propose"], ["propose", "nosuch"], ["propose", "glibc"], ["report", "unstable"],
+             ["try", "remove glibc/2.36-9"],
              ["breaks", "remove glibc/2.36-9", "easy toolkit/4.8-1 chat/9", "editor", "nosuch"],
              ["why", "--run", "8", "libfoo", "app-d"]]
     told = [archive.ask(*words) for words in asked]

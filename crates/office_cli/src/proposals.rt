@@ -89,12 +89,11 @@ fn tell_long(rt: &HostRuntime, group: &LongGroup) {
     );
 }
 
-/// Prints on standard error how the search ended for a source, unless a hint moves it.
+/// Prints on standard error how the search ended for a source, unless a hint moves it or standard output has its answer.
 fn tell_end(rt: &HostRuntime, asked: &AskedSource) {
     let name = asked.name.as_str();
     let _ = match asked.end {
-        SourceEnd::Grouped | SourceEnd::Stuck => Ok(()),
-        SourceEnd::NoCandidate => eprintln!(rt; "office: {name}: it is no candidate"),
+        SourceEnd::Grouped | SourceEnd::Answered => Ok(()),
         SourceEnd::Alone => eprintln!(rt; "office: {name}: it moves without a hint"),
         SourceEnd::Open => eprintln!(rt;
             "office: {name}: no group was found, and nothing shows that there is none"

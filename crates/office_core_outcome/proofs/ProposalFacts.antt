@@ -18,8 +18,8 @@ use Rattle.office_core_facts.specs.State.{IsOffice}
 use Rattle.office_core_outcome.specs.declared.TrialOptions.{TrialOptions}
 use Rattle.office_core_outcome.specs.declared.proposal.Proposal.{Proposal}
 use Rattle.office_core_outcome.specs.Hints.{first_refused, hint_letters, with_letters}
-use Rattle.office_core_outcome.specs.Proposal.{AreShownStuck, IsProposed, KeepsMoves, are_done, decisions_by, freed_by, tried_decisions}
-use Rattle.office_core_outcome.specs.Settled.{AreStuckOver, IsProposedOver, IsSettled, KeepsRun}
+use Rattle.office_core_outcome.specs.Proposal.{AreAnswers, IsProposed, KeepsMoves, are_done, decisions_by, freed_by, tried_decisions}
+use Rattle.office_core_outcome.specs.Settled.{AreAnswersOver, IsProposedOver, IsSettled, KeepsRun}
 use Rattle.office_core_facts.specs.Outcome.{outcome}
 use Rattle.testing_rules_reports.specs.Reports.{update_text}
 use Rattle.office_core_outcome.specs.declared.Trial.TheVariants.{Told}
@@ -77,12 +77,12 @@ module _ (setup : Lists) (content : Content) (date : Date) (covers : ℕ → ℕ
       subst (λ (t : Suite). KeepsMoves (decisions_by setup date mail t) (tried_decisions setup content.kept (length content.reports) date covers hints)) office.testing_is
       (subst (KeepsMoves (decisions_by setup date mail content.testing)) decided_is (keeps mail stands))
 
-  -- what shows that sources are stuck
-  pub shown_is : (sources : List Text) (texts : List (Option Text)) → AreStuckOver setup.archs date facts content.testing ds sources texts
-      → AreShownStuck setup.archs date mail (testing_after setup content.kept (length content.reports)) (tried_decisions setup content.kept (length content.reports) date covers hints) sources texts
-  shown_is sources texts so =
-      subst (λ (t : Suite). AreShownStuck setup.archs date mail t (tried_decisions setup content.kept (length content.reports) date covers hints) sources texts) office.testing_is
-      (subst (λ (x : List Decision). AreShownStuck setup.archs date mail content.testing x sources texts) decided_is (so mail stands))
+  -- what is told of the sources
+  pub answers_are : (sources : List Text) (texts : List (Option Text)) → AreAnswersOver setup.archs date facts content.testing ds sources texts
+      → AreAnswers setup.archs date mail (testing_after setup content.kept (length content.reports)) (tried_decisions setup content.kept (length content.reports) date covers hints) sources texts
+  answers_are sources texts so =
+      subst (λ (t : Suite). AreAnswers setup.archs date mail t (tried_decisions setup content.kept (length content.reports) date covers hints) sources texts) office.testing_is
+      (subst (λ (x : List Decision). AreAnswers setup.archs date mail content.testing x sources texts) decided_is (so mail stands))
 
 -- what is proposed over the covers of a trial, on its date
 pub proposed_is : (setup : Lists) (kept : Kept) (k : ℕ) (terms : TrialOptions) (date : Date) (covers : ℕ → ℕ) (sources : List Text) (p : Proposal) → AreTrialCovers setup kept k terms.all covers → trial_date (latest_day (orders_to setup kept k)) terms.day ≡ Some date
@@ -97,7 +97,7 @@ proposed_is setup kept k terms date covers sources p are day over = record {
   done = subst (λ (d : Date). are_done (covers (release setup)) p.hints.items (tried_decisions setup kept k d covers p.hints.items) ≡ true) (sym over.dated) over.done;
   keeps = subst (λ (d : Date). KeepsMoves (decisions_by setup d (items_within setup kept covers) (testing_after setup kept k)) (tried_decisions setup kept k d covers p.hints.items)) (sym over.dated) over.keeps;
   freed = subst (λ (d : Date). p.freed.items ≡ freed_by (tried_decisions setup kept k d covers p.hints.items) sources) (sym over.dated) over.freed;
-  stuck = subst (λ (d : Date). AreShownStuck setup.archs d (items_within setup kept covers) (testing_after setup kept k) (tried_decisions setup kept k d covers p.hints.items) sources p.stuck.items) (sym over.dated) over.stuck;
+  answers = subst (λ (d : Date). AreAnswers setup.archs d (items_within setup kept covers) (testing_after setup kept k) (tried_decisions setup kept k d covers p.hints.items) sources p.answers.items) (sym over.dated) over.answers;
 }
 
 -- a proposal is a trial

@@ -1,4 +1,5 @@
--- Hints that are proposed: a trial takes them, and its run does each. And what shows that no group frees a source.
+-- Hints that are proposed: a trial takes them, and its run does each. And what is told of the sources that were asked
+-- for: that one is no candidate, or what shows that no group frees it.
 use Rattle.std.specs.Prelude.{◌≡◌, ℕ, ◌+◌, ◌==◌, Bool, true, false, ◌&&◌, List, [], ◌∷◌, ◌++◌, codes, filter, Option, Some, None, unwrap_or, IfSome}
 use Rattle.std.specs.List.{AllZip, flat_map, list_any}
 use Rattle.std.specs.Str.{bytes_eq}
@@ -13,6 +14,7 @@ use Rattle.testing_rules_model.specs.declared.excuse.Excuse.{Excuse}
 use Rattle.testing_rules_model.specs.declared.update.Decision.{Decision}
 use Rattle.testing_rules_model.specs.declared.update.Moved.{Moved}
 use Rattle.testing_rules_model.specs.declared.update.Decision.TheVariants.{RemoveDone, RemoveRefused, EasyDone, EasyNotCandidate, EasyRefused, Accept, Wait}
+use Rattle.testing_rules_refusals.specs.NoCandidate.{no_candidate_line}
 use Rattle.testing_rules_refusals.specs.Stuck.{IsStuckText}
 use Rattle.office_mail.specs.Lists.{Lists}
 use Rattle.office_mail.specs.Kept.{Kept}
@@ -77,14 +79,25 @@ IsShownStuck archs date mail t source text =
     let excuses : List Excuse = excuses_of archs mail t date in
     IsStuckText archs (unstable_sources mail) (unstable_rows archs mail) excuses (behind_standing archs mail excuses t) source text
 
--- for each of the sources such a text, or none; and none for one that moved
-abbrev pub AreShownStuck : List Text → Date → Covered → Suite → List Decision → List Text → List (Option Text) → Type 0
-AreShownStuck archs date mail t ds sources texts =
-    AllZip (λ source text. IfSome text (λ shown. (list_any (is_moved source) ds ≡ false) × IsShownStuck archs date mail t source shown)) sources texts
+-- the line on a source that isn't a candidate of this date's run over these messages; none for a candidate
+abbrev pub line_of : List Text → Date → Covered → Suite → Text → Option Text
+line_of archs date mail t source =
+    let excuses : List Excuse = excuses_of archs mail t date in
+    no_candidate_line archs (unstable_sources mail) excuses (behind_standing archs mail excuses t) source
+
+-- what is told of a source: its line, if it has one; else nothing, or a text that shows what it has to show
+abbrev pub IsAnswer : Option Text → (Text → Type 0) → Option Text → Type 0
+IsAnswer (Some line) Shows text = text ≡ Some line
+IsAnswer None Shows text = IfSome text Shows
+
+-- that is told of each of the sources: the text shows that no group frees the source, and there is none for one that moved
+abbrev pub AreAnswers : List Text → Date → Covered → Suite → List Decision → List Text → List (Option Text) → Type 0
+AreAnswers archs date mail t ds sources texts =
+    AllZip (λ source text. IsAnswer (line_of archs date mail t source) (λ shown. (list_any (is_moved source) ds ≡ false) × IsShownStuck archs date mail t source shown) text) sources texts
 
 -- Proposed behind k finished runs: a trial on these terms takes the hints, its run moves the group of each, and all that moves without the
--- hints. Those of the sources that are said to be freed are those that it moves. What is said to show that no group frees another of them
--- shows it.
+-- hints. Those of the sources that are said to be freed are those that it moves. The answers tell of each of the sources whether it is
+-- a candidate, and what shows that no group frees it.
 pub record IsProposed (setup : Lists) (kept : Kept) (k : ℕ) (terms : TrialOptions) (sources : List Text) (p : Proposal) : Type 0 where
   pub covers : ℕ → ℕ
   pub are : AreTrialCovers setup kept k terms.all covers
@@ -95,8 +108,8 @@ pub record IsProposed (setup : Lists) (kept : Kept) (k : ℕ) (terms : TrialOpti
   pub done : are_done (covers (release setup)) p.hints.items (tried_decisions setup kept k p.date covers p.hints.items) ≡ true
   pub keeps : KeepsMoves (decisions_by setup p.date (items_within setup kept covers) (testing_after setup kept k)) (tried_decisions setup kept k p.date covers p.hints.items)
   pub freed : p.freed.items ≡ freed_by (tried_decisions setup kept k p.date covers p.hints.items) sources
-  pub stuck : AreShownStuck setup.archs p.date (items_within setup kept covers) (testing_after setup kept k) (tried_decisions setup kept k p.date covers p.hints.items) sources p.stuck.items
+  pub answers : AreAnswers setup.archs p.date (items_within setup kept covers) (testing_after setup kept k) (tried_decisions setup kept k p.date covers p.hints.items) sources p.answers.items
 
--- what is printed: a line for each hint, and then the texts
+-- what is printed: a line for each hint, and then the answers
 abbrev pub proposal_text : List (List ℕ) → List (Option (List ℕ)) → List ℕ
-proposal_text hints stuck = flat_map (λ hint. hint ++ 10 ∷ []) hints ++ flat_map (λ text. unwrap_or text []) stuck
+proposal_text hints answers = flat_map (λ hint. hint ++ 10 ∷ []) hints ++ flat_map (λ text. unwrap_or text []) answers

@@ -1,6 +1,6 @@
 -- Steps: no contract of a call that users make rests on this file.
--- Hints of which the run does each, and what shows of sources that no group frees them.
-use Rattle.std.specs.Prelude.{◌≡◌, ℕ, ◌+◌, true, false, List, [], ◌∷◌, map, Option, None, IfSome}
+-- Hints of which the run does each, and what is told of the sources that were asked for.
+use Rattle.std.specs.Prelude.{◌≡◌, ℕ, ◌+◌, true, false, List, [], ◌∷◌, map, Option, None}
 use Rattle.std.specs.List.{AllZip, list_any}
 use Rattle.jiff_core.specs.declared.civil.date.Date.{Date}
 use Rattle.testing_rules_model.specs.Covered.{Covered}
@@ -12,13 +12,14 @@ use Rattle.testing_rules_model.specs.declared.excuse.Excuse.{Excuse}
 use Rattle.testing_rules_model.specs.declared.update.Decision.{Decision}
 use Rattle.testing_rules_model.specs.declared.update.Decision.TheVariants.{RemoveDone, RemoveRefused, EasyDone, EasyNotCandidate, EasyRefused, Accept, Wait}
 use Rattle.testing_rules_items.specs.Words.{Text}
+use Rattle.testing_rules_refusals.specs.NoCandidate.{no_candidate_line}
 use Rattle.testing_rules_refusals.specs.Stuck.{IsStuckText}
 use Rattle.office_mail.specs.Lists.{Lists}
 use Rattle.office_mail.specs.Kept.{Kept}
 use Rattle.office_core_facts.specs.Outcome.{testing_after}
 use Rattle.office_core_facts.specs.Seen.{items_within, release}
 use Rattle.office_core_outcome.specs.Hints.{first_refused, hint_letters, with_letters}
-use Rattle.office_core_outcome.specs.Proposal.{AreShownStuck, KeepsMoves, are_done, decisions_by, freed_by, is_moved, tried_decisions}
+use Rattle.office_core_outcome.specs.Proposal.{AreAnswers, IsAnswer, KeepsMoves, are_done, decisions_by, freed_by, is_moved, tried_decisions}
 use Rattle.office_core_outcome.specs.declared.proposal.Proposal.{Proposal}
 
 -- the names of the sources that the decision moves
@@ -48,14 +49,18 @@ abbrev pub IsStuckBehind : List Text → FactLists → List Excuse → Suite →
 IsStuckBehind archs facts excuses behind ds source text =
     (list_any (is_moved source) ds ≡ false) × IsStuckText archs facts.sources (built_rows archs facts.rows) excuses behind source text
 
--- for each of the sources such a text, or none
-abbrev pub AreStuckBehind : List Text → FactLists → List Excuse → Suite → List Decision → List Text → List (Option Text) → Type 0
-AreStuckBehind archs facts excuses behind ds sources texts =
-    AllZip (λ source text. IfSome text (IsStuckBehind archs facts excuses behind ds source)) sources texts
+-- this is told of the source: such a text or none, or else the line of one that isn't a candidate
+abbrev pub IsAnswerBehind : List Text → FactLists → List Excuse → Suite → List Decision → Text → Option Text → Type 0
+IsAnswerBehind archs facts excuses behind ds source text =
+    IsAnswer (no_candidate_line archs facts.sources excuses behind source) (IsStuckBehind archs facts excuses behind ds source) text
+
+-- these are told of the sources
+abbrev pub AreAnswersBehind : List Text → FactLists → List Excuse → Suite → List Decision → List Text → List (Option Text) → Type 0
+AreAnswersBehind archs facts excuses behind ds sources texts = AllZip (IsAnswerBehind archs facts excuses behind ds) sources texts
 
 -- the same over all messages that the facts represent
-abbrev pub AreStuckOver : List Text → Date → FactLists → Suite → List Decision → List Text → List (Option Text) → Type 0
-AreStuckOver archs date facts t ds sources texts = (s : Covered) → StandsFor facts s t → AreShownStuck archs date s t ds sources texts
+abbrev pub AreAnswersOver : List Text → Date → FactLists → Suite → List Decision → List Text → List (Option Text) → Type 0
+AreAnswersOver archs date facts t ds sources texts = (s : Covered) → StandsFor facts s t → AreAnswers archs date s t ds sources texts
 
 -- a proposal over these covers, with a given date
 pub record IsProposedOver (setup : Lists) (kept : Kept) (k : ℕ) (date : Date) (covers : ℕ → ℕ) (sources : List Text) (p : Proposal) : Type 0 where
@@ -66,4 +71,4 @@ pub record IsProposedOver (setup : Lists) (kept : Kept) (k : ℕ) (date : Date) 
   pub done : are_done (covers (release setup)) p.hints.items (tried_decisions setup kept k date covers p.hints.items) ≡ true
   pub keeps : KeepsMoves (decisions_by setup date (items_within setup kept covers) (testing_after setup kept k)) (tried_decisions setup kept k date covers p.hints.items)
   pub freed : p.freed.items ≡ freed_by (tried_decisions setup kept k date covers p.hints.items) sources
-  pub stuck : AreShownStuck setup.archs date (items_within setup kept covers) (testing_after setup kept k) (tried_decisions setup kept k date covers p.hints.items) sources p.stuck.items
+  pub answers : AreAnswers setup.archs date (items_within setup kept covers) (testing_after setup kept k) (tried_decisions setup kept k date covers p.hints.items) sources p.answers.items

@@ -12,14 +12,12 @@ use testing_rules_groups::{DeadSource, LongGroup};
 /// How the search ended for a source that was asked for.
 #[derive(Clone, Copy, Debug, PartialEq, Eq)]
 pub enum SourceEnd {
-    /// It isn't a candidate still waiting after the hints in force.
-    NoCandidate,
     /// The run moves it in the group of a proposed hint.
     Grouped,
     /// The run moves it alone, or by a hint in force.
     Alone,
-    /// No group frees it, as its blocks show.
-    Stuck,
+    /// The proposal has its answer: it isn't a candidate, or blocks show that no group frees it.
+    Answered,
     /// No group was found, and nothing shows that there is none.
     Open,
 }
@@ -54,8 +52,8 @@ pub struct SearchNotes {
 }
 
 /// The hints proposed for the next run, numbered from `first`. `freed` are the requested sources that the run with the
-/// hints moves. `stuck` has for each requested source the blocks of lines which show that no group frees it, if there
-/// are any.
+/// hints moves. `answers` has for each requested source its line if it isn't a candidate; else the blocks of lines which
+/// show that no group frees it, if there are any.
 #[derive(Drop)]
 pub struct Proposal {
     pub run: u32,
@@ -63,7 +61,7 @@ pub struct Proposal {
     pub first: u32,
     pub hints: Vec<Text>,
     pub freed: Vec<Text>,
-    pub stuck: Vec<Option<Text>>,
+    pub answers: Vec<Option<Text>>,
     pub notes: SearchNotes,
 }
 
@@ -84,32 +82,32 @@ fn push_hints(text: &mut String, hints: &[Text]) -> Result<(), AllocError>
     Ok(())
 }
 
-/// Adds the blocks of a source, if there are any.
-fn push_blocks(text: &mut String, blocks: &Option<Text>) -> Result<(), AllocError>
-    ensures { OnOk result (string_bytes text.new ≡ string_bytes text.old ++ unwrap_or blocks.now []) }
+/// Adds the line or the blocks of a source, if there are any.
+fn push_answer(text: &mut String, answer: &Option<Text>) -> Result<(), AllocError>
+    ensures { OnOk result (string_bytes text.new ≡ string_bytes text.old ++ unwrap_or answer.now []) }
 {
-    match blocks {
-        Some(blocks) => text.push_str(blocks.as_str()),
+    match answer {
+        Some(answer) => text.push_str(answer.as_str()),
         None => Ok(()),
     }
 }
 
-/// Adds the blocks of each source that has any.
-fn push_stuck(text: &mut String, stuck: &[Option<Text>]) -> Result<(), AllocError>
-    ensures { OnOk result (string_bytes text.new ≡ string_bytes text.old ++ flat_map (λ blocks. unwrap_or blocks []) stuck.now) }
+/// Adds the line or the blocks of each source that has any.
+fn push_answers(text: &mut String, answers: &[Option<Text>]) -> Result<(), AllocError>
+    ensures { OnOk result (string_bytes text.new ≡ string_bytes text.old ++ flat_map (λ answer. unwrap_or answer []) answers.now) }
 {
-    'sources: for blocks in stuck {
-        push_blocks(text, blocks)?;
+    'sources: for answer in answers {
+        push_answer(text, answer)?;
     }
     Ok(())
 }
 
-/// A proposal as text: a line for each hint, and then the blocks of the sources that no group frees.
+/// A proposal as text: a line for each hint, and then for each requested source its line or its blocks.
 pub fn proposal_text(alloc: Global, proposal: &Proposal) -> Result<Text, NoMemory>
-    ensures { IfOk result (λ text. text ≡ proposal_text proposal.now.hints.items proposal.now.stuck.items) }
+    ensures { IfOk result (λ text. text ≡ proposal_text proposal.now.hints.items proposal.now.answers.items) }
 {
     let mut text = String::new(alloc);
     push_hints(&mut text, &proposal.hints)?;
-    push_stuck(&mut text, &proposal.stuck)?;
+    push_answers(&mut text, &proposal.answers)?;
     Ok(Text::from_string(text))
 }

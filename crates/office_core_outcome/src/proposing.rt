@@ -11,7 +11,7 @@ ghost use Rattle.office_core_facts.specs.State.{IsOffice};
 ghost use Rattle.office_core_orders.specs.StaysTrusted.{StaysTrusted};
 ghost use Rattle.office_core_facts.specs.Seen.{release};
 ghost use Rattle.office_core_outcome.specs.Proposal.{IsProposed, freed_by};
-ghost use Rattle.office_core_outcome.specs.Settled.{AreStuckOver, IsProposedOver, IsSettled, KeepsRun};
+ghost use Rattle.office_core_outcome.specs.Settled.{AreAnswersOver, IsProposedOver, IsSettled, KeepsRun};
 ghost use Rattle.office_core_outcome.specs.Trial.{trial_date};
 
 use crate::TrialOptions;
@@ -36,12 +36,12 @@ use testing_rules_excuses::excuses;
 use testing_rules_groups::{Found, find_groups};
 use testing_rules_laws::{Decision, Testing, Update};
 
-/// Hints that the run does, each of them, its decisions then, the proofs that sources are stuck, and notes.
+/// Hints that the run does, each of them, its decisions then, what is told of the sources, and notes.
 #[derive(Drop)]
 struct SettledHints {
     hints: Vec<Text>,
     freed: Vec<Text>,
-    stuck: Vec<Option<Text>>,
+    answers: Vec<Option<Text>>,
     update: Update,
     notes: SearchNotes,
 }
@@ -69,8 +69,7 @@ fn groups_found(
 }
 
 /// Hints whose numbers go on behind the one asked for, and of which the run does each and moves all that moves without
-/// them; and what shows of the sources that no group frees them. Testing and the facts stay. It fails for want of memory
-/// alone.
+/// them; and what is told of the sources. Testing and the facts stay. It fails for want of memory alone.
 fn settled_hints(
     alloc: Global,
     asked: &Asked<'_>,
@@ -80,7 +79,7 @@ fn settled_hints(
     ensures settled { IfOk result (λ o. IsSettled asked.now.setup.now asked.now.date asked.now.number asked.now.facts.now testing.old o.hints.items o.update) }
     ensures keeps { IfOk result (λ o. KeepsRun asked.now.setup.now asked.now.date asked.now.facts.now testing.old o.update) }
     ensures freed { IfOk result (λ o. o.freed.items ≡ freed_by o.update asked.now.sources.now) }
-    ensures stuck { IfOk result (λ o. AreStuckOver asked.now.setup.now.archs asked.now.date asked.now.facts.now testing.old o.update asked.now.sources.now o.stuck.items) }
+    ensures answers { IfOk result (λ o. AreAnswersOver asked.now.setup.now.archs asked.now.date asked.now.facts.now testing.old o.update asked.now.sources.now o.answers.items) }
     ensures no_store { IfErr result (λ fault. fault ≡ StoreFault.NoMemory) }
 {
     let (setup, date, facts) = (asked.setup, asked.date, asked.facts);
@@ -90,19 +89,19 @@ fn settled_hints(
     let (hints, update) = settle(alloc, asked, testing, base, groups)?;
     let decisions = update.as_slice();
     let freed = freed_by(alloc, decisions, asked.sources)?;
-    let stuck = stuck_texts(alloc, asked, testing, &beside.dead, decisions)?;
-    let notes = notes_on(alloc, beside, decisions, asked, &stuck, hints.len())?;
+    let answers = stuck_texts(alloc, asked, testing, &beside.dead, decisions)?;
+    let notes = notes_on(alloc, beside, decisions, asked, &answers, hints.len())?;
     Ok(SettledHints {
         hints,
         freed,
-        stuck,
+        answers,
         update,
         notes,
     })
 }
 
-/// Hints that the run over the kept testing does, each of them, and proofs that no group frees a source. Testing is
-/// returned with what speeds the next run.
+/// Hints that the run over the kept testing does, each of them, and what is told of the sources. Testing is returned with
+/// what speeds the next run.
 fn settled_kept<K: Keeper>(
     alloc: Global,
     keeper: &mut K,
@@ -111,7 +110,7 @@ fn settled_kept<K: Keeper>(
     ensures settled { K.is_trusted keeper.new → K.is_legible keeper.old → IfOk result (λ o. IsSettled asked.now.setup.now asked.now.date asked.now.number asked.now.facts.now (K.content keeper.old).testing o.hints.items o.update) }
     ensures keeps { K.is_trusted keeper.new → K.is_legible keeper.old → IfOk result (λ o. KeepsRun asked.now.setup.now asked.now.date asked.now.facts.now (K.content keeper.old).testing o.update) }
     ensures freed { IfOk result (λ o. o.freed.items ≡ freed_by o.update asked.now.sources.now) }
-    ensures stuck { K.is_trusted keeper.new → K.is_legible keeper.old → IfOk result (λ o. AreStuckOver asked.now.setup.now.archs asked.now.date asked.now.facts.now (K.content keeper.old).testing o.update asked.now.sources.now o.stuck.items) }
+    ensures answers { K.is_trusted keeper.new → K.is_legible keeper.old → IfOk result (λ o. AreAnswersOver asked.now.setup.now.archs asked.now.date asked.now.facts.now (K.content keeper.old).testing o.update asked.now.sources.now o.answers.items) }
     ensures looks { ReadsStore K.Keeper keeper.old keeper.new result }
 {
     let mut testing = stored::next_testing(keeper)?;
@@ -152,7 +151,7 @@ fn proposed_over_covers<K: Keeper>(
     let SettledHints {
         hints,
         freed,
-        stuck,
+        answers,
         update,
         notes,
     } = settled;
@@ -163,7 +162,7 @@ fn proposed_over_covers<K: Keeper>(
         first,
         hints,
         freed,
-        stuck,
+        answers,
         notes,
     })
 }

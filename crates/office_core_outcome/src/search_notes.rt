@@ -13,7 +13,6 @@ pub(crate) struct FoundBeside {
     pub waiting: usize,
     pub dead: Vec<DeadSource>,
     pub long: Vec<testing_rules_groups::LongGroup>,
-    pub others: Vec<Text>,
     pub groups: usize,
 }
 
@@ -24,14 +23,12 @@ pub(crate) fn parts_of(found: Found) -> (Vec<Text>, FoundBeside) {
         long,
         waiting,
         dead,
-        others,
     } = found;
     let groups = hints.len();
     let beside = FoundBeside {
         waiting,
         dead,
         long,
-        others,
         groups,
     };
     (hints, beside)
@@ -75,17 +72,10 @@ fn end_by(decision: &Decision, source: &str, number: u32) -> Option<SourceEnd> {
     }
 }
 
-/// One of the names is this one.
-fn is_named(names: &[Text], source: &str) -> bool {
-    names.iter().any(|name| name.as_str() == source)
-}
-
 /// How the search ended for a source that the decisions don't move.
-fn end_unmoved(beside: &FoundBeside, source: &str, is_shown: bool) -> SourceEnd {
-    if is_named(&beside.others, source) {
-        SourceEnd::NoCandidate
-    } else if is_shown {
-        SourceEnd::Stuck
+fn end_unmoved(is_answered: bool) -> SourceEnd {
+    if is_answered {
+        SourceEnd::Answered
     } else {
         SourceEnd::Open
     }
@@ -101,19 +91,18 @@ fn end_moved(decisions: &[Decision], source: &str, number: u32) -> Option<Source
     None
 }
 
-/// How the search ended for each of the sources, given those shown to be stuck.
+/// How the search ended for each of the sources, given what is told of them.
 fn asked_sources(
     alloc: Global,
-    beside: &FoundBeside,
     decisions: &[Decision],
     asked: &Asked<'_>,
-    stuck: &[Option<Text>],
+    answers: &[Option<Text>],
 ) -> Result<Vec<AskedSource>, NoMemory> {
     let mut ends = Vec::new(alloc);
-    for (source, blocks) in asked.sources.iter().zip(stuck.iter()) {
+    for (source, answer) in asked.sources.iter().zip(answers.iter()) {
         let end = match end_moved(decisions, source.as_str(), asked.number) {
             Some(end) => end,
-            None => end_unmoved(beside, source.as_str(), blocks.is_some()),
+            None => end_unmoved(answer.is_some()),
         };
         let name = source.copy(alloc)?;
         ends.push(AskedSource { name, end })?;
@@ -121,22 +110,21 @@ fn asked_sources(
     Ok(ends)
 }
 
-/// The notes on n hints, from the decisions of the run with them and from the proofs that sources are stuck.
+/// The notes on n hints, from the decisions of the run with them and from what is told of the sources.
 pub(crate) fn notes_on(
     alloc: Global,
     beside: FoundBeside,
     decisions: &[Decision],
     asked: &Asked<'_>,
-    stuck: &[Option<Text>],
+    answers: &[Option<Text>],
     hints: usize,
 ) -> Result<SearchNotes, NoMemory> {
     let number = asked.number;
-    let asked = asked_sources(alloc, &beside, decisions, asked, stuck)?;
+    let asked = asked_sources(alloc, decisions, asked, answers)?;
     let FoundBeside {
         waiting,
         dead,
         long,
-        others: _,
         groups,
     } = beside;
     Ok(SearchNotes {

@@ -1,7 +1,7 @@
-//! Proofs that no group frees a source.
+//! Proofs that no group frees a source, and the lines of sources that aren't candidates.
 
 ghost use Rattle.std.specs.Prelude.{IfOk, IfSome};
-ghost use Rattle.office_core_outcome.specs.Settled.{AreStuckBehind, AreStuckOver, IsStuckBehind};
+ghost use Rattle.office_core_outcome.specs.Settled.{AreAnswersBehind, AreAnswersOver, IsAnswerBehind, IsStuckBehind};
 
 use crate::asked::Asked;
 use crate::settling::is_any_moved;
@@ -11,7 +11,7 @@ use testing_rules_excuses::excuses;
 use testing_rules_groups::DeadSource;
 use testing_rules_laws::{Archs, Decision, Excuse, Facts, Testing};
 use testing_rules_moves::hinted;
-use testing_rules_refusals::{Suspect, stuck_text};
+use testing_rules_refusals::{Suspect, no_candidate_line, stuck_text};
 
 /// The basis of blocks of lines: the facts and excuses of a run, and testing after the hints in force. Also what a
 /// search considers dead, and what the run decides with the proposed hints.
@@ -57,24 +57,46 @@ fn shown_stuck(alloc: Global, ground: &Ground<'_>, source: &str) -> Result<Optio
     )
 }
 
+/// The line of a source that isn't a candidate; else the proof that no group frees it.
+#[tactic(auto, using(crate::proofs::StuckFacts::line_told, crate::proofs::StuckFacts::stuck_told))]
+fn source_told(alloc: Global, ground: &Ground<'_>, source: &str) -> Result<Option<Text>, NoMemory>
+    ensures { IfOk result (λ text. IsAnswerBehind ground.now.archs.now ground.now.facts.now ground.now.excuses.now ground.now.behind.now ground.now.decisions.now source.now text) }
+{
+    let line = no_candidate_line(
+        alloc,
+        ground.archs,
+        ground.facts,
+        ground.excuses,
+        ground.behind,
+        source,
+    )?;
+    match line {
+        Some(line) => Ok(Some(line)),
+        None => {
+            let shown = shown_stuck(alloc, ground, source)?;
+            Ok(shown)
+        }
+    }
+}
+
 /// The same of each of the sources.
 fn each_stuck(
     alloc: Global,
     ground: &Ground<'_>,
     sources: &[Text],
 ) -> Result<Vec<Option<Text>>, NoMemory>
-    ensures { IfOk result (λ texts. AreStuckBehind ground.now.archs.now ground.now.facts.now ground.now.excuses.now ground.now.behind.now ground.now.decisions.now sources.now texts.items) }
+    ensures { IfOk result (λ texts. AreAnswersBehind ground.now.archs.now ground.now.facts.now ground.now.excuses.now ground.now.behind.now ground.now.decisions.now sources.now texts.items) }
 {
     let mut texts = Vec::new(alloc);
     for source in sources {
-        let text = shown_stuck(alloc, ground, source.as_str())?;
+        let text = source_told(alloc, ground, source.as_str())?;
         texts.push(text)?;
     }
     Ok(texts)
 }
 
-/// For each requested source the proof that no group frees it, if the search found it dead, the run doesn't move it,
-/// and the lines show it. The decisions are those of the run with the proposed hints. The one error is exhausted
+/// For each requested source its line if it isn't a candidate; else the proof that no group frees it, if the search found
+/// it dead, the run doesn't move it, and the lines show it. The decisions are those of the run with the proposed hints. The one error is exhausted
 /// memory.
 pub(crate) fn stuck_texts(
     alloc: Global,
@@ -83,7 +105,7 @@ pub(crate) fn stuck_texts(
     dead: &[DeadSource],
     decisions: &[Decision],
 ) -> Result<Vec<Option<Text>>, NoMemory>
-    ensures { IfOk result (λ texts. AreStuckOver asked.now.setup.now.archs asked.now.date asked.now.facts.now testing.now decisions.now asked.now.sources.now texts.items) }
+    ensures { IfOk result (λ texts. AreAnswersOver asked.now.setup.now.archs asked.now.date asked.now.facts.now testing.now decisions.now asked.now.sources.now texts.items) }
 {
     let archs = asked.setup.archs();
     let facts = asked.facts;

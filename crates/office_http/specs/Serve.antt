@@ -145,7 +145,7 @@ pub record Found : Type 0 where
 -- what is proposed; there is no proposal if no run is finished
 abbrev pub proposal_answer : Option Proposal → Answer
 proposal_answer None = Refused refusal.NoRun
-proposal_answer (Some proposal) = Told (proposal_text proposal.hints.items proposal.stuck.items)
+proposal_answer (Some proposal) = Told (proposal_text proposal.hints.items proposal.answers.items)
 
 abbrev pub IsProposedFor : OfficeState → TrialOptions → List (List ℕ) → Option Proposal → Type 0
 IsProposedFor s terms sources None = trial_date (latest_day (orders_to s.setup s.kept s.finished)) terms.day ≡ None

@@ -232,6 +232,25 @@ fn moved(
     Ok((agreement, lost))
 }
 
+/// All living candidates move, and every row that comes or stays works on that works while all rows are there.
+pub fn all_moving(
+    alloc: Global,
+    scope: &Scope,
+    rows: &[ArchRows],
+    living: &[bool],
+) -> Result<Agreement, NoMemory> {
+    let leaving = leaving_flags(alloc, scope, living)?;
+    let mut after = Vec::new(alloc);
+    for rows in rows {
+        after.push(flags_after(alloc, &rows.up, &leaving, &[])?)?;
+    }
+    Ok(Agreement {
+        moving: copy_flags(alloc, living)?,
+        leaving,
+        after,
+    })
+}
+
 /// The candidates to leave out: those whose move loses a row of testing, or if there are none, those whose own rows
 /// don't work.
 fn left_out(

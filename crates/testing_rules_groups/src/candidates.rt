@@ -86,18 +86,3 @@ pub fn named(alloc: Global, candidates: &[&Excuse], names: &[Text]) -> Result<Ve
     }
     Ok(flags)
 }
-
-/// The names that no candidate has.
-pub fn other_names(
-    alloc: Global,
-    candidates: &[&Excuse],
-    names: &[Text],
-) -> Result<Vec<Text>, NoMemory> {
-    let mut others = Vec::new(alloc);
-    for name in names {
-        if number_of(candidates, name.as_str()).is_none() {
-            others.push(name.copy(alloc)?)?;
-        }
-    }
-    Ok(others)
-}

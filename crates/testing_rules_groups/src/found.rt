@@ -23,12 +23,11 @@ pub struct LongGroup {
 
 /// The result of the search: an `easy` hint for each group, in the order in which the groups may move, and the groups
 /// that are too long for a hint; the number of candidates that haven't moved after today's hints, and the dead ones of
-/// them; and the wanted sources that aren't such candidates.
+/// them.
 #[derive(Drop)]
 pub struct Found {
     pub hints: Vec<Text>,
     pub long: Vec<LongGroup>,
     pub waiting: usize,
     pub dead: Vec<DeadSource>,
-    pub others: Vec<Text>,
 }

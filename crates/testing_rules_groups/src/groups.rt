@@ -175,8 +175,12 @@ fn group_of(
     Ok(seen)
 }
 
-/// The flagged nodes and all that they reach; or all nodes, if none is flagged.
-fn reached(alloc: Global, rests: &[Vec<usize>], wanted: &[bool]) -> Result<Vec<bool>, NoMemory> {
+/// The flagged nodes and all that they reach.
+pub fn reached(
+    alloc: Global,
+    rests: &[Vec<usize>],
+    wanted: &[bool],
+) -> Result<Vec<bool>, NoMemory> {
     let roots = set_places(alloc, wanted)?;
     let mut walk = Walk::new(alloc, flags_of(alloc, rests.len(), false)?);
     visit_all(alloc, &mut walk, rests, &roots)?;

@@ -10,3 +10,4 @@ pub mod Standing
 pub mod Arrivals
 pub mod Shown
 pub mod LineNumbers
+pub mod NoCandidate

@@ -65,7 +65,7 @@ fn is_in_set(set: &NameSet, name: &str) -> bool
 }
 
 /// The source's version in testing.
-fn version_in<'a>(testing: &'a Testing, name: &str) -> Option<&'a Version>
+pub(crate) fn version_in<'a>(testing: &'a Testing, name: &str) -> Option<&'a Version>
     ensures { option_copied result ≡ rules.testing_version testing.now name.now }
 {
     let sources = testing.sources();
@@ -96,7 +96,7 @@ pub fn is_in_testing(testing: &Testing, name: &str, version: &Version) -> bool
 }
 
 /// No reason keeps the source out.
-fn has_no_reason(excuse: &Excuse) -> bool
+pub(crate) fn has_no_reason(excuse: &Excuse) -> bool
     ensures { result ≡ is_empty excuse.now.reasons }
 {
     excuse.reasons.as_slice().is_empty()

@@ -61,7 +61,11 @@ fn push_other_reasons(
     Ok(())
 }
 
-fn push_reasons(text: &mut String, archs: &Archs, reasons: &[Reason]) -> Result<(), AllocError>
+pub(crate) fn push_reasons(
+    text: &mut String,
+    archs: &Archs,
+    reasons: &[Reason],
+) -> Result<(), AllocError>
     ensures { OnOk result (string_bytes text.new ≡ string_bytes text.old ++ texts.reasons_text archs.now reasons.now) }
 {
     match reasons.split_first() {

@@ -21,6 +21,7 @@ SOURCE = re.compile(r"[a-z0-9][a-z0-9+.-]+")
 CHANGE = re.compile(rb"^[-+](excuse|update|testing) ", re.MULTILINE)
 HINT_REFUSED = re.compile(r"'.*': refused ", re.DOTALL)
 UNKNOWN = re.compile(rb"^unknown ", re.MULTILINE)
+UNMOVED = ("stuck ", "unknown ", "in testing ", "source ")  # how a proposal's lines on a source that doesn't move begin
 WAITS_FOR_MAIL = re.compile(rb"^run \d+ waits for \S+ \d+ of \d+$", re.MULTILINE)
 LAST_RUNS_DAY = "1970-01-01"  # a trial takes the later of its day and the last run's
 UNDATED = "office-ask: no run is finished: name the day of the next one by --day\n"
@@ -197,7 +198,7 @@ def proposal_status(body: bytes, sources: Sequence[str]) -> Optional[int]:
     if not sources:
         return Exit.DONE if body else Exit.NEGATIVE
     lines = body.decode(errors="backslashreplace").splitlines()
-    if any(line.startswith("stuck ") for line in lines):
+    if any(line.startswith(UNMOVED) for line in lines):
         return Exit.NEGATIVE
     return 0 if any(f" {sources[0]}/" in line for line in lines if line.startswith("easy ")) else None
 

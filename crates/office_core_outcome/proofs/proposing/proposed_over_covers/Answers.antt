@@ -4,9 +4,9 @@ use Rattle.office_store_keeper.specs.Content.{Content}
 use Rattle.office_core_orders.proofs.ReadyCount.{ready_bound}
 use Rattle.office_core_facts.specs.Seen.{release}
 use Rattle.office_core_outcome.specs.Proposal.{freed_by}
-use Rattle.office_core_outcome.specs.Settled.{AreStuckOver, IsSettled, KeepsRun}
+use Rattle.office_core_outcome.specs.Settled.{AreAnswersOver, IsSettled, KeepsRun}
 use Rattle.office_core_facts.proofs.CoveredFacts.{stands_within}
-use Rattle.office_core_outcome.proofs.ProposalFacts.{decided_is, done_over, keeps_over, shown_is, taken_over}
+use Rattle.office_core_outcome.proofs.ProposalFacts.{decided_is, done_over, keeps_over, answers_are, taken_over}
 use Rattle.office_core_outcome.proofs.proposing.proposed_over_covers.Goals as goal
 
 pub returns-clause-proposed : goal.returns-clause-proposed
@@ -27,9 +27,9 @@ returns-clause-proposed g c = λ trusted legible office are finished few is.
     let keeps : KeepsRun setup date facts content.testing ds =
     subst (λ (m : Content). KeepsRun setup date facts m.testing ds) (c.in_ok-taken.ensures.looks.same earlier) (c.in_ok-settled.ensures.keeps trusted (c.in_ok-taken.ensures.looks.legible earlier legible)) in
     let sources : List (List ℕ) = c.args.sources.now in
-    let stuck = c.in_ok-settled.settled.stuck.items in
-    let shown : AreStuckOver setup.archs date facts content.testing ds sources stuck =
-    subst (λ (m : Content). AreStuckOver setup.archs date facts m.testing ds sources stuck) (c.in_ok-taken.ensures.looks.same earlier) (c.in_ok-settled.ensures.stuck trusted (c.in_ok-taken.ensures.looks.legible earlier legible)) in
+    let answers = c.in_ok-settled.settled.answers.items in
+    let told : AreAnswersOver setup.archs date facts content.testing ds sources answers =
+    subst (λ (m : Content). AreAnswersOver setup.archs date facts m.testing ds sources answers) (c.in_ok-taken.ensures.looks.same earlier) (c.in_ok-settled.ensures.answers trusted (c.in_ok-taken.ensures.looks.legible earlier legible)) in
     record {
       dated = refl;
       run = omega (arith, c.saturating_add-run.ensures, finished, ready_bound setup content.kept (length content.reports) office.places office.ready);
@@ -38,5 +38,5 @@ returns-clause-proposed g c = λ trusted legible office are finished few is.
       done = done_over setup content date covers number facts hints ds office at stand settled;
       keeps = keeps_over setup content date covers number facts hints ds office at stand settled keeps;
       freed = c.in_ok-settled.ensures.freed ∙ ap (λ (d : List Decision). freed_by d c.args.sources.now) (decided_is setup content date covers number facts hints ds office at stand settled);
-      stuck = shown_is setup content date covers number facts hints ds office at stand settled sources stuck shown;
+      answers = answers_are setup content date covers number facts hints ds office at stand settled sources answers told;
     }

@@ -4,7 +4,7 @@ use Rattle.testing_rules_model.specs.StandsFor.{StandsFor}
 use Rattle.testing_rules_model.specs.Suite.{Suite}
 use Rattle.testing_rules_model.specs.declared.update.Decision.{Decision}
 use Rattle.office_core_outcome.specs.Proposal.{decisions_by}
-use Rattle.office_core_outcome.specs.Settled.{AreStuckOver, IsSettled, KeepsRun}
+use Rattle.office_core_outcome.specs.Settled.{AreAnswersOver, IsSettled, KeepsRun}
 use Rattle.office_core_outcome.proofs.proposing.settled_hints.Goals as goal
 
 pub settle-requires : goal.settle-requires
@@ -24,9 +24,9 @@ returns-clause-keeps c =
     let a = c.args.asked.now in
     subst (λ (t : Suite). KeepsRun a.setup.now a.date a.facts.now t c.in_ok-hints.update) c.in_ok-base.ensures.same c.in_ok-hints.ensures.keeps
 
-pub returns-clause-stuck : goal.returns-clause-stuck
-returns-clause-stuck c =
+pub returns-clause-answers : goal.returns-clause-answers
+returns-clause-answers c =
     let a = c.args.asked.now in
-    let texts = c.in_ok-stuck.stuck.items in
-    subst (λ (t : Suite). AreStuckOver a.setup.now.archs a.date a.facts.now t c.in_ok-hints.update a.sources.now texts) (c.in_ok-hints.ensures.same ∙ c.in_ok-base.ensures.same)
-    (subst (λ (ds : List Decision). AreStuckOver a.setup.now.archs a.date a.facts.now c.settle.new.testing ds a.sources.now texts) c.as_slice-decisions.ensures c.in_ok-stuck.ensures)
+    let texts = c.in_ok-answers.answers.items in
+    subst (λ (t : Suite). AreAnswersOver a.setup.now.archs a.date a.facts.now t c.in_ok-hints.update a.sources.now texts) (c.in_ok-hints.ensures.same ∙ c.in_ok-base.ensures.same)
+    (subst (λ (ds : List Decision). AreAnswersOver a.setup.now.archs a.date a.facts.now c.settle.new.testing ds a.sources.now texts) c.as_slice-decisions.ensures c.in_ok-answers.ensures)

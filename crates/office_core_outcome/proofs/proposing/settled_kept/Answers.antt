@@ -2,7 +2,7 @@ use Rattle.std.proofs.Common.{sym, ap, subst, ◌∙◌}
 use Rattle.testing_rules_laws.specs.Suite.{Suite}
 use Rattle.office_store_keeper.specs.Content.{Content}
 use Rattle.office_core_orders.proofs.GivingBack.{given_back}
-use Rattle.office_core_outcome.specs.Settled.{AreStuckOver, IsSettled, KeepsRun}
+use Rattle.office_core_outcome.specs.Settled.{AreAnswersOver, IsSettled, KeepsRun}
 use Rattle.office_core_outcome.proofs.proposing.settled_kept.Goals as goal
 
 pub give_back-requires : goal.give_back-requires
@@ -26,13 +26,13 @@ returns-clause-keeps g c = λ trusted legible.
     subst (λ (t : Suite). KeepsRun a.setup.now a.date a.facts.now t settled.update)
     (c.in_ok-testing.ensures.value earlier (c.in_ok-testing.ensures.looks.legible earlier legible)) c.in_ok-settled.ensures.keeps
 
-pub returns-clause-stuck : goal.returns-clause-stuck
-returns-clause-stuck g c = λ trusted legible.
+pub returns-clause-answers : goal.returns-clause-answers
+returns-clause-answers g c = λ trusted legible.
     let a = c.args.asked.now in
     let earlier = c.give_back.ensures.before trusted in
     let settled = c.in_ok-settled.settled in
-    subst (λ (t : Suite). AreStuckOver a.setup.now.archs a.date a.facts.now t settled.update a.sources.now settled.stuck.items)
-    (c.in_ok-testing.ensures.value earlier (c.in_ok-testing.ensures.looks.legible earlier legible)) c.in_ok-settled.ensures.stuck
+    subst (λ (t : Suite). AreAnswersOver a.setup.now.archs a.date a.facts.now t settled.update a.sources.now settled.answers.items)
+    (c.in_ok-testing.ensures.value earlier (c.in_ok-testing.ensures.looks.legible earlier legible)) c.in_ok-settled.ensures.answers
 
 pub returns-clause-looks : goal.returns-clause-looks
 returns-clause-looks g c =
