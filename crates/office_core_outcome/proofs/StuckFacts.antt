@@ -19,7 +19,7 @@ use Rattle.testing_rules_model.specs.declared.facts.UploadIn.{UploadIn}
 use Rattle.testing_rules_model.specs.declared.suite.RowIn.{RowIn}
 use Rattle.testing_rules_model.specs.declared.update.Decision.{Decision}
 use Rattle.testing_rules_moves.specs.Turns.{behind_hints}
-use Rattle.testing_rules_refusals.specs.NoCandidate.{no_candidate_line}
+use Rattle.office_core_outcome.specs.NoCandidate.{no_candidate_line}
 use Rattle.testing_rules_refusals.specs.Stuck.{IsStuckText}
 use Rattle.office_core_outcome.specs.Proposal.{IsAnswer, IsShownStuck, behind_standing, is_moved, line_of}
 use Rattle.office_core_outcome.specs.Settled.{AreAnswersBehind, AreAnswersOver, IsAnswerBehind}

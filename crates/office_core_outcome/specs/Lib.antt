@@ -5,6 +5,7 @@ pub mod NextRun
 pub mod WhyRefused
 pub mod Trial
 pub mod TrialSteps
+pub mod NoCandidate
 pub mod Proposal
 pub mod Settled
 pub mod HintTold

@@ -9,6 +9,7 @@ mod hint_texts;
 mod hints;
 mod keeping;
 pub mod laws;
+mod no_candidate;
 mod proposal;
 mod proposing;
 mod refused_items;

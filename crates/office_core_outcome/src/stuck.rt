@@ -4,6 +4,7 @@ ghost use Rattle.std.specs.Prelude.{IfOk, IfSome};
 ghost use Rattle.office_core_outcome.specs.Settled.{AreAnswersBehind, AreAnswersOver, IsAnswerBehind, IsStuckBehind};
 
 use crate::asked::Asked;
+use crate::no_candidate::no_candidate_line;
 use crate::settling::is_any_moved;
 use deb_control::{NoMemory, Text};
 use std::alloc::Global;
@@ -11,7 +12,7 @@ use testing_rules_excuses::excuses;
 use testing_rules_groups::DeadSource;
 use testing_rules_laws::{Archs, Decision, Excuse, Facts, Testing};
 use testing_rules_moves::hinted;
-use testing_rules_refusals::{Suspect, no_candidate_line, stuck_text};
+use testing_rules_refusals::{Suspect, stuck_text};
 
 /// The basis of blocks of lines: the facts and excuses of a run, and testing after the hints in force. Also what a
 /// search considers dead, and what the run decides with the proposed hints.

@@ -10,4 +10,3 @@ pub mod Standing
 pub mod Arrivals
 pub mod Shown
 pub mod LineNumbers
-pub mod NoCandidate

@@ -4,7 +4,6 @@ ghost use Rattle.std.specs.Prelude.{◌≡◌, ◌++◌, ℕ, List, IfOk, filter
 ghost use Rattle.std.specs.List.{list_any};
 ghost use Rattle.std.specs.Str.{bytes_eq};
 ghost use Rattle.testing_rules_excuses.specs.States as states;
-ghost use Rattle.testing_rules_items.specs.Words.{is_empty};
 ghost use Rattle.testing_rules_model.specs.Boxed.{unboxed};
 ghost use Rattle.testing_rules_model.specs.Excuses as rules;
 ghost use Rattle.testing_rules_model.specs.FactOrder.{AreBySource};
@@ -64,8 +63,8 @@ fn is_in_set(set: &NameSet, name: &str) -> bool
     set.contains(name)
 }
 
-/// The source's version in testing.
-pub(crate) fn version_in<'a>(testing: &'a Testing, name: &str) -> Option<&'a Version>
+/// The source's version in testing. It costs one look-up among testing's sources.
+pub fn version_in<'a>(testing: &'a Testing, name: &str) -> Option<&'a Version>
     ensures { option_copied result ≡ rules.testing_version testing.now name.now }
 {
     let sources = testing.sources();
@@ -95,18 +94,12 @@ pub fn is_in_testing(testing: &Testing, name: &str, version: &Version) -> bool
     }
 }
 
-/// No reason keeps the source out.
-pub(crate) fn has_no_reason(excuse: &Excuse) -> bool
-    ensures { result ≡ is_empty excuse.now.reasons }
-{
-    excuse.reasons.as_slice().is_empty()
-}
-
 /// The excuse's source is a candidate that hasn't moved.
 fn is_remaining(testing: &Testing, excuse: &Excuse) -> bool
     ensures { result ≡ updates.is_remaining testing.now excuse.now }
 {
-    has_no_reason(excuse) && !is_in_testing(testing, excuse.source.as_str(), &excuse.unstable)
+    excuse.reasons.as_slice().is_empty()
+        && !is_in_testing(testing, excuse.source.as_str(), &excuse.unstable)
 }
 
 /// The excuse's source is a candidate that hasn't moved, and its name isn't in the set.

@@ -61,11 +61,8 @@ fn push_other_reasons(
     Ok(())
 }
 
-pub(crate) fn push_reasons(
-    text: &mut String,
-    archs: &Archs,
-    reasons: &[Reason],
-) -> Result<(), AllocError>
+/// Adds the reasons that keep a source out, with a comma between two.
+pub fn push_reasons(text: &mut String, archs: &Archs, reasons: &[Reason]) -> Result<(), AllocError>
     ensures { OnOk result (string_bytes text.new ≡ string_bytes text.old ++ texts.reasons_text archs.now reasons.now) }
 {
     match reasons.split_first() {

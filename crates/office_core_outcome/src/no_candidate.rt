@@ -1,12 +1,10 @@
 //! A source that isn't a candidate of a run, in a line.
 
 ghost use Rattle.std.specs.Prelude.{◌≡◌, ◌++◌, ◌∷◌, [], IfOk, OnOk, Some, codes, option_copied, string_bytes};
-ghost use Rattle.testing_rules_refusals.specs.NoCandidate as lines;
+ghost use Rattle.office_core_outcome.specs.NoCandidate as lines;
 ghost use Rattle.testing_rules_refusals.specs.Texts as texts;
 ghost use Rattle.testing_rules_reports.specs.Reports.{line};
 
-use crate::standing::{has_no_reason, version_in};
-use crate::telling::push_reasons;
 use deb_control::Text;
 use deb_version::{NoMemory, Version};
 use std::alloc::{AllocError, Global};
@@ -14,6 +12,7 @@ use testing_rules_excuses::excuse_of;
 use testing_rules_facts::{Facts, source_in};
 use testing_rules_items::Archs;
 use testing_rules_model::{Excuse, UploadIn};
+use testing_rules_refusals::{push_reasons, version_in};
 use testing_rules_suites::Testing;
 
 /// Adds an unstable version of a source.
@@ -69,7 +68,7 @@ fn excused_line(
 ) -> Result<Option<Text>, NoMemory>
     ensures { IfOk result (λ text. text ≡ lines.excused_line archs.now name.now excuse.now) }
 {
-    if has_no_reason(excuse) {
+    if excuse.reasons.as_slice().is_empty() {
         return Ok(None);
     }
     Ok(Some(kept_out_line(alloc, archs, name, excuse)?))
@@ -156,7 +155,7 @@ fn unstable_line(
 /// The line on a source that isn't a candidate of a run, given the run's facts and excuses, and testing as the hints in
 /// force leave it there; none for a candidate. It costs two look-ups and a look at the excuses before the source's. The
 /// only error is running out of memory.
-pub fn no_candidate_line(
+pub(crate) fn no_candidate_line(
     alloc: Global,
     archs: &Archs,
     facts: &Facts,
