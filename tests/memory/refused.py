@@ -321,20 +321,28 @@ def reply_of(code, phrase, body):
 SHORT = reply_of(503, b"Service Unavailable", NO_MEMORY)
 
 
+# What a service prints that has no memory for a request, or for its reply, and closes the connection. It prints nothing
+# if it has none for the first bytes.
+CUT = re.compile(r"(office: a (request can't be read|reply can't be written): .*: its connection is closed\n)?")
+
+
 class Service(serving.Service):
-    """A service in memory, one of whose growths is refused. So one of its replies may be 503: the request is made once more then."""
+    """A service in memory, one of whose growths is refused. So one of its replies may be 503, or without memory for a request
+    or its reply the connection may be closed, whether the mail is kept or not: the request is made once more then."""
 
     def __init__(self, folder, at, connections):
         self.count = os.path.join(folder, "count")
         self.short = 0
+        self.is_cut = False
         super().__init__(program, conf=os.path.join(folder, "conf"), connections=connections,
                          env=environment(at, at, self.count))
         self.listens = self.start()
 
     def ask(self, request):
         reply = ask(self.port, request)
-        if reply == SHORT and self.short == 0:
+        if reply in (SHORT, b"") and self.short == 0:
             self.short = 1
+            self.is_cut = reply == b""
             reply = ask(self.port, request)
         return reply
 
@@ -346,8 +354,8 @@ class Service(serving.Service):
 
 
 def try_service(folder, name, texts):
-    """Each growth of a service refused in turn: a post is answered by its line, or by 503 and then by its line; so is each post that is
-    made again; and testing and reports are the row's."""
+    """Each growth of a service refused in turn: a post is answered by its line, or by 503 or a closed connection and then by its
+    line; so is each post that is made again; and testing and reports are the row's."""
     global runs
     rules = Rules(folder, texts)
     lines, ready, reports, testing = rules.whole
@@ -374,6 +382,8 @@ def try_service(folder, name, texts):
                 want(what + ", status", True, got in (SHORT, reply_of(200, b"OK", b"ready %d finished %d\n" % (ready, ready))))
         status, grown = service.ended()
         want(what + ", exit status", 0 if service.listens else 4, status)
+        if service.is_cut:
+            want(what + ", closed with a line", True, CUT.fullmatch(service.said) is not None)
         if grown < at:
             return refused
         refused += 1
