@@ -1,0 +1,4 @@
+pub mod Candidates
+pub mod Coming
+pub mod Indexed
+pub mod Moving

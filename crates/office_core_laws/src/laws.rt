@@ -1,0 +1,22 @@
+//! Laws of runs. Each is a call that does nothing; its contract is the law.
+
+ghost use Rattle.std.specs.Prelude.{◌≡◌, ◌⊎◌, ◌+◌, ℕ, List, [], Contains};
+ghost use Rattle.archive_plan.specs.declared.items.Item.{Item};
+ghost use Rattle.archive_plan.specs.Items.{lacking};
+ghost use Rattle.office_mail.specs.Kept.{Kept};
+ghost use Rattle.office_mail.specs.Lists.{Lists};
+ghost use Rattle.office_core_facts.specs.Outcome.{covered_items, testing_after};
+ghost use Rattle.office_core_laws.specs.FromUnstable.{AreAmong, IsFromUnstable, suite_items, told_items};
+
+/// A run moves only what is there. What it brings into testing, sources and their packages, is in unstable as the run's
+/// covered mail gives it, at that version.
+pub fn moves_only_what_is_there()
+    ensures unstable { (setup : Lists) (kept : Kept) (k : ℕ) → IsFromUnstable setup.archs (covered_items setup kept (k + 1)) (testing_after setup kept k) (testing_after setup kept (k + 1)) }
+    // So it is in each index that has all that this mail says of unstable.
+    ensures index { (setup : Lists) (kept : Kept) (k : ℕ) (index : List Item) → AreAmong (told_items setup.archs (covered_items setup kept (k + 1))) index
+        → (x : Item) → Contains (suite_items (testing_after setup kept (k + 1))) x → Contains (suite_items (testing_after setup kept k)) x ⊎ Contains index x }
+    // And a plan that brings a suite with the testing of before to the new one lacks nothing, if it copies from such an
+    // index.
+    ensures plan { (setup : Lists) (kept : Kept) (k : ℕ) (index testing suite : List Item) → AreAmong (told_items setup.archs (covered_items setup kept (k + 1))) index
+        → AreAmong testing (suite_items (testing_after setup kept (k + 1))) → AreAmong (suite_items (testing_after setup kept k)) suite → lacking (lacking testing suite) index ≡ [] }
+{}
