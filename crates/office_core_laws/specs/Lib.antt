@@ -1,1 +1,2 @@
 pub mod FromUnstable
+pub mod OrderTaken

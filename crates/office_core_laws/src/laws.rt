@@ -1,12 +1,18 @@
 //! Laws of runs. Each is a call that does nothing; its contract is the law.
 
-ghost use Rattle.std.specs.Prelude.{◌≡◌, ◌⊎◌, ◌+◌, ℕ, List, [], Contains};
+ghost use Rattle.std.specs.Prelude.{◌≡◌, ◌⊎◌, ◌+◌, ◌<◌, ℕ, List, [], Contains};
+ghost use Rattle.jiff_core.specs.declared.civil.date.Date.{Date};
 ghost use Rattle.archive_plan.specs.declared.items.Item.{Item};
 ghost use Rattle.archive_plan.specs.Items.{lacking};
 ghost use Rattle.office_mail.specs.Kept.{Kept};
 ghost use Rattle.office_mail.specs.Lists.{Lists};
+ghost use Rattle.office_mail.specs.Runs.{runs};
+ghost use Rattle.office_mail.specs.Setup.{IsSetup};
+ghost use Rattle.office_core_orders.specs.Ready.{HasPlaces};
 ghost use Rattle.office_core_facts.specs.Outcome.{covered_items, testing_after};
+ghost use Rattle.office_core.specs.Unbroken.{AreUnbroken};
 ghost use Rattle.office_core_laws.specs.FromUnstable.{AreAmong, IsFromUnstable, suite_items, told_items};
+ghost use Rattle.office_core_laws.specs.OrderTaken.{IsFrom1970, IsTaken};
 
 /// A run moves only what is there. What it brings into testing, sources and their packages, is in unstable as the run's
 /// covered mail gives it, at that version.
@@ -19,4 +25,11 @@ pub fn moves_only_what_is_there()
     // index.
     ensures plan { (setup : Lists) (kept : Kept) (k : ℕ) (index testing suite : List Item) → AreAmong (told_items setup.archs (covered_items setup kept (k + 1))) index
         → AreAmong testing (suite_items (testing_after setup kept (k + 1))) → AreAmong (suite_items (testing_after setup kept k)) suite → lacking (lacking testing suite) index ≡ [] }
+{}
+
+/// The order that an office tells is taken: its text is read as that order, under the next number, and its run is ready
+/// if all earlier ones are.
+pub fn order_is_taken()
+    ensures { (setup : Lists) (kept : Kept) (unbroken : ℕ → ℕ) (day : Date) → IsSetup setup → HasPlaces setup kept → AreUnbroken kept unbroken → IsFrom1970 day → unbroken (runs setup) < 999_999_999
+        → IsTaken setup kept unbroken day }
 {}
