@@ -1,5 +1,6 @@
 pub mod Candidates
 pub mod Coming
+pub mod EasyHints
 pub mod Indexed
 pub mod Moving
 pub mod OrderCovers
@@ -9,3 +10,5 @@ pub mod OrderSenders
 pub mod OrderTaken
 pub mod OrderText
 pub mod OrderWords
+pub mod RowOrder
+pub mod StuckRuns

@@ -1,18 +1,25 @@
 //! Laws of runs. Each is a call that does nothing; its contract is the law.
 
-ghost use Rattle.std.specs.Prelude.{◌≡◌, ◌⊎◌, ◌+◌, ◌<◌, ℕ, List, [], Contains};
+ghost use Rattle.std.specs.Prelude.{◌≡◌, ◌⊎◌, ◌+◌, ◌<◌, ℕ, List, [], Contains, Some, slice_get};
 ghost use Rattle.jiff_core.specs.declared.civil.date.Date.{Date};
 ghost use Rattle.archive_plan.specs.declared.items.Item.{Item};
 ghost use Rattle.archive_plan.specs.Items.{lacking};
+ghost use Rattle.testing_rules_model.specs.Excuses.{testing_version};
 ghost use Rattle.office_mail.specs.Kept.{Kept};
 ghost use Rattle.office_mail.specs.Lists.{Lists};
 ghost use Rattle.office_mail.specs.Runs.{runs};
 ghost use Rattle.office_mail.specs.Setup.{IsSetup};
+ghost use Rattle.office_store_keeper.specs.Provenance.{AreOwnTexts};
 ghost use Rattle.office_core_orders.specs.Ready.{HasPlaces};
 ghost use Rattle.office_core_facts.specs.Outcome.{covered_items, testing_after};
+ghost use Rattle.office_core_facts.specs.Seen.{release};
+ghost use Rattle.office_core_outcome.specs.Proposal.{IsProposed};
+ghost use Rattle.office_core_outcome.specs.declared.TrialOptions.{TrialOptions};
+ghost use Rattle.office_core_outcome.specs.declared.proposal.Proposal.{Proposal};
 ghost use Rattle.office_core.specs.Unbroken.{AreUnbroken};
 ghost use Rattle.office_core_laws.specs.FromUnstable.{AreAmong, IsFromUnstable, suite_items, told_items};
 ghost use Rattle.office_core_laws.specs.OrderTaken.{IsFrom1970, IsTaken};
+ghost use Rattle.office_core_laws.specs.StuckStays.{AreEasy, testing_standing, testing_with};
 
 /// A run moves only what is there. What it brings into testing, sources and their packages, is in unstable as the run's
 /// covered mail gives it, at that version.
@@ -32,4 +39,13 @@ pub fn moves_only_what_is_there()
 pub fn order_is_taken()
     ensures { (setup : Lists) (kept : Kept) (unbroken : ℕ → ℕ) (day : Date) → IsSetup setup → HasPlaces setup kept → AreUnbroken kept unbroken → IsFrom1970 day → unbroken (runs setup) < 999_999_999
         → IsTaken setup kept unbroken day }
+{}
+
+/// Stuck means stuck. If a proposal shows of a source that no group frees it, the source keeps its version in that run,
+/// whatever `easy` hints are mailed on top.
+pub fn stuck_stays()
+    ensures { (setup : Lists) (kept : Kept) (k : ℕ) (terms : TrialOptions) (sources : List (List ℕ)) (p : Proposal) → IsSetup setup → AreOwnTexts setup kept → (proposed : IsProposed setup kept k terms sources p)
+        → (place : ℕ) (source text : List ℕ) → slice_get sources place ≡ Some source → slice_get p.stuck.items place ≡ Some (Some text)
+        → (hints : List (List ℕ)) → AreEasy setup (proposed.covers (release setup)) hints
+        → testing_version (testing_with setup kept k p.date proposed.covers hints) source ≡ testing_version (testing_standing setup kept k p.date proposed.covers) source }
 {}
