@@ -72,9 +72,12 @@ LATER = [
     ('every command', ['office_cli_words::read_words']),
     ('certificates', [f'testing_install_why::{call}' for call in (
         'certificate', 'is_shown', 'groundless_isnt_installable', 'each_has_an_order')]),
-    ('what no group frees', ['testing_rules_refusals::no_group_frees', 'office_core::Office::propose']),
-    ('whole stores, bags of kept mail, lists', ['office_core_check', 'office_core_queries']),
+    ('what no group frees', [
+        'testing_rules_refusals::no_group_frees', 'office_core::Office::propose', 'office_core_laws::stuck_stays']),
+    ('whole stores, bags of kept mail, lists', [
+        'office_core_check', 'office_core_queries', 'office_core_laws::order_is_taken']),
     ('plans of a suite', ['archive_plan', 'archive_lists']),
+    ('what a run moves', ['office_core_laws::moves_only_what_is_there']),
 ]
 # What the row of other calls claims of private functions of the commands.
 PRIVATE = [f'office_cli::{call}' for call in ('report_text', 'counted_text', 'order_on')]

@@ -1,0 +1,14 @@
+pub mod Candidates
+pub mod Coming
+pub mod EasyHints
+pub mod Indexed
+pub mod Moving
+pub mod OrderCovers
+pub mod OrderDay
+pub mod OrderLines
+pub mod OrderSenders
+pub mod OrderTaken
+pub mod OrderText
+pub mod OrderWords
+pub mod RowOrder
+pub mod StuckRuns

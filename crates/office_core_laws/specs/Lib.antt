@@ -1,0 +1,3 @@
+pub mod FromUnstable
+pub mod OrderTaken
+pub mod StuckStays
