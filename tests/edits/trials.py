@@ -17,8 +17,10 @@ its proof there, and a body that calls nothing, so the prover takes it by its co
    another function that isn't proved is no such complaint, nor is that a proof file names what the edit took away.
 3. In the same check the control is changed by a blank, which changes nothing, and is proved.
 
-An edit that changes a constant, or two functions, is tried on the whole crate too. The last line is `N passed, N
-failed`, and the exit status is 1 if one failed. It needs the kit of `rt`, whose functions it calls.
+Edits of different functions are tried in one check. If the borrow checker refuses one of them, that check has no
+verdict on the others and the control, so each is tried alone. An edit that changes a constant, or two functions, is
+tried on the whole crate too. The last line is `N passed, N failed`, and the exit status is 1 if one failed. It needs
+the kit of `rt`, whose functions it calls.
 """
 import argparse
 import concurrent.futures
@@ -267,12 +269,17 @@ def rounds_of(changes):
 
 
 def try_round(crate, changes, control):
-    """Tries edits of different functions in one check, and yields each with its result: the complaint, or None."""
+    """Tries edits of different functions in one check, and yields each with its result: the complaint, or None. If that
+    check says nothing of the control, it tries each alone."""
     functions = [it.function for it in changes]
     check = Check(crate, [*functions, control], [*changes, with_a_blank(control)])
     is_sound = check.status == 1 and check.holds(control) and check.others_hold(functions)
+    if is_sound or len(changes) == 1:
+        for change in changes:
+            yield change.edit, check.refusal(change.function) if is_sound else None
+        return
     for change in changes:
-        yield change.edit, check.refusal(change.function) if is_sound else None
+        yield from try_round(crate, [change], control)
 
 
 def try_whole(crate, edit):
