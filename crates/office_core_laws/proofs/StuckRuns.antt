@@ -1,7 +1,7 @@
 -- A source that is shown to be stuck stays, whatever `easy` hints are mailed on top.
-use Rattle.std.proofs.Common.{◌≡◌, ℕ, zero, suc, ◌+◌, ◌<◌, ◌≤◌, false, List, [], ◌∷◌, ◌++◌, length, Option, None, Some, Result, Ok, Err, refl, sym, ap, ◌∙◌, subst, arith}
+use Rattle.std.proofs.Common.{◌≡◌, ℕ, ◌+◌, ◌<◌, ◌≤◌, List, [], ◌∷◌, ◌++◌, length, Option, Some, Result, Ok, Err, refl, sym, ap, ◌∙◌, subst, arith}
 use Rattle.std.specs.Prelude.{Contains, option_to_list}
-use Rattle.std.specs.List.{AllByRecursion, AllZip, list_any, slice_get}
+use Rattle.std.specs.List.{AllByRecursion}
 use Rattle.std.proofs.lemmas.Option.{same_Some}
 use Rattle.jiff_core.specs.declared.civil.date.Date.{Date}
 use Rattle.testing_rules_items.specs.declared.item.Item.{Item as AnItem}
@@ -11,7 +11,6 @@ use Rattle.testing_rules_items.proofs.Each.{each-put, each-weaker}
 use Rattle.testing_rules_items.proofs.Members.{head_of, tail_of}
 use Rattle.testing_rules_model.specs.declared.excuse.Excuse.{Excuse}
 use Rattle.testing_rules_model.specs.declared.facts.HintIn.{HintIn}
-use Rattle.testing_rules_model.specs.declared.update.Decision.{Decision}
 use Rattle.testing_rules_model.specs.Covered.{Covered, CoveredItem, hint_of, hints_in}
 use Rattle.testing_rules_model.specs.Excuses.{excuses_of, testing_version}
 use Rattle.testing_rules_model.specs.Suite.{Suite}
@@ -39,9 +38,7 @@ use Rattle.office_core_facts.specs.Outcome.{item_at, item_in_answer, item_in_bod
 use Rattle.office_core_facts.specs.Seen.{items_within, release}
 use Rattle.office_core_facts.proofs.CoveredFacts.{says_within}
 use Rattle.office_core_outcome.specs.Hints.{hint_letter, hint_letters, with_letters}
-use Rattle.office_core_outcome.specs.Proposal.{IsAnswer, IsProposed, IsShownStuck, behind_standing, is_moved, line_of, tried_decisions}
-use Rattle.office_core_outcome.specs.declared.TrialOptions.{TrialOptions}
-use Rattle.office_core_outcome.specs.declared.proposal.Proposal.{Proposal}
+use Rattle.office_core_outcome.specs.Proposal.{IsShownStuck, behind_standing}
 use Rattle.office_core_laws.specs.StuckStays.{AreEasy, SaysEasy, testing_standing, testing_with}
 use Rattle.testing_rules_items.specs.declared.item.HintItem.{HintItem}
 use Rattle.office_core_laws.proofs.EasyHints.{HasMore, coming, easy_hint, easy_message, excuses_same, no_more, one_more, then_more, update_is}
@@ -162,26 +159,13 @@ module _ (law : NoGroupFrees) (archs : List Text) (few : length archs ≤ 16) (b
       ∙ subst (λ (name : Text). testing_version after name ≡ testing_version (behind_standing archs said excuses before) name) shown.named
       (frees (coming archs said more m before date) shown.own (head_of shown.own shown.behind))
 
--- The text at the place of a source.
+-- A run of an office.
 
-zipped_at : {A B : Type 0} (R : A → B → Type 0) (xs : List A) (ys : List B) (i : ℕ) (x : A) (y : B) → AllZip R xs ys → slice_get xs i ≡ Some x → slice_get ys i ≡ Some y → R x y
-zipped_at R [] ys i x y h a b = absurd (cc a)
-zipped_at R (x' ∷ xs) [] i x y h a b = absurd h
-zipped_at R (x' ∷ xs) (y' ∷ ys) zero x y h a b = subst (R x) (same_Some y' y b) (subst (λ z. R z y') (same_Some x' x a) h.0)
-zipped_at R (x' ∷ xs) (y' ∷ ys) (suc i) x y h a b = zipped_at R xs ys i x y h.1 a b
-
-pub proposed_stays : NoGroupFrees → (setup : Lists) (kept : Kept) (k : ℕ) (terms : TrialOptions) (sources : List (List ℕ)) (p : Proposal) → IsSetup setup → AreOwnTexts setup kept → (proposed : IsProposed setup kept k terms sources p)
-    → (place : ℕ) (source text : List ℕ) → slice_get sources place ≡ Some source → slice_get p.answers.items place ≡ Some (Some text)
-    → line_of setup.archs p.date (items_within setup kept proposed.covers) (testing_after setup kept k) source ≡ None
-    → (hints : List (List ℕ)) → AreEasy setup (proposed.covers (release setup)) hints
-    → testing_version (testing_with setup kept k p.date proposed.covers hints) source ≡ testing_version (testing_standing setup kept k p.date proposed.covers) source
+pub office_stays : NoGroupFrees → (setup : Lists) (kept : Kept) (k : ℕ) (date : Date) (covers : ℕ → ℕ) (source text : Text) → IsSetup setup → AreOwnTexts setup kept
+    → IsShownStuck setup.archs date (items_within setup kept covers) (testing_after setup kept k) source text → (hints : List (List ℕ)) → AreEasy setup (covers (release setup)) hints
+    → testing_version (testing_with setup kept k date covers hints) source ≡ testing_version (testing_standing setup kept k date covers) source
 unfolding outcome
-proposed_stays law setup kept k terms sources p is_setup own proposed place source text at told candidate hints easy =
-    let covers = proposed.covers in
+office_stays law setup kept k date covers source text is_setup own shown hints easy =
     let mail = items_within setup kept covers in
-    let before = testing_after setup kept k in
-    let ds : List Decision = tried_decisions setup kept k p.date covers p.hints.items in
-    let answer = zipped_at (λ s t. IsAnswer (line_of setup.archs p.date mail before s) (λ shown. (list_any (is_moved s) ds ≡ false) × IsShownStuck setup.archs p.date mail before s shown) t) sources p.answers.items place source (Some text) proposed.answers at told in
-    let shown = subst (λ (line : Option (List ℕ)). IsAnswer line (λ shown. (list_any (is_moved source) ds ≡ false) × IsShownStuck setup.archs p.date mail before source shown) (Some text)) candidate answer in
-    shown_stays law setup.archs is_setup.archs.few before p.date mail (with_letters setup (release setup) (hint_letters setup (covers (release setup)) hints) mail)
-    (easy_more setup kept covers is_setup own setup.archs hints easy) source text shown.1
+    shown_stays law setup.archs is_setup.archs.few (testing_after setup kept k) date mail (with_letters setup (release setup) (hint_letters setup (covers (release setup)) hints) mail)
+    (easy_more setup kept covers is_setup own setup.archs hints easy) source text shown

@@ -1,6 +1,6 @@
 //! Laws of runs. Each is a call that does nothing; its contract is the law.
 
-ghost use Rattle.std.specs.Prelude.{◌≡◌, ◌⊎◌, ◌+◌, ◌<◌, ℕ, List, [], Contains, None, Some, slice_get};
+ghost use Rattle.std.specs.Prelude.{◌≡◌, ◌⊎◌, ◌+◌, ◌<◌, ℕ, List, [], Contains};
 ghost use Rattle.jiff_core.specs.declared.civil.date.Date.{Date};
 ghost use Rattle.archive_plan.specs.declared.items.Item.{Item};
 ghost use Rattle.archive_plan.specs.Items.{lacking};
@@ -13,9 +13,7 @@ ghost use Rattle.office_store_keeper.specs.Provenance.{AreOwnTexts};
 ghost use Rattle.office_core_orders.specs.Ready.{HasPlaces};
 ghost use Rattle.office_core_facts.specs.Outcome.{covered_items, testing_after};
 ghost use Rattle.office_core_facts.specs.Seen.{items_within, release};
-ghost use Rattle.office_core_outcome.specs.Proposal.{IsProposed, line_of};
-ghost use Rattle.office_core_outcome.specs.declared.TrialOptions.{TrialOptions};
-ghost use Rattle.office_core_outcome.specs.declared.proposal.Proposal.{Proposal};
+ghost use Rattle.office_core_outcome.specs.Proposal.{IsShownStuck};
 ghost use Rattle.office_core.specs.Unbroken.{AreUnbroken};
 ghost use Rattle.office_core_laws.specs.FromUnstable.{AreAmong, IsFromUnstable, suite_items, told_items};
 ghost use Rattle.office_core_laws.specs.OrderTaken.{IsFrom1970, IsTaken};
@@ -41,12 +39,10 @@ pub fn order_is_taken()
         → IsTaken setup kept unbroken day }
 {}
 
-/// Stuck means stuck. If a proposal shows of a candidate that no group frees it, the source keeps its version in that
-/// run, whatever `easy` hints are mailed on top.
+/// Stuck means stuck. If a text shows of a source that no group frees it, as each block of a proposal does, the source
+/// keeps its version in that run, whatever `easy` hints are mailed on top.
 pub fn stuck_stays()
-    ensures { (setup : Lists) (kept : Kept) (k : ℕ) (terms : TrialOptions) (sources : List (List ℕ)) (p : Proposal) → IsSetup setup → AreOwnTexts setup kept → (proposed : IsProposed setup kept k terms sources p)
-        → (place : ℕ) (source text : List ℕ) → slice_get sources place ≡ Some source → slice_get p.answers.items place ≡ Some (Some text)
-        → line_of setup.archs p.date (items_within setup kept proposed.covers) (testing_after setup kept k) source ≡ None
-        → (hints : List (List ℕ)) → AreEasy setup (proposed.covers (release setup)) hints
-        → testing_version (testing_with setup kept k p.date proposed.covers hints) source ≡ testing_version (testing_standing setup kept k p.date proposed.covers) source }
+    ensures { (setup : Lists) (kept : Kept) (k : ℕ) (date : Date) (covers : ℕ → ℕ) (source text : List ℕ) → IsSetup setup → AreOwnTexts setup kept
+        → IsShownStuck setup.archs date (items_within setup kept covers) (testing_after setup kept k) source text → (hints : List (List ℕ)) → AreEasy setup (covers (release setup)) hints
+        → testing_version (testing_with setup kept k date covers hints) source ≡ testing_version (testing_standing setup kept k date covers) source }
 {}
