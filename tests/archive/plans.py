@@ -55,16 +55,20 @@ def due(testing, suite, origin, gone, back):
         ["remove " + line for line in lines(dict(sorted(go.items())))]
 
 
-def planned(program, folder, suites, gone, back):
-    """What the program prints, and its status."""
+def answered(program, folder, suites, words):
+    """What a program prints of three lists, and its status."""
     paths = []
-    for name, suite in zip(("testing", "suite", "from"), suites):
+    for name, suite in zip(("first", "second", "third"), suites):
         paths.append(os.path.join(folder, name))
         with open(paths[-1], "w", encoding="utf-8") as file:
             file.write("".join(line + "\n" for line in suite))
-    ran = subprocess.run([program, *paths, "--gone", str(gone), *(["--back"] if back else [])], capture_output=True,
-                         text=True, timeout=60, check=False)
+    ran = subprocess.run([program, *paths, *words], capture_output=True, text=True, timeout=60, check=False)
     return ran.returncode, ran.stdout.splitlines()
+
+
+def planned(program, folder, suites, gone, back):
+    """The status of a plan, and its lines."""
+    return answered(program, folder, suites, ["--gone", str(gone), *(["--back"] if back else [])])
 
 
 def main():
@@ -95,4 +99,5 @@ def main():
     sys.exit(1 if faults else 0)
 
 
-main()
+if __name__ == "__main__":
+    main()
