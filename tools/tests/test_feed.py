@@ -6,7 +6,7 @@ import shutil
 import tempfile
 import unittest
 
-from helpers import SETUP, Serving, needs_office, tool
+from helpers import SETUP, Serving, needs_sync, tool
 from office_tools import bags, messages
 from office_tools.feed.mailbox import Outgoing
 from office_tools.feed.news import replaced
@@ -97,7 +97,7 @@ class Feeding(Folder):
         return next(paragraphs(self.service.kept_text("rt", number) or b""))
 
 
-@needs_office
+@needs_sync
 class Feeds(Feeding):
 
     def test_days(self):
@@ -167,6 +167,18 @@ class Feeds(Feeding):
         self.assertEqual(printed[0], "uploads 2, drops 0, builds 2, hints 0, unhints 0, orders 0")
         self.assertEqual(told, ["office-feed: run 1 waits for bts 1 of 1"])
 
+    def test_what_the_archive_has_not(self):
+        """The archive has the same version in other bytes, which no mail can tell: no run is ordered."""
+        self.feed(FIRST, "2025-03-03")
+        other = FIRST.replace("Source: lib\nVersion: 1\nArchitecture: amd64", "Source: lib\nVersion: 0:1\n"
+                              "Architecture: amd64")
+        for more in ((), ("--no-order",)):
+            self.assertEqual(self.feed(other, "2025-03-04", *more, status=3),
+                             ([], ["office-feed: the office's unstable has what the archive hasn't: lib1 1 amd64: no "
+                                   "run is ordered before it is dropped"]))
+        self.assertEqual(self.service.kept()["clock"].kept, 1)
+        self.assertEqual(self.feed(FIRST, "2025-03-04")[0][1], "ready 2 finished 2")
+
     def test_refusals(self):
         self.feed(FIRST, "2025-03-03", "--no-order")
         only = FIRST.replace("arm64", "amd64")
@@ -220,7 +232,7 @@ class Replaced(unittest.TestCase):
         self.assertIsNone(self.replaced(["2_1 high sid", "3 low sid"]))
 
 
-@needs_office
+@needs_sync
 class Replacing(Feeding):
 
     def changes(self, version, urgency, distribution="unstable", architecture="source"):
@@ -254,7 +266,7 @@ KNOT = "".join(package(name, "1", depends=other, architecture=arch) for arch in 
                for name, other in (("one", "two"), ("two", "one")))
 
 
-@needs_office
+@needs_sync
 class Proposing(Feeding):
     """Groups that the office proposes: mailed with an order, or written down; and taken back once they have moved."""
 
@@ -335,7 +347,7 @@ Role: runs
 """
 
 
-@needs_office
+@needs_sync
 class Rebuilding(Folder):
     """A rebuild is sent under a version of its own: by the spare senders, and then under made-up versions."""
 

@@ -10,7 +10,7 @@ from office_tools import days
 from office_tools.accounts import service_at
 from office_tools.bags import framed
 from office_tools.faults import Exit, Fault
-from office_tools.feed import archive, brakes, mailbox, restoring
+from office_tools.feed import archive, brakes, due, mailbox, restoring
 from office_tools.feed.indexes import Indexes, indexes_in
 from office_tools.feed.mailbox import Mailbox, Outgoing
 from office_tools.feed.memory import ChangesRead, Memory, remembered
@@ -150,7 +150,7 @@ class Turn:
             sys.stdout.buffer.write(found.bag())
             tell(found.summary(), Weight.NOTE)
             return int(bool(found.texts))
-        self.send(feed, found)
+        self.send(feed, found, unstable)
         mailbox.fetch(self.service, self.folder)  # so that the folder is a backup of all mail
         self.lines.finish()
         Memory(self.lines.left(), {**self.memory.releases, **brakes.remembered_releases(files.releases)},
@@ -178,10 +178,12 @@ class Turn:
             return found
         return {upload: replace(arrival, day=self.day.isoformat()) for upload, arrival in found.items()}
 
-    def send(self, feed: Feed, found: News) -> None:
-        """Sends what is new, and orders the runs."""
+    def send(self, feed: Feed, found: News, unstable: Unstable) -> None:
+        """Sends what is new, and orders the runs, unless unstable then has a package that the archive hasn't."""
         asked = self.asked
         sent = feed.sending.send(found.texts)
+        known = mailbox.fetch(self.service, self.folder).known
+        due.lists_of(self.service.unstable(), unstable.sources, unstable.binaries, known.dropped).check()
         is_settled = feed.ordered(self.day, asked.order, found, sent)
         if is_settled and asked.propose:
             feed.propose(self.day, asked.order)
