@@ -5,6 +5,7 @@ import os
 import shutil
 import tempfile
 import unittest
+import unittest.mock
 
 from helpers import SETUP, Serving, needs_sync, tool
 from office_tools import bags, messages
@@ -167,17 +168,26 @@ class Feeds(Feeding):
         self.assertEqual(printed[0], "uploads 2, drops 0, builds 2, hints 0, unhints 0, orders 0")
         self.assertEqual(told, ["office-feed: run 1 waits for bts 1 of 1"])
 
-    def test_what_the_archive_has_not(self):
-        """The archive has the same version in other bytes, which no mail can tell: no run is ordered."""
+    def test_other_bytes(self):
+        """The archive has the same version in other bytes: that is sent under a made-up version."""
         self.feed(FIRST, "2025-03-03")
         other = FIRST.replace("Source: lib\nVersion: 1\nArchitecture: amd64", "Source: lib\nVersion: 0:1\n"
                               "Architecture: amd64")
+        printed, told = self.feed(other, "2025-03-04", status=1)
+        self.assertEqual(printed[0], "uploads 0, drops 0, builds 1, hints 0, unhints 0, orders 1")
+        self.assertEqual(told, ["office-feed: lib1 amd64 0:1: it is back below 1, which was sent: sent as "
+                                "1+back1.0+c1"])
+
+    def test_what_the_archive_has_not(self):
+        """No run is ordered over an unstable that has something to be dropped after the mail, as the line says."""
+        program = self.file("office-sync", "#!/bin/sh\necho drop app 1 amd64\n")
+        os.chmod(program, 0o755)
         for more in ((), ("--no-order",)):
-            self.assertEqual(self.feed(other, "2025-03-04", *more, status=3),
-                             ([], ["office-feed: the office's unstable has what the archive hasn't: lib1 1 amd64: no "
-                                   "run is ordered before it is dropped"]))
-        self.assertEqual(self.service.kept()["clock"].kept, 1)
-        self.assertEqual(self.feed(FIRST, "2025-03-04")[0][1], "ready 2 finished 2")
+            with unittest.mock.patch.dict(os.environ, OFFICE_SYNC=program):
+                self.assertEqual(self.feed(FIRST, "2025-03-04", *more, status=3),
+                                 ([], ["office-feed: the office's unstable has what the archive hasn't: app 1 amd64: "
+                                       "no run is ordered before it is dropped"]))
+        self.assertEqual(self.service.kept()["clock"].kept, 0)
 
     def test_refusals(self):
         self.feed(FIRST, "2025-03-03", "--no-order")

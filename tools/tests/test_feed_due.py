@@ -4,7 +4,7 @@ import unittest
 from helpers import SYNC
 from office_tools import reports
 from office_tools.faults import Fault
-from office_tools.feed.due import lists_of
+from office_tools.feed.due import Due as Lines, lists_of
 from office_tools.from_packages.binaries import Binary
 
 
@@ -39,8 +39,9 @@ class Due(unittest.TestCase):
     def test_what_is_due(self):
         lists = lists_of(told("app 1 amd64 app", "doc 1 all doc", "low 2 amd64 low", app="1"), {"app": "2"},
                          [binary("app", "1:0"), binary("low", "1"), binary("back", "1")], {("back", "amd64"): "1"})
-        self.assertEqual(lists.due(), {"tell": ["app 1:0 amd64", "app 2 source"],
-                                       "drop": ["doc 1 all", "low 2 amd64"], "left": ["back 1 amd64", "low 1 amd64"]})
+        self.assertEqual(lists.due(), Lines({("app", "amd64"): "1:0", ("app", "source"): "2"},
+                                            {("doc", "all"): "1", ("low", "amd64"): "2"},
+                                            {("back", "amd64"): "1", ("low", "amd64"): "1"}))
 
     def test_refusals(self):
         rows = [f"p{number} 1 amd64 p" for number in range(7)]

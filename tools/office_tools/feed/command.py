@@ -12,6 +12,7 @@ from office_tools.bags import framed
 from office_tools.faults import Exit, Fault
 from office_tools.feed import archive, brakes, due, mailbox, restoring
 from office_tools.feed.indexes import Indexes, indexes_in
+from office_tools.feed.known import Known
 from office_tools.feed.mailbox import Mailbox, Outgoing
 from office_tools.feed.memory import ChangesRead, Memory, remembered
 from office_tools.feed.news import BUILDS, HINTS, UPLOADS, News, Told, Unstable, Ways, news
@@ -140,7 +141,7 @@ class Turn:
         feed = self.feed(unstable)
         if not asked.dry_run:
             feed.settle()
-        told = Told(self.service.testing(), self.service.hints())
+        told = Told(self.service.testing(), self.service.hints(), self.lists(unstable, feed.box.known).due())
         ways = Ways(self.day.isoformat(), self.arrivals(feed), asked.rebuilds, asked.smooth,
                     asked.back)
         found, gone = news(unstable, feed.box, told, ways)
@@ -156,6 +157,10 @@ class Turn:
         Memory(self.lines.left(), {**self.memory.releases, **brakes.remembered_releases(files.releases)},
                self.changes.now).write(self.folder)
         return int(self.lines.is_standing)
+
+    def lists(self, unstable: Unstable, known: Known) -> due.Lists:
+        """The lists of the office's unstable, over all mail, and of the archive."""
+        return due.lists_of(self.service.unstable(), unstable.sources, unstable.binaries, known.dropped)
 
     def feed(self, unstable: Unstable) -> Feed:
         """The office, with all mail that it keeps, once nothing keeps this feed from being sent."""
@@ -182,8 +187,7 @@ class Turn:
         """Sends what is new, and orders the runs, unless unstable then has a package that the archive hasn't."""
         asked = self.asked
         sent = feed.sending.send(found.texts)
-        known = mailbox.fetch(self.service, self.folder).known
-        due.lists_of(self.service.unstable(), unstable.sources, unstable.binaries, known.dropped).check()
+        self.lists(unstable, mailbox.fetch(self.service, self.folder).known).check()
         is_settled = feed.ordered(self.day, asked.order, found, sent)
         if is_settled and asked.propose:
             feed.propose(self.day, asked.order)

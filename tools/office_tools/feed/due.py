@@ -3,7 +3,7 @@
 It is proved that after the mail of what is due each package that unstable has is in the index at that version.
 """
 from dataclasses import dataclass
-from typing import Mapping, Sequence
+from typing import Iterator, Mapping, Sequence
 
 from office_tools import reports
 from office_tools.apply import marks
@@ -16,6 +16,17 @@ SYNC = Program("office-sync")
 
 
 @dataclass(frozen=True)
+class Due:
+    """What is due to the office: the version of each name and architecture, or `source`, that is to be told or dropped,
+    and of what the archive has and no mail can tell.
+    """
+
+    tells: Mapping[Key, str]
+    drops: Mapping[Key, str]
+    left: Mapping[Key, str]
+
+
+@dataclass(frozen=True)
 class Lists:
     """What the office's unstable has, without marks, what the archive's index has, and up to where packages of which
     unstable has none were dropped: the version of each name and architecture, or `source`.
@@ -25,29 +36,29 @@ class Lists:
     index: Mapping[Key, str]
     dropped: Mapping[Key, str]
 
-    def due(self) -> Mapping[str, Sequence[str]]:
-        """The lines of what is told, dropped and left, without their first words."""
-        found: dict[str, list[str]] = {"tell": [], "drop": [], "left": []}
-        for line in SYNC.lines([lines_of(part) for part in (self.unstable, self.index, self.dropped)],
+    def due(self) -> Due:
+        """What the program says of them."""
+        found: dict[str, dict[Key, str]] = {"tell": {}, "drop": {}, "left": {}}
+        for line in SYNC.lines([list(lines_of(part)) for part in (self.unstable, self.index, self.dropped)],
                                ["--gone", str(MOST)]):
-            kind, _, rest = line.partition(" ")
-            if kind not in found:
+            words = line.split(" ")
+            if len(words) != 4 or words[0] not in found:
                 raise SYNC.fault(f"it prints {line!r}")
-            found[kind].append(rest)
-        return found
+            found[words[0]][words[1], words[3]] = words[2]
+        return Due(found["tell"], found["drop"], found["left"])
 
     def check(self) -> None:
         """Refuses an unstable that has a package which the archive hasn't: no run is to be ordered over it."""
-        strange = self.due()["drop"]
+        strange = list(lines_of(self.due().drops))
         if strange:
             more = f" and {len(strange) - SHOWN} more" if len(strange) > SHOWN else ""
             raise Fault(f"the office's unstable has what the archive hasn't: {', '.join(strange[:SHOWN])}{more}: no "
                         "run is ordered before it is dropped", Exit.REFUSED)
 
 
-def lines_of(versions: Mapping[Key, str]) -> Sequence[str]:
+def lines_of(versions: Mapping[Key, str]) -> Iterator[str]:
     """A list as the program takes it."""
-    return [f"{name} {version} {architecture}" for (name, architecture), version in versions.items()]
+    return (f"{name} {version} {architecture}" for (name, architecture), version in versions.items())
 
 
 def lists_of(told: reports.Unstable, sources: Mapping[str, str], binaries: Sequence[Binary],
