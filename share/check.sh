@@ -5,8 +5,8 @@
 # compares manual page and completions with the program's own help.
 #
 # Usage: share/check.sh [PROGRAM]
-# The environment's OFFICE_PLAN names the built office-plan, if it isn't in crates/office_plan/out. What isn't installed
-# is skipped, and told. Status 0: nothing failed, 1: something did, 2: the words are wrong.
+# The environment's OFFICE_PLAN and OFFICE_SYNC name the built office-plan and office-sync, if they aren't in
+# crates/office_plan/out and crates/office_sync/out. What isn't installed is skipped, and told. Status 0: nothing failed, 1: something did, 2: the words are wrong.
 set -u
 
 if [ $# -gt 1 ]; then
@@ -24,6 +24,12 @@ if [ -x "$plan" ]; then
     export OFFICE_PLAN="$plan"
 else
     plan=/bin/true
+fi
+sync=$(realpath -- "${OFFICE_SYNC:-$share/../crates/office_sync/out/office_sync}")
+if [ -x "$sync" ]; then
+    export OFFICE_SYNC="$sync"
+else
+    sync=/bin/true
 fi
 work=$(mktemp -d)
 trap 'rm -rf "$work"' EXIT
@@ -212,8 +218,8 @@ indexes_are_read() {
 }
 
 files_are_installed() {
-    make -s install PROGRAM="${program:-/bin/true}" PLAN="$plan" PREFIX=/usr DESTDIR="$work/root" || return 1
-    for file in bin/office bin/office-plan share/man/man1/office.1 lib/systemd/system/office.service \
+    make -s install PROGRAM="${program:-/bin/true}" PLAN="$plan" SYNC="$sync" PREFIX=/usr DESTDIR="$work/root" || return 1
+    for file in bin/office bin/office-plan bin/office-sync share/man/man1/office.1 lib/systemd/system/office.service \
         lib/systemd/system/office-pages.timer share/bash-completion/completions/office-plan \
         share/office/office_tools/pages/templates/front.html share/bash-completion/completions/office \
         share/zsh/vendor-completions/_office share/doc/office/RULES.md share/doc/office/README.md \
@@ -251,8 +257,8 @@ program_is_missed() {
 
 # With another program than the built one, where that isn't there; the version is made up for this check.
 package_is_made() {
-    OFFICE_PLAN=$plan ./debian/build 0.1.0-1 'Share Check <check@example.org>' "${program:-/bin/true}" "$work" \
-        > "$work/package"
+    OFFICE_PLAN=$plan OFFICE_SYNC=$sync ./debian/build 0.1.0-1 'Share Check <check@example.org>' \
+        "${program:-/bin/true}" "$work" > "$work/package"
 }
 
 package_is_clean() {

@@ -55,6 +55,14 @@ try peers sh "$here/peers/store.sh" --by "$office"
 try trust python3 "$here/trust.py"
 try docs sh "$here/docs.sh" "$office"
 plan=${OFFICE_PLAN:-$here/../crates/office_plan/out/office_plan}
+sync=${OFFICE_SYNC:-$here/../crates/office_sync/out/office_sync}
+if [ -x "$sync" ]; then
+    OFFICE_SYNC=$(realpath "$sync")
+    export OFFICE_SYNC
+    try syncs /usr/bin/python3 "$here/archive/syncs.py" "$sync"
+else
+    echo "not tried: syncs: office-sync isn't built"
+fi
 if [ -x "$plan" ]; then
     OFFICE_PLAN=$(realpath "$plan")
     export OFFICE_PLAN
@@ -87,14 +95,14 @@ try again python3 "$here/rows/opened_again.py" "$office" 1001-1200
 try stopped timeout 3600 python3 "$here/stops/stopped.py" "$office" "$step"
 try surroundings timeout 3600 python3 "$here/surroundings/hostile.py" "$office" "$step"
 try refused timeout 36000 python3 "$here/memory/refused.py" "$office" "$step" ${parts:+"$parts"}
-if [ -x "$plan" ] && command -v reprepro > /dev/null && command -v aptly > /dev/null &&
+if [ -x "$plan" ] && [ -x "$sync" ] && command -v reprepro > /dev/null && command -v aptly > /dev/null &&
     command -v dose-debcheck > /dev/null && command -v installcheck > /dev/null &&
     command -v dpkg-buildpackage > /dev/null; then
     try archive "$here/archive/run.sh" "$office"
     try month /usr/bin/python3 "$here/archive/month.py" "$office"
 else
-    echo "not tried: archive, month: office-plan isn't built, or reprepro, aptly, dose-distcheck, libsolv-tools or" \
-        "dpkg-dev isn't installed"
+    echo "not tried: archive, month: office-plan or office-sync isn't built, or reprepro, aptly, dose-distcheck," \
+        "libsolv-tools or dpkg-dev isn't installed"
 fi
 if command -v chromium > /dev/null && /usr/bin/python3 -c 'import selenium, html5lib' 2> /dev/null; then
     try pages "$here/pages/look.py" "$office" "$told/pages-folder"

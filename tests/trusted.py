@@ -31,7 +31,8 @@ from pathlib import Path
 
 USERS = ['deb_version', 'deb_control', 'testing_install', 'testing_rules', 'office_mail', 'office_store',
          'office_core_queries', 'office_core_check', 'office_core_breaks', 'office_http', 'testing_rules_refusals',
-         'office_cli_words', 'office_cli', 'office', 'archive_plan', 'archive_lists', 'office_plan']
+         'office_cli_words', 'office_cli', 'office', 'archive_plan', 'archive_lists', 'archive_cli', 'office_plan',
+         'office_sync']
 INNER = {('office_core_replay', 'settle_behind')}
 # What is claimed of the first commands and routes, each with the calls and laws whose contracts say it: CRATE::CALL,
 # CRATE::TYPE::METHOD, `crate` alone for all of a crate's calls, and after a @ the only clause that is meant.
@@ -76,7 +77,7 @@ LATER = [
         'testing_rules_refusals::no_group_frees', 'office_core::Office::propose', 'office_core_laws::stuck_stays']),
     ('whole stores, bags of kept mail, lists', [
         'office_core_check', 'office_core_queries', 'office_core_laws::order_is_taken']),
-    ('plans of a suite', ['archive_plan', 'archive_lists']),
+    ('plans of a suite, and what is due to an office', ['archive_plan', 'archive_lists']),
     ('what a run moves', ['office_core_laws::moves_only_what_is_there']),
 ]
 # What the row of other calls claims of private functions of the commands.

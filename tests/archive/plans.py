@@ -59,17 +59,21 @@ def due(testing: Suite, suite: Suite, origin: Suite, gone: int, back: bool) -> t
         ["remove " + line for line in lines(dict(sorted(go.items())))]
 
 
-def planned(program: str, folder: str, suites: Sequence[Sequence[str]], gone: int,
-            back: bool) -> tuple[int, list[str]]:
-    """What the program prints, and its status."""
+def answered(program: str, folder: str, suites: Sequence[Sequence[str]], words: Sequence[str]) -> tuple[int, list[str]]:
+    """What a program prints of three lists, and its status."""
     paths = []
-    for name, suite in zip(("testing", "suite", "from"), suites):
+    for name, suite in zip(("first", "second", "third"), suites):
         paths.append(os.path.join(folder, name))
         with open(paths[-1], "w", encoding="utf-8") as file:
             file.write("".join(line + "\n" for line in suite))
-    ran = subprocess.run([program, *paths, "--gone", str(gone), *(["--back"] if back else [])], capture_output=True,
-                         text=True, timeout=60, check=False)
+    ran = subprocess.run([program, *paths, *words], capture_output=True, text=True, timeout=60, check=False)
     return ran.returncode, ran.stdout.splitlines()
+
+
+def planned(program: str, folder: str, suites: Sequence[Sequence[str]], gone: int,
+            back: bool) -> tuple[int, list[str]]:
+    """The status of a plan, and its lines."""
+    return answered(program, folder, suites, ["--gone", str(gone), *(["--back"] if back else [])])
 
 
 def main() -> None:
@@ -101,4 +105,5 @@ def main() -> None:
     sys.exit(1 if faults else 0)
 
 
-main()
+if __name__ == "__main__":
+    main()

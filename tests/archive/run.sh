@@ -4,11 +4,12 @@
 #
 # Usage: tests/archive/run.sh OFFICE [planted]
 #
-# OFFICE is the built program. The environment's OFFICE_PLAN names the built office-plan, if it isn't in
-# crates/office_plan/out. What lacks of Debian's packages is installed first, where this is run by root. Four parts run
-# at once: all days over reprepro and over aptly (loop.py), ends by force (kills.py), and adoption, looks before orders
-# and days of office-day (ways.py). With `planted` the tests are tested instead, by commands that have a fault
-# (planted.py). The exit status is 0 if all is as it is due, 1 if something isn't, 2 if the words or the tools are wrong.
+# OFFICE is the built program. The environment's OFFICE_PLAN and OFFICE_SYNC name the built office-plan and office-sync, if
+# they aren't in crates/office_plan/out and crates/office_sync/out. What lacks of Debian's packages is installed first,
+# where this is run by root. Four parts run at once: all days over reprepro and over aptly (loop.py), ends by force
+# (kills.py), and adoption, looks before orders and days of office-day (ways.py). With `planted` the tests are tested
+# instead, by commands that have a fault (planted.py). The exit status is 0 if all is as it is due, 1 if something isn't, 2
+# if the words or the tools are wrong.
 set -u
 if [ $# -lt 1 ] || [ $# -gt 2 ] || [ ! -x "$1" ] || [ "${2:-planted}" != planted ]; then
     echo "usage: $0 OFFICE [planted]" >&2
@@ -18,11 +19,14 @@ here=$(cd "$(dirname "$0")" && pwd)
 office=$(cd "$(dirname "$1")" && pwd)/$(basename "$1")
 export PYTHONDONTWRITEBYTECODE=1
 OFFICE_PLAN=${OFFICE_PLAN:-$here/../../crates/office_plan/out/office_plan}
-export OFFICE_PLAN
-if [ ! -x "$OFFICE_PLAN" ]; then
-    echo "$0: there is no program $OFFICE_PLAN" >&2
-    exit 2
-fi
+OFFICE_SYNC=${OFFICE_SYNC:-$here/../../crates/office_sync/out/office_sync}
+export OFFICE_PLAN OFFICE_SYNC
+for program in "$OFFICE_PLAN" "$OFFICE_SYNC"; do
+    if [ ! -x "$program" ]; then
+        echo "$0: there is no program $program" >&2
+        exit 2
+    fi
+done
 
 # COMMAND and the package that has it
 lacking=

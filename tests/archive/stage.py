@@ -20,6 +20,7 @@ from packages import BOTH, Upload, build  # noqa: E402
 
 COMMANDS = os.path.join(TOP, "tools/bin")
 os.environ.setdefault("OFFICE_PLAN", os.path.join(TOP, "crates/office_plan/out/office_plan"))
+os.environ.setdefault("OFFICE_SYNC", os.path.join(TOP, "crates/office_sync/out/office_sync"))
 SETUP = os.path.join(HERE, "setup.conf")
 
 

@@ -1,7 +1,7 @@
 """What the tests share. It puts the package into the path, so each test imports it first.
 
-The environment's OFFICE names the built program, OFFICE_PLAN the built office-plan, else the one that this checkout or
-PATH has. What needs a program that isn't there is skipped.
+The environment's OFFICE names the built program, OFFICE_PLAN and OFFICE_SYNC the two over lists, else those that this
+checkout or PATH has. What needs a program that isn't there is skipped.
 """
 import contextlib
 import io
@@ -18,19 +18,28 @@ TOP = os.path.dirname(TOOLS)
 EXAMPLES = os.path.join(TOP, "examples")
 SETUP = os.path.join(EXAMPLES, "setup.conf")
 OFFICE = os.path.realpath(os.environ["OFFICE"]) if os.environ.get("OFFICE") else ""
-BUILT_PLAN = os.path.join(TOP, "crates/office_plan/out/office_plan")
-PLAN = shutil.which(os.environ.get("OFFICE_PLAN") or BUILT_PLAN) or shutil.which("office-plan") or ""
+
+
+def built(variable: str, name: str) -> str:
+    """A program over lists; an empty text if there is none. The commands find it by the environment, too."""
+    own = os.path.join(TOP, "crates", name.replace("-", "_"), "out", name.replace("-", "_"))
+    found = shutil.which(os.environ.get(variable) or own) or shutil.which(name) or ""
+    if found:
+        os.environ[variable] = os.path.realpath(found)
+    return found
+
+
+PLAN, SYNC = built("OFFICE_PLAN", "office-plan"), built("OFFICE_SYNC", "office-sync")
 
 sys.path[:0] = [TOOLS, os.path.join(TOP, "tests")]
 if OFFICE:
     os.environ["OFFICE"] = OFFICE  # some tests change the folder
-if PLAN:
-    os.environ["OFFICE_PLAN"] = os.path.realpath(PLAN)
 
 import serving  # noqa: E402
 
 needs_office = unittest.skipUnless(OFFICE, "OFFICE names no built program")
 needs_plan = unittest.skipUnless(PLAN, "OFFICE_PLAN names no built office-plan, and none is built")
+needs_sync = unittest.skipUnless(OFFICE and SYNC, "OFFICE or OFFICE_SYNC names no built program, and none is built")
 
 
 def example(name: str) -> bytes:

@@ -6,7 +6,7 @@ import tempfile
 import unittest
 from unittest import mock
 
-from helpers import SETUP, Serving, needs_office, tool
+from helpers import SETUP, Serving, needs_sync, tool
 from office_tools import bags, messages
 from office_tools.feed import mailbox
 from office_tools.feed.mailbox import Outgoing
@@ -99,7 +99,7 @@ class Feeding(Folder):
         return next(paragraphs(self.service.kept_text("rt", number) or b""))
 
 
-@needs_office
+@needs_sync
 class Feeds(Feeding):
 
     def test_days(self):
@@ -168,6 +168,27 @@ class Feeds(Feeding):
         printed, told = self.feed(FIRST, "2025-03-03", status=1)
         self.assertEqual(printed[0], "uploads 2, drops 0, builds 2, hints 0, unhints 0, orders 0")
         self.assertEqual(told, ["office-feed: run 1 waits for bts 1 of 1"])
+
+    def test_other_bytes(self):
+        """The archive has the same version in other bytes: that is sent under a made-up version."""
+        self.feed(FIRST, "2025-03-03")
+        other = FIRST.replace("Source: lib\nVersion: 1\nArchitecture: amd64", "Source: lib\nVersion: 0:1\n"
+                              "Architecture: amd64")
+        printed, told = self.feed(other, "2025-03-04", status=1)
+        self.assertEqual(printed[0], "uploads 0, drops 0, builds 1, hints 0, unhints 0, orders 1")
+        self.assertEqual(told, ["office-feed: lib1 amd64 0:1: it is back below 1, which was sent: sent as "
+                                "1+back1.0+c1"])
+
+    def test_what_the_archive_has_not(self):
+        """No run is ordered over an unstable that has something to be dropped after the mail, as the line says."""
+        program = self.file("office-sync", "#!/bin/sh\necho drop app 1 amd64\n")
+        os.chmod(program, 0o755)
+        self.feed(FIRST, "2025-03-03")
+        with mock.patch.dict(os.environ, OFFICE_SYNC=program):
+            self.assertEqual(self.feed(FIRST, "2025-03-04", status=3),
+                             ([], ["office-feed: the office's unstable has what the archive hasn't: app 1 amd64: no "
+                                   "run is ordered before it is dropped"]))
+        self.assertEqual(self.service.kept()["clock"].kept, 1)
 
     def test_refusals(self):
         self.feed(FIRST, "2025-03-03", "--no-order")
@@ -243,7 +264,7 @@ class Replaced(unittest.TestCase):
         self.assertIsNone(self.replaced(["2_1 high sid", "3 low sid"]))
 
 
-@needs_office
+@needs_sync
 class Replacing(Feeding):
 
     def changes(self, version, urgency, distribution="unstable", architecture="source"):
@@ -277,7 +298,7 @@ KNOT = "".join(package(name, "1", depends=other, architecture=arch) for arch in 
                for name, other in (("one", "two"), ("two", "one")))
 
 
-@needs_office
+@needs_sync
 class Proposing(Feeding):
     """Groups that the office proposes: mailed with an order, or written down; and taken back once they have moved."""
 
@@ -358,7 +379,7 @@ Role: runs
 """
 
 
-@needs_office
+@needs_sync
 class Rebuilding(Folder):
     """A rebuild is sent under a version of its own: by the spare senders, and then under made-up versions."""
 

@@ -1,7 +1,7 @@
 """What the archive withdrew, and what came back: nothing moves that the archive hasn't, and all else can."""
 import unittest
 
-from helpers import needs_office, tool
+from helpers import needs_sync, tool
 from office_tools import versions
 from office_tools.apply import marks
 from test_feed import CHANGES, Feeding, package
@@ -25,7 +25,7 @@ class Marks(unittest.TestCase):
             self.assertGreater(versions.compare(later, marks.back("0.4-1", "0.3-3")), 0)
 
 
-@needs_office
+@needs_sync
 class Withdrawn(Feeding):
     """An upload that unstable has no more."""
 
@@ -129,7 +129,7 @@ class Withdrawn(Feeding):
                          "uploads 0, drops 0, builds 0, hints 0, unhints 0, orders 0")
 
 
-@needs_office
+@needs_sync
 class CameBack(Feeding):
     """A slip of the archive took everything out, and everything is back."""
 

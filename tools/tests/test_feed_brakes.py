@@ -4,7 +4,7 @@ import os
 import unittest
 from unittest import mock
 
-from helpers import SETUP, Serving, needs_office, tool
+from helpers import SETUP, Serving, needs_sync, tool
 from office_tools import bags, messages
 from office_tools.faults import Fault
 from office_tools.feed import brakes
@@ -27,7 +27,7 @@ def on_both(name, version, **more):
     return "".join(package(name, version, architecture=architecture, **more) for architecture in BOTH)
 
 
-@needs_office
+@needs_sync
 class Gone(Feeding):
     """Drops of many packages, or of one that others need, are refused unless their number is allowed."""
 
@@ -86,7 +86,7 @@ class Releases(unittest.TestCase):
                 brakes.check_day(None, day, last)
 
 
-@needs_office
+@needs_sync
 class Offices(Feeding):
     """A gap, a day by the clock, and an office that isn't the one that the folder knows."""
 
@@ -157,7 +157,7 @@ class Offices(Feeding):
             self.assertEqual(file.read(), "no bag")
 
 
-@needs_office
+@needs_sync
 class Refused(Feeding):
     """What the office refuses is left out, and all else is sent under numbers without a gap."""
 
@@ -182,7 +182,7 @@ class Refused(Feeding):
         self.assertFalse(os.path.exists(self.path("outgoing")))
 
 
-@needs_office
+@needs_sync
 class Standing(Feeding):
     """What doesn't move gives status 1 each day, with its days; a note only on its first."""
 

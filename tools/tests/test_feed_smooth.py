@@ -1,7 +1,7 @@
 """Old packages that stay next to newer ones of their source (--smooth), as docs/ARCHIVE.md says."""
 import unittest
 
-from helpers import Serving, needs_office
+from helpers import Serving, needs_sync
 from office_tools.service import Service
 from test_feed import CHANGES, SPARE_SETUP, Feeding
 from test_feed_brakes import on_both
@@ -12,7 +12,7 @@ NEW = on_both("libfoo3", "2", source="libfoo") + on_both("libfoo-bin", "2", sour
 APP, NEXT_APP = on_both("app", "1", depends="libfoo2"), on_both("app", "2", depends="libfoo3")
 
 
-@needs_office
+@needs_sync
 class Smooth(Feeding):
 
     def start(self):

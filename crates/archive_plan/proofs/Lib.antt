@@ -1,2 +1,3 @@
 pub mod MergeFacts
 pub mod PlanFacts
+pub mod SyncFacts

@@ -20,8 +20,8 @@ use Rattle.archive_plan.specs.declared.items.Relation.TheVariants.{Whole, Lower}
 use Rattle.archive_plan.specs.declared.plan.Plan.{Plan}
 use Rattle.archive_plan.specs.declared.plan.PlanFault.{PlanFault}
 use Rattle.archive_plan.specs.declared.plan.PlanFault.TheVariants.{Lacks, Backward, TooMany, NoMemory}
-use Rattle.archive_plan.specs.Items.{key_cmp, AreInOrder, relates, meets, picked_from, lacking}
-use Rattle.archive_plan.specs.Plan.{AreOfOneKey, leaving, lower, IsPlan, IsLack, IsStep, IsCrowd, IsFault, RefusesAll}
+use Rattle.archive_plan.specs.Items.{AreOfOneKey, key_cmp, AreInOrder, relates, meets, picked_from, lacking}
+use Rattle.archive_plan.specs.Plan.{leaving, lower, IsPlan, IsLack, IsStep, IsCrowd, IsFault, RefusesAll}
 use Rattle.archive_plan.proofs.MergeFacts.{key_order}
 
 -- those that are picked stay in order
@@ -29,13 +29,13 @@ pub order_picked : (r : Relation) (w : Bool) (xs ys : List Item) → AreInOrder 
 order_picked r w xs ys order = AllPairs-filter (λ x y. key_cmp x y ≡ Less) (λ x. cond (meets r ys x) w (not w)) xs order
 
 -- 1. A filter's elements.
-head_of : {A : Type 0} (x : A) (xs : List A) → Contains (x ∷ xs) x
+pub head_of : {A : Type 0} (x : A) (xs : List A) → Contains (x ∷ xs) x
 head_of x xs = Contains-append_left (x ∷ []) xs x (Contains-push [] x)
 
 tail_of : {A : Type 0} (x : A) (xs : List A) (y : A) → Contains xs y → Contains (x ∷ xs) y
 tail_of x xs y c = Contains-append_right (x ∷ []) xs y c
 
-none_of : {A : Type 0} (xs : List A) (x : A) → xs ≡ [] → Contains xs x → ⊥
+pub none_of : {A : Type 0} (xs : List A) (x : A) → xs ≡ [] → Contains xs x → ⊥
 none_of xs x none c = let n : c.0 < length xs = c.1 in let m : length xs ≡ 0 = ap length none in omega (arith, n, m)
 
 kept_head : {A : Type 0} (b : Bool) (x : A) (xs : List A) → b ≡ true → Contains (cond b (x ∷ xs) xs) x
@@ -51,21 +51,21 @@ keeps p [] = All-nil (λ z. p z ≡ true → Contains (filter p []) z)
 keeps p (x ∷ xs) = All-cons (λ z. p z ≡ true → Contains (filter p (x ∷ xs)) z) x xs (λ h. kept_head (p x) x (filter p xs) h)
     (All-weaker (λ z. p z ≡ true → Contains (filter p xs) z) (λ z. p z ≡ true → Contains (filter p (x ∷ xs)) z) (λ z f h. kept_tail (p x) x (filter p xs) z (f h)) xs (keeps p xs))
 
-filter_has : {A : Type 0} (p : A → Bool) (xs : List A) (x : A) → Contains xs x → p x ≡ true → Contains (filter p xs) x
+pub filter_has : {A : Type 0} (p : A → Bool) (xs : List A) (x : A) → Contains xs x → p x ≡ true → Contains (filter p xs) x
 filter_has p xs x c h = All-contains (λ z. p z ≡ true → Contains (filter p xs) z) xs x (keeps p xs) c h
 
-filter_of : {A : Type 0} (p : A → Bool) (xs : List A) (x : A) → Contains (filter p xs) x → Contains xs x
+pub filter_of : {A : Type 0} (p : A → Bool) (xs : List A) (x : A) → Contains (filter p xs) x → Contains xs x
 filter_of p xs x c = All-contains (Contains xs) (filter p xs) x (All-filter p (Contains xs) xs (All-contains_itself xs)) c
 
-filter_test : {A : Type 0} (p : A → Bool) (xs : List A) (x : A) → Contains (filter p xs) x → p x ≡ true
+pub filter_test : {A : Type 0} (p : A → Bool) (xs : List A) (x : A) → Contains (filter p xs) x → p x ≡ true
 filter_test p xs x c = All-contains (λ z. p z ≡ true) (filter p xs) x (filter_passes p xs) c
 
 -- 2. Items that are the same.
-both : (a b : Bool) → (a && b) ≡ true → (a ≡ true) × (b ≡ true)
+pub both : (a b : Bool) → (a && b) ≡ true → (a ≡ true) × (b ≡ true)
 both true b h = (refl, h)
 both false b h = cc
 
-is_equal : (o : Ordering) → is_eq o ≡ true → o ≡ Equal
+pub is_equal : (o : Ordering) → is_eq o ≡ true → o ≡ Equal
 is_equal Less h = cc
 is_equal Equal h = refl
 is_equal Greater h = cc
@@ -73,12 +73,12 @@ is_equal Greater h = cc
 abbrev made : List ℕ → List ℕ → List ℕ → Item
 made k n v = record { architecture = k; name = n; version = v }
 
-one_key : (x y : Item) → key_cmp x y ≡ Equal → AreOfOneKey x y
+pub one_key : (x y : Item) → key_cmp x y ≡ Equal → AreOfOneKey x y
 one_key x y h =
     let e : (x.architecture, x.name) ≡ (y.architecture, y.name) = exact_pairs (slice_cmp nat_cmp) (slice_cmp nat_cmp) exact_bytes exact_bytes (x.architecture, x.name) (y.architecture, y.name) h in
     (ap (λ (p : List ℕ × List ℕ). p.0) e, ap (λ (p : List ℕ × List ℕ). p.1) e)
 
-key_equal : (x y : Item) → AreOfOneKey x y → key_cmp x y ≡ Equal
+pub key_equal : (x y : Item) → AreOfOneKey x y → key_cmp x y ≡ Equal
 key_equal x y h =
     ap (λ k. key_cmp x (made k y.name y.version)) (sym h.0)
     ∙ ap (λ n. key_cmp x (made x.architecture n y.version)) (sym h.1)
@@ -107,7 +107,7 @@ is_met : (ys : List Item) (x : Item) → Contains ys x → meets Whole ys x ≡ 
 unfolding meets
 is_met ys x c = list_any-from_Any (relates Whole x) ys (c.0, x, c.1, c.2, item_same x)
 
-has_or_not : (b : Bool) (ys : List Item) (x : Item) → meets Whole ys x ≡ b → Contains ys x ⊎ (Contains ys x → ⊥)
+pub has_or_not : (b : Bool) (ys : List Item) (x : Item) → meets Whole ys x ≡ b → Contains ys x ⊎ (Contains ys x → ⊥)
 has_or_not true ys x h = inl (has ys x h)
 has_or_not false ys x h = inr (λ c. let n : false ≡ true = sym h ∙ is_met ys x c in cc)
 
@@ -115,17 +115,17 @@ met_not : (b : Bool) (ys : List Item) (x : Item) → meets Whole ys x ≡ b → 
 met_not true ys x h other = absurd (other (has ys x h))
 met_not false ys x h other = refl
 
-not_met : (b : Bool) → cond b false true ≡ true → b ≡ true → ⊥
+pub not_met : (b : Bool) → cond b false true ≡ true → b ≡ true → ⊥
 not_met true h k = cc
 not_met false h k = cc
 
-lacking_of : (xs ys : List Item) (x : Item) → Contains (lacking xs ys) x → Contains xs x
+pub lacking_of : (xs ys : List Item) (x : Item) → Contains (lacking xs ys) x → Contains xs x
 lacking_of xs ys x c = filter_of (λ z. cond (meets Whole ys z) false true) xs x c
 
-lacking_not : (xs ys : List Item) (x : Item) → Contains (lacking xs ys) x → Contains ys x → ⊥
+pub lacking_not : (xs ys : List Item) (x : Item) → Contains (lacking xs ys) x → Contains ys x → ⊥
 lacking_not xs ys x c d = not_met (meets Whole ys x) (filter_test (λ z. cond (meets Whole ys z) false true) xs x c) (is_met ys x d)
 
-lacking_has : (xs ys : List Item) (x : Item) → Contains xs x → (Contains ys x → ⊥) → Contains (lacking xs ys) x
+pub lacking_has : (xs ys : List Item) (x : Item) → Contains xs x → (Contains ys x → ⊥) → Contains (lacking xs ys) x
 lacking_has xs ys x c other = filter_has (λ z. cond (meets Whole ys z) false true) xs x c (met_not (meets Whole ys x) ys x refl other)
 
 nothing_lacks : (xs ys : List Item) (x : Item) → lacking xs ys ≡ [] → Contains xs x → Contains ys x
@@ -232,7 +232,7 @@ step_refuses testing suite from gone back (Backward items) h other plan is =
 step_refuses testing suite from gone back (TooMany count) h other plan is = absurd h
 step_refuses testing suite from gone back NoMemory h other plan is = absurd (other refl)
 
-crowd_refuses : (testing suite from : List Item) (gone : ℕ) (back : Bool) (fault : PlanFault) → IsCrowd testing suite gone fault → RefusesAll testing suite from gone back fault
+crowd_refuses : (testing suite from : List Item) (gone : ℕ) (back : Bool) (fault : PlanFault) → IsCrowd (length (leaving testing suite)) gone fault → RefusesAll testing suite from gone back fault
 crowd_refuses testing suite from gone back (Lacks items) h other plan is = absurd h
 crowd_refuses testing suite from gone back (Backward items) h other plan is = absurd h
 crowd_refuses testing suite from gone back (TooMany count) h other plan is = let few = is.brake in let many = h.1 in let same = h.0 in absurd (omega (arith, few, many, same))
@@ -247,7 +247,7 @@ fault_refuses testing suite from gone back fault h = elim h [
   ]
 ]
 
-empty_from_none : {A : Type 0} (xs : List A) → ((x : A) → Contains xs x → ⊥) → xs ≡ []
+pub empty_from_none : {A : Type 0} (xs : List A) → ((x : A) → Contains xs x → ⊥) → xs ≡ []
 empty_from_none [] h = refl
 empty_from_none (x ∷ xs) h = absurd (h x (head_of x xs))
 

@@ -4,12 +4,16 @@ use Rattle.std.specs.List.{AllPairs, list_any}
 use Rattle.std.specs.Str.{bytes_eq}
 use Rattle.std.specs.declared.cmp.Ordering.{Ordering}
 use Rattle.std.specs.declared.cmp.Ordering.TheVariants.{Less}
-use Rattle.std.specs.Ordering.{ordering_then, nat_cmp, is_eq, is_lt}
+use Rattle.std.specs.Ordering.{ordering_then, nat_cmp, is_eq, is_lt, is_gt}
 use Rattle.std.specs.Cmp.Lexicographic.{slice_cmp}
 use Rattle.deb_version.specs.Order.{version_cmp}
 use Rattle.archive_plan.specs.declared.items.Item.{Item}
 use Rattle.archive_plan.specs.declared.items.Relation.{Relation}
-use Rattle.archive_plan.specs.declared.items.Relation.TheVariants.{Key, Whole, Lower}
+use Rattle.archive_plan.specs.declared.items.Relation.TheVariants.{Key, Whole, Lower, AtMost}
+
+-- the items have one architecture and one name, or are one source
+abbrev pub AreOfOneKey : Item → Item → Type 0
+AreOfOneKey x y = (x.architecture ≡ y.architecture) × (x.name ≡ y.name)
 
 -- the order of two items by architecture, and then by name, byte for byte; this office decides it
 abbrev pub key_cmp : Item → Item → Ordering
@@ -24,6 +28,7 @@ abbrev pub fits : Relation → Item → Item → Bool
 fits Key x y = true
 fits Whole x y = bytes_eq x.version y.version
 fits Lower x y = is_lt (version_cmp x.version y.version)
+fits AtMost x y = not (is_gt (version_cmp x.version y.version))
 
 -- whether the items have one key, and stand so to each other
 abbrev pub relates : Relation → Item → Item → Bool

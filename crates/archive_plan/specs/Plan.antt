@@ -7,15 +7,11 @@ use Rattle.archive_plan.specs.declared.items.Relation.TheVariants.{Key, Lower}
 use Rattle.archive_plan.specs.declared.plan.Plan.{Plan}
 use Rattle.archive_plan.specs.declared.plan.PlanFault.{PlanFault}
 use Rattle.archive_plan.specs.declared.plan.PlanFault.TheVariants.{Lacks, Backward, TooMany, NoMemory}
-use Rattle.archive_plan.specs.Items.{picked_from, lacking}
+use Rattle.archive_plan.specs.Items.{AreOfOneKey, picked_from, lacking}
 
 -- what the suite has after a plan: what it had and what was copied, less what was removed
 abbrev pub HasAfter : Plan → List Item → Item → Type 0
 HasAfter plan suite x = (Contains suite x ⊎ Contains plan.copies.items x) × (Contains plan.removals.items x → ⊥)
-
--- the items have one architecture and one name, or are one source
-abbrev pub AreOfOneKey : Item → Item → Type 0
-AreOfOneKey x y = (x.architecture ≡ y.architecture) × (x.name ≡ y.name)
 
 -- what leaves the suite for good: testing has no version of it
 abbrev pub leaving : List Item → List Item → List Item
@@ -53,18 +49,18 @@ IsStep copies suite back (TooMany count) = ⊥
 IsStep copies suite back NoMemory = ⊤
 
 -- the fault says how many would leave, which is more than may
-abbrev pub IsCrowd : List Item → List Item → ℕ → PlanFault → Type 0
-IsCrowd testing suite gone (Lacks items) = ⊥
-IsCrowd testing suite gone (Backward items) = ⊥
-IsCrowd testing suite gone (TooMany count) = (count ≡ length (leaving testing suite)) × (gone < count)
-IsCrowd testing suite gone NoMemory = ⊤
+abbrev pub IsCrowd : ℕ → ℕ → PlanFault → Type 0
+IsCrowd leave gone (Lacks items) = ⊥
+IsCrowd leave gone (Backward items) = ⊥
+IsCrowd leave gone (TooMany count) = (count ≡ leave) × (gone < count)
+IsCrowd leave gone NoMemory = ⊤
 
 -- the first fault that applies: what can't be copied, what would go to a lower version, how many would leave
 abbrev pub IsFault : List Item → List Item → List Item → ℕ → Bool → PlanFault → Type 0
 IsFault testing suite from gone back fault =
     IsLack (lacking testing suite) from fault
     ⊎ ((lacking (lacking testing suite) from ≡ []) × IsStep (lacking testing suite) suite back fault)
-    ⊎ ((lacking (lacking testing suite) from ≡ []) × (back ≡ false → lower (lacking testing suite) suite ≡ []) × IsCrowd testing suite gone fault)
+    ⊎ ((lacking (lacking testing suite) from ≡ []) × (back ≡ false → lower (lacking testing suite) suite ≡ []) × IsCrowd (length (leaving testing suite)) gone fault)
 
 -- if memory didn't run out, there is no plan at all
 abbrev pub RefusesAll : List Item → List Item → List Item → ℕ → Bool → PlanFault → Type 0

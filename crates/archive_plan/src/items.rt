@@ -31,6 +31,9 @@ pub enum Relation {
 
     /// The first has the lower version (Debian Policy 5.6.12).
     Lower,
+
+    /// The first has no higher version (Debian Policy 5.6.12).
+    AtMost,
 }
 
 impl Item {
@@ -68,5 +71,6 @@ pub fn is_fit(relation: Relation, x: &Item, y: &Item) -> bool
         Relation::Key => true,
         Relation::Whole => x.version.text() == y.version.text(),
         Relation::Lower => x.version.order(&y.version) == Ordering::Less,
+        Relation::AtMost => x.version.order(&y.version) != Ordering::Greater,
     }
 }

@@ -77,20 +77,28 @@ fn check_back(alloc: Global, copies: &[Item], suite: &[Item], back: bool) -> Res
     }
 }
 
-/// Refuses that more items leave the suite than may.
-fn check_gone(alloc: Global, testing: &[Item], suite: &[Item], gone: usize) -> Result<(), PlanFault>
-    requires testing { AreInOrder testing.now }
-    requires suite { AreInOrder suite.now }
-    ensures gone { IfOk result (λ _. length (leaving testing.now suite.now) ≤ gone) }
-    ensures fault { IfErr result (λ fault. IsCrowd testing.now suite.now gone fault) }
+/// Refuses that more items leave than may.
+pub fn check_few(leave: &[Item], gone: usize) -> Result<(), PlanFault>
+    ensures few { IfOk result (λ _. length leave.now ≤ gone) }
+    ensures fault { IfErr result (λ fault. IsCrowd (length leave.now) gone fault) }
 {
-    let leave = picked(alloc, Relation::Key, false, suite, testing)?;
     let count = leave.len();
     if count <= gone {
         Ok(())
     } else {
         Err(PlanFault::TooMany(count))
     }
+}
+
+/// Refuses that more items leave the suite than may.
+fn check_gone(alloc: Global, testing: &[Item], suite: &[Item], gone: usize) -> Result<(), PlanFault>
+    requires testing { AreInOrder testing.now }
+    requires suite { AreInOrder suite.now }
+    ensures gone { IfOk result (λ _. length (leaving testing.now suite.now) ≤ gone) }
+    ensures fault { IfErr result (λ fault. IsCrowd (length (leaving testing.now suite.now)) gone fault) }
+{
+    let leave = picked(alloc, Relation::Key, false, suite, testing)?;
+    check_few(&leave, gone)
 }
 
 /// What is to be done to the published `suite`, so that it has exactly what `testing` has. Copies are made of what `from`

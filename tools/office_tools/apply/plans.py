@@ -5,30 +5,17 @@ It is proved that after the plan of three lists the suite has what the target ha
 of their own, whose architecture says which version they are. Where the manager has packages of `all` in each index,
 their architecture says in which.
 """
-import contextlib
-import os
-import re
-import subprocess
 from dataclasses import dataclass
 from typing import Iterable, Iterator, Mapping, Optional, Sequence
 
 from office_tools import versions
 from office_tools.apply.contents import Contents, Item, Source, Target, contents_of
-from office_tools.faults import Exit, Fault, cause_of
+from office_tools.deciding import MOST, SOURCE, Program
 
-SECONDS = 3600
-SOURCE = "source"
-MOST = 1_000_000_000  # that may leave, as office-plan takes it
-
-BAD_LINE = re.compile("line ([0-9]+): ")
+PLAN = Program("office-plan")
 
 Key = tuple[str, str]
 """An architecture, or `source`, and a name."""
-
-
-def program() -> str:
-    """The program's name: `office-plan`, or what the environment's OFFICE_PLAN states."""
-    return os.environ.get("OFFICE_PLAN") or "office-plan"
 
 
 @dataclass(frozen=True)
@@ -130,11 +117,11 @@ def listed(goal: Target, have: Contents, origin: Contents) -> Lists:
 def ask(lists: Lists, gone: int, is_back: bool) -> Answer:
     """What the program says of lists. At most so many may leave, and none goes to a lower version unless allowed."""
     words = ["--gone", str(min(gone + lists.others, MOST)), *(["--back"] if is_back else [])]
-    told = run([list(lists.target), list(lists.suite), list(lists.origin)], words)
+    told = PLAN.lines([list(lists.target), list(lists.suite), list(lists.origin)], words)
     try:
         return answer_of(told, lists)
     except (KeyError, ValueError) as fault:
-        raise Fault(f"{program()}: it prints {fault.args[0]!r}", Exit.FAILED) from fault
+        raise PLAN.fault(f"it prints {fault.args[0]!r}") from fault
 
 
 def answer_of(told: Sequence[str], lists: Lists) -> Answer:
@@ -151,36 +138,6 @@ def answer_of(told: Sequence[str], lists: Lists) -> Answer:
                   sum(int(count) - lists.others for count in found["leaving"]))
 
 
-def run(lists: Sequence[Sequence[str]], words: Sequence[str]) -> Sequence[str]:
-    """The lines of a plan, or those that say why there is none. The lists are files in memory: none is left behind."""
-    with contextlib.ExitStack() as stack:
-        files = [stack.enter_context(open(os.memfd_create("list"), "wb")) for _ in lists]
-        for file, lines in zip(files, lists):
-            file.write("".join(f"{line}\n" for line in lines).encode())
-            file.flush()
-        numbers = [file.fileno() for file in files]
-        paths = [f"/proc/self/fd/{number}" for number in numbers]
-        try:
-            ran = subprocess.run([program(), *paths, *words], stdin=subprocess.DEVNULL, capture_output=True,
-                                 timeout=SECONDS, check=False, pass_fds=numbers)
-        except (OSError, subprocess.TimeoutExpired) as fault:
-            raise Fault(f"{program()}: {cause_of(fault)}", Exit.FAILED) from fault
-    if ran.returncode == 0 or (ran.returncode == Exit.REFUSED and ran.stdout):
-        return ran.stdout.decode().split("\n")[:-1]
-    told = ran.stderr.decode(errors="backslashreplace").strip().split("\n")[-1] or f"status {ran.returncode}"
-    cause = cause_in(told.removeprefix("office-plan: "), paths, lists)
-    raise Fault(f"{program()}: {cause}", Exit.REFUSED if ran.returncode == Exit.REFUSED else Exit.FAILED)
-
-
-def cause_in(told: str, paths: Sequence[str], lists: Sequence[Sequence[str]]) -> str:
-    """What the program says of a file, with the line in place of its number."""
-    path, _, cause = told.partition(": ")
-    found = BAD_LINE.match(cause)
-    if path not in paths:
-        return told
-    return f"{lists[paths.index(path)][int(found[1]) - 1]!r}: {cause[found.end():]}" if found else cause
-
-
 def lacking(goal: Target, have: Contents, origin: Contents) -> Contents:
     """What is missing in a suite and can't be copied."""
     return ask(listed(goal, have, origin), MOST, True).lacks
@@ -190,5 +147,5 @@ def plan_to(goal: Target, have: Contents) -> Plan:
     """How a suite becomes what it is to be, if all can be copied and all is allowed."""
     found = ask(listed(goal, have, goal.contents), MOST, True).plan
     if found is None:
-        raise Fault(f"{program()}: it has no plan where all can be copied", Exit.FAILED)
+        raise PLAN.fault("it has no plan where all can be copied")
     return found

@@ -5,6 +5,7 @@ under a version above both, which ends in `+backN` and means the archive's (appl
 provides its own name at the archive's version, which other packages may need.
 """
 import dataclasses
+import functools
 from collections import defaultdict
 from dataclasses import dataclass, field
 from typing import Iterable, Iterator, Mapping, Optional, Sequence
@@ -25,6 +26,11 @@ class Archive:
     known: Known
     testing: reports.Testing
     maintainers: Mapping[str, str] = field(default_factory=dict)
+
+    @functools.cached_property
+    def keys(self) -> frozenset[Key]:
+        """The packages of the archive."""
+        return frozenset(binary.key for binary in self.binaries)
 
     def told_version(self, source: str) -> Optional[str]:
         """The archive's version that was last sent for a source, without marks."""
@@ -49,7 +55,7 @@ class Archive:
 
 @dataclass
 class Retold:
-    """The versions under which returned sources and packages are sent, and the packages that are dropped.
+    """The versions under which returned sources and packages are sent.
 
     `urgent` are the sources that wait no days, `again` those whose age begins once more. `under` has the source's
     version of packages that are sent under another one than they were built of. `lines` and `alone` are the lines on
@@ -61,7 +67,6 @@ class Retold:
     again: set[str] = field(default_factory=set)
     packages: dict[Key, str] = field(default_factory=dict)
     under: dict[Key, str] = field(default_factory=dict)
-    drops: dict[Key, str] = field(default_factory=dict)
     staying: dict[str, str] = field(default_factory=dict)
     extra: list[Binary] = field(default_factory=list)
     lines: dict[str, str] = field(default_factory=dict)
@@ -91,9 +96,7 @@ class Retold:
 
 
 def came_back(archive: Archive, allowed: Sequence[str]) -> Retold:
-    """What is sent again, and what is dropped since the archive has less of it. `allowed` are the sources that may go
-    back in testing.
-    """
+    """What is sent again. `allowed` are the sources that may go back in testing."""
     found = Retold()
     rows = by_source(archive.binaries)
     live = archive.known.live
@@ -124,14 +127,14 @@ class Withdrawal:
     live: Mapping[Key, str]
 
     @property
-    def lower(self) -> Mapping[Key, str]:
-        """The packages with a lower version in the archive than was sent, and the sent versions."""
-        return {binary.key: self.live[binary.key] for binary in self.own if binary.key in self.live
-                and versions.compare(binary.version, marks.package_version(self.live[binary.key])) < 0}
+    def has_lower(self) -> bool:
+        """Whether the archive has a package at a lower version than was sent."""
+        return any(binary.key in self.live and versions.compare(
+            binary.version, marks.package_version(self.live[binary.key])) < 0 for binary in self.own)
 
 
 def withdrawn(archive: Archive, found: Retold, gone: Withdrawal, allowed: Sequence[str]) -> None:
-    """Drops what was withdrawn, and sends the older version if testing is to have it."""
+    """Sends the older version if testing is to have it; else what was withdrawn is dropped."""
     source, version, told = gone.source, gone.version, gone.told
     held = archive.held_version(source)
     is_ahead = held is not None and versions.compare(held, version) > 0
@@ -139,15 +142,13 @@ def withdrawn(archive: Archive, found: Retold, gone: Withdrawal, allowed: Sequen
         tell(f"source {source}: testing has {held}, and unstable has {version} only: if testing is to go back, allow "
              f"it by --back {source}", Weight.STANDS)
     if held is not None and versions.compare(held, version) == 0 or is_ahead and source not in allowed:
-        found.drops.update(gone.lower)
-        if gone.lower:
+        if gone.has_lower:
             tell(f"source {source} {told}: it was withdrawn, and is dropped; unstable has {version}", Weight.ONCE)
         return
     found.sources[source] = marks.back(archive.known.versions[source], version)
     if is_ahead:
         found.urgent.add(source)
     retell(archive, found, source, gone.own)
-    found.drops.update({key: version for key, version in gone.lower.items() if key not in found.packages})
     found.lines[source] = f"source {source} {told}: it was withdrawn: {version} is sent as {found.sources[source]}"
 
 
@@ -163,21 +164,17 @@ def retell(archive: Archive, found: Retold, source: str, own: Iterable[Binary]) 
 def alone(archive: Archive, found: Retold, live: Mapping[Key, str]) -> None:
     """Packages that were dropped and are back, or that the archive has less of, though not of their source.
 
-    They are sent again, unless testing has them all the same; what was sent above them is dropped then.
+    They are sent again, unless testing has them all the same.
     """
     held = {(row.package, row.architecture): marks.package_version(row.version) for row in archive.testing.rows}
     for binary in archive.binaries:
         key, bound = binary.key, archive.known.bound(binary.key)
-        if not bound or key in found.packages or key in found.drops or archive.known.staying.get(key) == bound:
+        if not bound or key in found.packages or archive.known.staying.get(key) == bound:
             continue
-        if key in live:
-            is_less = versions.compare(binary.version, marks.package_version(bound)) < 0
-        else:
-            is_less = versions.compare(binary.version, bound) <= 0
-        if not is_less or archive.is_lower(binary.source):
+        told = marks.package_version(bound) if key in live else ""
+        if binary.version == told or versions.compare(binary.version, bound) > 0 or archive.is_lower(binary.source):
             continue
-        if held.get(key) == binary.version:
-            found.drops.update({key: bound} if key in live else {})
+        if held.get(key) == binary.version and not (told and versions.compare(binary.version, told) >= 0):
             continue
         found.packages[key] = marks.back(bound, binary.version)
         found.alone[key] = f"{binary.name} {binary.architecture} {binary.version}: it is back below {bound}, which " \
@@ -186,17 +183,13 @@ def alone(archive: Archive, found: Retold, live: Mapping[Key, str]) -> None:
 
 def without_strange(archive: Archive, found: Retold) -> None:
     """Leaves out what would meet a relation of a package of the archive that the archive's own version doesn't meet."""
-    live = archive.known.live
     strange = dict(strange_needs(archive.binaries, found.packages))
     sources = {binary.source for binary in archive.binaries if binary.key in strange}
     for source in sources:
         found.sources.pop(source, None)
     for binary in archive.binaries if strange else ():
-        if binary.source not in sources or found.packages.pop(binary.key, None) is None:
-            continue
-        if binary.key in live:
-            found.drops[binary.key] = live[binary.key]
-        if binary.key in strange:
+        is_out = binary.source in sources and found.packages.pop(binary.key, None) is not None
+        if is_out and binary.key in strange:
             tell(f"{binary.name} {binary.architecture} {binary.version}: left out: {strange[binary.key]}, which the "
                  "version that it would be sent as meets", Weight.STANDS)
 

@@ -10,8 +10,9 @@ from office_tools import days
 from office_tools.accounts import service_at
 from office_tools.bags import framed
 from office_tools.faults import Exit, Fault
-from office_tools.feed import archive, brakes, mailbox, restoring
+from office_tools.feed import archive, brakes, due, mailbox, restoring
 from office_tools.feed.indexes import Indexes, indexes_in
+from office_tools.feed.known import Known
 from office_tools.feed.mailbox import Mailbox, Outgoing
 from office_tools.feed.memory import ChangesRead, Memory, remembered
 from office_tools.feed.news import BUILDS, HINTS, UPLOADS, News, Told, Unstable, Ways, news
@@ -140,7 +141,7 @@ class Turn:
         feed = self.feed(unstable)
         if not asked.dry_run:
             feed.settle()
-        told = Told(self.service.testing(), self.service.hints())
+        told = Told(self.service.testing(), self.service.hints(), self.lists(unstable, feed.box.known).due())
         ways = Ways(self.day.isoformat(), self.arrivals(feed), asked.rebuilds, asked.smooth,
                     asked.back)
         found, gone = news(unstable, feed.box, told, ways)
@@ -150,12 +151,16 @@ class Turn:
             sys.stdout.buffer.write(found.bag())
             tell(found.summary(), Weight.NOTE)
             return int(bool(found.texts))
-        self.send(feed, found)
+        self.send(feed, found, unstable)
         mailbox.fetch(self.service, self.folder)  # so that the folder is a backup of all mail
         self.lines.finish()
         Memory(self.lines.left(), {**self.memory.releases, **brakes.remembered_releases(files.releases)},
                self.changes.now).write(self.folder)
         return int(self.lines.is_standing)
+
+    def lists(self, unstable: Unstable, known: Known) -> due.Lists:
+        """The lists of the office's unstable, over all mail, and of the archive."""
+        return due.lists_of(self.service.unstable(), unstable.sources, unstable.binaries, known.dropped)
 
     def feed(self, unstable: Unstable) -> Feed:
         """The office, with all mail that it keeps, once nothing keeps this feed from being sent."""
@@ -178,10 +183,11 @@ class Turn:
             return found
         return {upload: replace(arrival, day=self.day.isoformat()) for upload, arrival in found.items()}
 
-    def send(self, feed: Feed, found: News) -> None:
-        """Sends what is new, and orders the runs."""
+    def send(self, feed: Feed, found: News, unstable: Unstable) -> None:
+        """Sends what is new, and orders the runs, unless unstable then has a package that the archive hasn't."""
         asked = self.asked
         sent = feed.sending.send(found.texts)
+        self.lists(unstable, mailbox.fetch(self.service, self.folder).known).check()
         is_settled = feed.ordered(self.day, asked.order, found, sent)
         if is_settled and asked.propose:
             feed.propose(self.day, asked.order)

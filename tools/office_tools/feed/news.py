@@ -11,6 +11,7 @@ from office_tools.bags import framed
 from office_tools.faults import Exit, Fault
 from office_tools.feed.back import Archive, Retold, came_back, without_strange
 from office_tools.feed.brakes import packages_named
+from office_tools.feed.due import Due
 from office_tools.feed.known import Known, first_of
 from office_tools.feed.mailbox import Mailbox
 from office_tools.feed.rebuilds import Rebuilds, rebuilds
@@ -74,10 +75,11 @@ class News:
 
 @dataclass(frozen=True)
 class Told:
-    """What the office says of testing, and of the hints in force."""
+    """What the office says of testing, and of the hints in force; and what is due to it."""
 
     testing: reports.Testing
     hints: reports.Hints
+    due: Due
 
 
 @dataclass(frozen=True)
@@ -102,11 +104,12 @@ def news(unstable: Unstable, box: Mailbox, told: Told, ways: Ways) -> tuple[News
     retold.tell()
     found = News()
     found.uploads = list(uploads(archive, box, retold, ways))
-    gone = {key: version for key, version in gone_from(archive) if key not in staying}
+    lost = {key: box.known.bound(key) for key in told.due.drops if key not in {*retold.packages, *staying}}
+    gone = {key: version for key, version in lost.items() if key not in archive.keys}
     removals = list(standing(box.known))
     done = [removal.source for removal in removals if removal.is_own and marks.is_made_up(removal.source)
             and removal.source not in told.testing.sources]
-    dropped = sorted({**gone, **retold.drops, **left_behind(box, done)}.items())
+    dropped = sorted({**lost, **left_behind(box, done)}.items())
     found.drops = [messages.drop(Label(UPLOADS, number), name, architecture, version)
                    for number, ((name, architecture), version)
                    in enumerate(dropped, box.known.taken.get(UPLOADS, 0) + len(found.uploads) + 1)]
@@ -185,14 +188,6 @@ def first_arrival(box: Mailbox, name: str, version: str) -> Optional[Arrival]:
             if word in [urgency.value for urgency in Urgency]:
                 return Arrival(Urgency(word), first.value("Day") or "")
     return None
-
-
-def gone_from(archive: Archive) -> Iterator[tuple[Key, str]]:
-    """The packages that were sent and are gone from the archive, without those that leave or stay by a mark."""
-    there = {binary.key for binary in archive.binaries}
-    for key, version in archive.known.live.items():
-        if key not in there and not version.endswith(marks.LEAVING) and archive.known.staying.get(key) != version:
-            yield key, version
 
 
 def packages(archive: Archive, retold: Retold, others: set[Key]) -> Iterator[Binary]:

@@ -1,6 +1,6 @@
 use Rattle.std.proofs.Common.{◌≡◌, ◌++◌, string_bytes, take}
 use Rattle.archive_lists.specs.List.{lines_with}
-use Rattle.archive_lists.proofs.plan.push_items.Given as goal
+use Rattle.archive_lists.proofs.lines.push_items.Given as goal
 
 -- the text so far
 abbrev pub invariant-loop-item : goal.invariant-loop-item

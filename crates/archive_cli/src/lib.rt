@@ -1,0 +1,9 @@
+//! The programs over an archive's lists: their words, the files that they read, what they print, and their statuses.
+#![tactic(auto)]
+
+mod pages;
+mod running;
+mod words;
+
+pub use pages::Program;
+pub use running::run_program;
