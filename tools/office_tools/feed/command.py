@@ -184,7 +184,7 @@ class Turn:
         return {upload: replace(arrival, day=self.day.isoformat()) for upload, arrival in found.items()}
 
     def send(self, feed: Feed, found: News, unstable: Unstable) -> None:
-        """Sends what is new, and orders the runs, unless unstable then has a package that the archive hasn't."""
+        """Sends what is new, and orders the runs, unless unstable then has what the archive lost."""
         asked = self.asked
         sent = feed.sending.send(found.texts)
         self.lists(unstable, mailbox.fetch(self.service, self.folder).known).check()

@@ -48,7 +48,10 @@ class Lists:
         return Due(found["tell"], found["drop"], found["left"])
 
     def check(self) -> None:
-        """Refuses an unstable that has a package which the archive hasn't: no run is to be ordered over it."""
+        """Refuses an unstable that has a package which the archive lost, or has only in an older version.
+
+        A newer version that is still to be told, as a rebuild, is no reason.
+        """
         strange = list(lines_of(self.due().drops))
         if strange:
             more = f" and {len(strange) - SHOWN} more" if len(strange) > SHOWN else ""
