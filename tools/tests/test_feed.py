@@ -207,7 +207,7 @@ class Feeds(Feeding):
         os.close(number)
 
 
-@needs_office
+@needs_sync
 class Mail(Feeding):
 
     def fetched(self):

@@ -8,7 +8,7 @@ import shutil
 import subprocess
 import unittest
 
-from helpers import TOP, Keyring, Serving, needs_office, tool
+from helpers import TOP, Keyring, Serving, needs_sync, tool
 from office_tools.control import sections
 from office_tools.faults import Fault
 from office_tools.feed import archive, brakes
@@ -146,7 +146,7 @@ class Signed(Folder):
                    "that apt trusts here: name the archive's key in the line, as [signed-by=/etc/office/archive.gpg]")
             self.assertEqual((raised.exception.cause, raised.exception.status), (due, 4))
 
-    @needs_office
+    @needs_sync
     def test_a_feed(self):
         with Serving() as office:
             words = ("office-feed", "--url", office.url, "--cache", self.path("cache"), "--day", "2025-03-03")
