@@ -11,14 +11,21 @@ import os
 import random
 import sys
 import tempfile
+from typing import Iterable, Sequence
 
 import apt_pkg
 import plans
+from plans import Suite
+
+Item = tuple[tuple[str, str], str]
+"""A key, which is an architecture and a name, and a version."""
+Office = tuple[list[Item], list[Item]]
+"""What was built, and what was dropped."""
 
 
-def unstable(built, dropped):
+def unstable(built: Iterable[Item], dropped: Sequence[Item]) -> Suite:
     """What an office has after these builds and drops, each a version of a key."""
-    found = {}
+    found: Suite = {}
     for key, version in built:
         gone = [other for own, other in dropped if own == key]
         above = all(apt_pkg.version_compare(version, other) > 0 for other in gone)
@@ -27,21 +34,21 @@ def unstable(built, dropped):
     return found
 
 
-def greatest(dropped):
+def greatest(dropped: Iterable[Item]) -> Suite:
     """The greatest drop of each key."""
-    found = {}
+    found: Suite = {}
     for key, version in dropped:
         if key not in found or apt_pkg.version_compare(version, found[key]) > 0:
             found[key] = version
     return found
 
 
-def is_free(office, key, version):
+def is_free(parts: Iterable[Suite], key: tuple[str, str], version: str) -> bool:
     """Whether a version is above all that was built and dropped of a key, as far as it counts."""
-    return all(apt_pkg.version_compare(version, part[key]) > 0 for part in office if key in part)
+    return all(apt_pkg.version_compare(version, part[key]) > 0 for part in parts if key in part)
 
 
-def due(told, index, dropped, gone):
+def due(told: Suite, index: Suite, dropped: Suite, gone: int) -> tuple[int, list[str]]:
     """The status and the lines that are due."""
     missing = {key: version for key, version in index.items() if told.get(key) != version}
     tells = {key: version for key, version in missing.items() if is_free((told, dropped), key, version)}
@@ -54,20 +61,21 @@ def due(told, index, dropped, gone):
                for line in plans.lines(dict(sorted(part.items())))]
 
 
-def item_of(line):
+def item_of(line: str) -> Item:
     """The key and the version of a line."""
     _, name, version, architecture = line.split(" ")
     return (architecture, name), version
 
 
-def answered(program, folder, seeds, office, index, gone):
+def answered(program: str, folder: str, seeds: random.Random, office: Office, index: Suite,
+             gone: int) -> tuple[int, list[str]]:
     """What the program prints of an office's unstable, in no order of its lines."""
     built, dropped = office
     lists = [plans.lines(part) for part in (unstable(built, dropped), index, greatest(dropped))]
     return plans.answered(program, folder, [seeds.sample(it, len(it)) for it in lists], ["--gone", str(gone)])
 
 
-def faults_after(office, index, told):
+def faults_after(office: Office, index: Suite, told: Iterable[str]) -> list[tuple[str, str]]:
     """What is wrong in an office's unstable after the mail of what is due."""
     have, left = unstable(*office), [line for line in told if line.startswith("left ")]
     strange = [key for key, version in have.items() if key[0] != "source" and index.get(key) != version]
@@ -76,7 +84,8 @@ def faults_after(office, index, told):
     return [*strange, *lacking]
 
 
-def main():
+def main() -> None:
+    """Tries offices of a seed."""
     program, count = os.path.abspath(sys.argv[1]), int(sys.argv[2]) if len(sys.argv) > 2 else 1000
     seeds, faults, made = random.Random(int(sys.argv[3]) if len(sys.argv) > 3 else 1), 0, 0
     apt_pkg.init_system()
