@@ -579,7 +579,7 @@ def main(words: Sequence[str]) -> int:
     known.add_argument("--jobs", type=int, default=1)
     known.add_argument("--first", type=int, default=0, metavar="NUMBER")
     known.add_argument("--minutes", type=float, default=float("inf"))
-    asked = known.parse_args(words)
+    asked = known.parse_intermixed_args(words)
     last = time.monotonic() + 60 * asked.minutes
     with laid_out(os.path.abspath(asked.office)) as bench:
         bench.last = last
