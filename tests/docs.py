@@ -9,7 +9,7 @@ follows a command, up to the next command or the end of the block, is what it pr
 literal display after a dollar sign. A command continues if its line ends with a backslash or a bar, while a quote is
 open, and up to the end of a text after `<<`. If the document shows no output, none is compared. A command has to end
 with status 0, except those of ENDS, and curl that prints a refusal. Each block starts at the top of the copy, with the
-PATH that the last one left.
+PATH and the OFFICE_SYNC that the last one left.
 
 Only what is in the document is typed. A service that a document starts runs in a terminal of its own, until a line `^C`
 interrupts it or the document ends. So if a document starts a second one on the same port, that fails.
@@ -111,12 +111,15 @@ def commands(block, is_prompted):
     return found
 
 
+KEPT = ('PATH', 'OFFICE_SYNC')
+
+
 class Runner:
     """Runs commands in a copy, and counts."""
 
     def __init__(self, copy, document):
         self.copy, self.document, self.services = copy, document, []
-        self.path = os.environ['PATH']
+        self.left = {name: os.environ.get(name, '') for name in KEPT}
         self.passed = self.failed = 0
 
     def reason(self, command):
@@ -149,14 +152,16 @@ class Runner:
     def run(self, text, folder):
         """Runs a command: its status, what it printed, and the folder that it leaves."""
         where = self.copy.parent / 'folder'
-        script = f'{text}\nstatus=$?\n{{ pwd; echo "$PATH"; }} > "{where}"\nexit $status\n'
+        told = ' '.join(f'"${name}"' for name in KEPT)
+        script = f'{text}\nstatus=$?\nprintf "%s\\n" "$PWD" {told} > "{where}"\nexit $status\n'
         try:
             done = subprocess.run(['/bin/bash', '-c', script], cwd=folder, stdin=subprocess.DEVNULL,
                                   stdout=subprocess.PIPE, stderr=subprocess.STDOUT, timeout=SECONDS,
-                                  env={**os.environ, 'PATH': self.path})
+                                  env={**os.environ, **self.left})
         except subprocess.TimeoutExpired as late:
             return f'no end after {SECONDS} seconds', (late.stdout or b'').decode(errors='replace'), folder
-        left, self.path = where.read_text().splitlines()
+        left, *values = where.read_text().splitlines()
+        self.left = dict(zip(KEPT, values))
         return done.returncode, done.stdout.decode(errors='replace'), Path(left)
 
     def serve(self, text):
@@ -164,7 +169,7 @@ class Runner:
         told = self.copy.parent / f'service{len(self.services)}'
         with open(told, 'wb') as output:
             service = subprocess.Popen(['/bin/bash', '-c', 'exec ' + text], cwd=self.copy, stdin=subprocess.DEVNULL,
-                                       stdout=output, stderr=subprocess.STDOUT, env={**os.environ, 'PATH': self.path})
+                                       stdout=output, stderr=subprocess.STDOUT, env={**os.environ, **self.left})
         self.services.append(service)
         for _ in range(600):
             if told.read_text().endswith('\n') or service.poll() is not None:

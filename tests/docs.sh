@@ -4,7 +4,8 @@
 #
 # Usage: tests/docs.sh OFFICE
 #
-# OFFICE is the built program. What can't be run here is reported with its reason (tests/docs.py lists it). The services
+# OFFICE is the built program, OFFICE_SYNC in the environment the built office-sync, if it isn't in
+# crates/office_sync/out. What can't be run here is reported with its reason (tests/docs.py lists it). The services
 # that a document starts listen on 127.0.0.1:8080, which has to be free, and are ended. With APT=1 in the environment the
 # commands that fetch the lists of a Debian release by apt, and make a report of them, are run too; they need root, the
 # network and some minutes.
@@ -21,6 +22,8 @@ trap 'rm -rf "$work"' EXIT
 trap 'exit 1' HUP INT TERM
 mkdir "$work/bin"
 ln -s "$(realpath -e -- "$1")" "$work/bin/office"
+sync=$(realpath -e -- "${OFFICE_SYNC:-$top/crates/office_sync/out/office_sync}")
+ln -s "$sync" "$work/bin/office-sync"
 # At a terminal curl shows no progress; this turns it off here.
 echo silent > "$work/.curlrc"
 CURL_HOME=$work
@@ -39,8 +42,9 @@ for document in ${DOCUMENTS:-README.md docs/MANUAL.md docs/FIRST_WEEK.md share/R
     (cd "$top" && git ls-files -z -co --exclude-standard | tar --null -T - -cf - 2> /dev/null) | tar xf - -C "$copy"
     case $document in
         docs/FIRST_WEEK.md)
-            mkdir -p "$copy/crates/office/out"
+            mkdir -p "$copy/crates/office/out" "$copy/crates/office_sync/out"
             ln -s "$(realpath -e -- "$1")" "$copy/crates/office/out/office"
+            ln -s "$sync" "$copy/crates/office_sync/out/office_sync"
             path=$PATH
             ;;
         *) path=$installed ;;

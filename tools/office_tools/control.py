@@ -37,32 +37,31 @@ def sections(path: str, names: Sequence[str]) -> Iterator[Mapping[str, str]]:
     The names of fields are compared without regard to the case of letters, and a value is on one line. The file may be
     compressed; `-` is standard input, which isn't.
     """
+    for section, text in raw_sections(path):
+        # apt's own list of the names ends the process if one of them isn't ASCII.
+        strange = STRANGE_LINE.search(text)
+        if strange is not None:
+            name, colon, _ = strange[0].partition(":")
+            cause = "a field's name isn't ASCII" if colon and " " not in name else "a line has no colon"
+            raise Fault(f"{path}: {cause}: {shown(strange[0])}")
+        values = ((name, section.get(name)) for name in names)
+        yield {name: joined(value) for name, value in values if value is not None}
+
+
+def raw_sections(path: str) -> Iterator[tuple[Mapping[str, str], str]]:
+    """The paragraphs of a file as apt reads them, each with its text."""
     try:
-        for section in opened(path):
-            # apt's own list of the names ends the process if one of them isn't ASCII.
-            strange = STRANGE_LINE.search(str(section))
-            if strange is not None:
-                name, colon, _ = strange[0].partition(":")
-                cause = "a field's name isn't ASCII" if colon and " " not in name else "a line has no colon"
-                raise Fault(f"{path}: {cause}: {shown(strange[0])}")
-            values = ((name, section.get(name)) for name in names)
-            yield {name: joined(value) for name, value in values if value is not None}
+        if path != "-":
+            with open(path, "rb"):  # so that the system says why a file can't be read
+                pass
+        source: Union[str, int] = sys.stdin.fileno() if path == "-" else path
+        yield from ((section, str(section)) for section in apt_pkg.TagFile(source))
     except UnicodeDecodeError as fault:
         raise Fault(f"{path}: it is no text in UTF-8") from fault
     except OSError as fault:
         raise Fault(f"{path}: {cause_of(fault)}") from fault
     except apt_pkg.Error as fault:
         raise Fault(f"{path}: apt can't read it: {str(fault).removeprefix('E:')}") from fault
-
-
-def opened(path: str) -> Iterator[Mapping[str, str]]:
-    """What apt reads of a file."""
-    if path != "-":
-        with open(path, "rb"):  # so that the system says why a file can't be read
-            pass
-    source: Union[str, int] = sys.stdin.fileno() if path == "-" else path
-    sections: Iterator[Mapping[str, str]] = iter(apt_pkg.TagFile(source))
-    return sections
 
 
 def joined(value: str) -> str:

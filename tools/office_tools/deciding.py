@@ -2,11 +2,11 @@
 import contextlib
 import os
 import re
-import subprocess
 from dataclasses import dataclass
 from typing import Sequence
 
-from office_tools.faults import Exit, Fault, cause_of
+from office_tools import processes
+from office_tools.faults import Exit, Fault
 
 SECONDS = 3600
 SOURCE = "source"
@@ -35,14 +35,10 @@ class Program:
                 file.flush()
             numbers = [file.fileno() for file in files]
             paths = [f"/proc/self/fd/{number}" for number in numbers]
-            try:
-                ran = subprocess.run([self.path, *paths, *words], stdin=subprocess.DEVNULL, capture_output=True,
-                                     timeout=SECONDS, check=False, pass_fds=numbers)
-            except (OSError, subprocess.TimeoutExpired) as fault:
-                raise self.fault(cause_of(fault)) from fault
+            ran = processes.ended([self.path, *paths, *words], timeout=SECONDS, pass_fds=numbers)
         if ran.returncode == 0 or (ran.returncode == Exit.REFUSED and ran.stdout):
             return ran.stdout.decode().split("\n")[:-1]
-        told = ran.stderr.decode(errors="backslashreplace").strip().split("\n")[-1] or f"status {ran.returncode}"
+        told = processes.text(ran.stderr).strip().split("\n")[-1] or f"status {ran.returncode}"
         cause = cause_in(told.removeprefix(f"{self.name}: "), paths, lists)
         raise self.fault(cause, Exit.REFUSED if ran.returncode == Exit.REFUSED else Exit.FAILED)
 

@@ -80,6 +80,12 @@ def drop_output() -> None:
     os.dup2(os.open(os.devnull, os.O_WRONLY), sys.stdout.fileno())
 
 
+def some(names: Sequence[str], most: int, what: str = "") -> str:
+    """The first of many names, and how many more there are."""
+    more = f" and {len(names) - most} more{what}" if len(names) > most else ""
+    return ", ".join(names[:most]) + more
+
+
 def cause_of(fault: BaseException) -> str:
     """What the system says of a fault, without its number and the file's name."""
     return (isinstance(fault, OSError) and fault.strerror) or str(fault) or type(fault).__name__

@@ -1,5 +1,6 @@
 """The kept messages of a sender of a service, asked for in parts and handed out in order."""
-from typing import Iterator, Protocol
+from dataclasses import dataclass, field
+from typing import Iterator
 
 from office_tools import bags
 from office_tools.faults import Exit, Fault
@@ -9,29 +10,40 @@ from office_tools.service import Service
 GREATEST = 999_999_999  # the greatest number of a message
 
 
-class Done(Protocol):
-    """Numbers that needn't be asked for."""
+@dataclass
+class Numbers:
+    """A set of numbers, kept as the ranges that they make, each with its first and its last number."""
+
+    ranges: list[tuple[int, int]] = field(default_factory=list)
+
+    def add(self, number: int) -> None:
+        """Takes a number that is greater than all present ones, or is present already."""
+        if self.ranges and number <= self.ranges[-1][1]:
+            return
+        if self.ranges and number == self.ranges[-1][1] + 1:
+            self.ranges[-1] = (self.ranges[-1][0], number)
+        else:
+            self.ranges.append((number, number))
 
     def has(self, number: int) -> bool:
-        """Whether a number is one of them."""
+        """Whether a number is present."""
+        return any(first <= number <= last for first, last in self.ranges)
+
+    def upto(self, last: int) -> "Numbers":
+        """Those up to a number."""
+        return Numbers([(first, min(end, last)) for first, end in self.ranges if first <= last])
+
+    def behind(self, number: int) -> int:
+        """How many there are that are greater than a number."""
+        return sum(last - max(first, number + 1) + 1 for first, last in self.ranges if last > number)
 
     def next_missing(self, first: int) -> int:
-        """The least number from this one on that is none of them."""
+        """The least missing number from this one on."""
+        return next((end + 1 for start, end in self.ranges if start <= first <= end), first)
 
 
-class Nothing:
-    """No number at all."""
-
-    def has(self, number: int) -> bool:
-        """No number is present."""
-        return False
-
-    def next_missing(self, first: int) -> int:
-        """Each number is missing."""
-        return first
-
-
-def letters(service: Service, sender: str, first: int = 1, done: Done = Nothing()) -> Iterator[tuple[Label, bytes]]:
+def letters(service: Service, sender: str, first: int = 1,
+            done: Numbers = Numbers()) -> Iterator[tuple[Label, bytes]]:
     """Each kept message of a sender from a number on that isn't done, by number, whatever gaps there are."""
     while True:
         first = done.next_missing(first)

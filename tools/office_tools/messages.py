@@ -7,7 +7,7 @@ python3-debian gives lines. Only the office says whether a message is good: ask 
 import enum
 import re
 from dataclasses import dataclass
-from typing import Iterator, Mapping, Optional, Sequence
+from typing import Callable, Iterable, Iterator, Mapping, NamedTuple, Optional, Sequence
 
 from office_tools.faults import Fault
 
@@ -235,8 +235,7 @@ def field_of(name: str, line: int, parts: Sequence[str]) -> Field:
     return Field(name, line, value, line + raw.count("\n", 0, raw.find(value)) if value else line)
 
 
-@dataclass(frozen=True)
-class Label:
+class Label(NamedTuple):
     """Who sends a message, and under which number of its own."""
 
     sender: str
@@ -260,12 +259,6 @@ def label_of_first(first: Paragraph) -> Optional[Label]:
     return Label(sender, int(number))
 
 
-def sender_and_number(text: bytes) -> Optional[tuple[str, int]]:
-    """The same as a pair."""
-    label = label_of(text)
-    return None if label is None else (label.sender, label.number)
-
-
 def kind_of(first: Paragraph) -> Optional[Kind]:
     """The kind that a message's first paragraph states, or None if it states none of the kinds."""
     word = first.value("Kind")
@@ -273,6 +266,14 @@ def kind_of(first: Paragraph) -> Optional[Kind]:
 
 
 # Writing. Each of these makes the text of a message. A value isn't looked at, but that it can't end its line.
+
+Made = Callable[[Label], bytes]
+"""A message that has no number yet."""
+
+
+def numbered(sender: str, last: int, made: Iterable[Made]) -> list[bytes]:
+    """Messages of a sender, after its last number."""
+    return [make(Label(sender, number)) for number, make in enumerate(made, last + 1)]
 
 
 def composed(fields: Sequence[tuple[str, str]]) -> bytes:
@@ -325,14 +326,14 @@ def bug(label: Label, number: int, source: str, severity: Severity, affected: Ra
     return message(label, Kind.BUG, (str(number), source, severity.value, affected.found, affected.fixed))
 
 
-def hint(label: Label, wish: str) -> bytes:
-    """A wish of the release team."""
-    return message(label, Kind.HINT, (wish,))
+def hint(label: Label, wish: str, more: Sequence[tuple[str, str]] = ()) -> bytes:
+    """A wish of the release team, with further fields, which the office doesn't read."""
+    return message(label, Kind.HINT, (wish,)) + composed(more)
 
 
-def unhint(label: Label, cancels: int) -> bytes:
+def unhint(label: Label, cancels: int, more: Sequence[tuple[str, str]] = ()) -> bytes:
     """The hint of this number isn't in force any more."""
-    return message(label, Kind.UNHINT, (str(cancels),))
+    return message(label, Kind.UNHINT, (str(cancels),)) + composed(more)
 
 
 @dataclass(frozen=True)

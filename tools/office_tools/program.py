@@ -1,10 +1,11 @@
 """The program `office` itself: its commands are run, and asked for each verdict."""
 import os
 import subprocess
-from typing import Sequence
+from typing import Mapping, Sequence
 
-from office_tools import bags, reports
-from office_tools.faults import Exit, Fault, cause_of
+from office_tools import bags, processes, reports
+from office_tools.faults import Exit, Fault
+from office_tools.service import Kept, kept_in
 
 SECONDS = 3600
 
@@ -16,17 +17,14 @@ def name() -> str:
 
 def run(words: Sequence[str], given: bytes = b"") -> subprocess.CompletedProcess[bytes]:
     """Runs the program with these words; a `Fault` says that it is missing or has no end."""
-    try:
-        return subprocess.run([name(), *words], input=given, capture_output=True, timeout=SECONDS, check=False)
-    except (OSError, subprocess.TimeoutExpired) as fault:
-        raise Fault(f"{name()}: {cause_of(fault)}", Exit.FAILED) from fault
+    return processes.ended([name(), *words], given, timeout=SECONDS)
 
 
 def output(words: Sequence[str], given: bytes = b"") -> bytes:
     """What a command prints that ends with status 0; else its last sentence is the `Fault`."""
     ran = run(words, given)
     if ran.returncode:
-        told = ran.stderr.decode(errors="backslashreplace").strip().split("\n")[-1]
+        told = processes.text(ran.stderr).strip().split("\n")[-1]
         raise Fault(told or f"{name()} {words[0]}: status {ran.returncode}", Exit.FAILED)
     return ran.stdout
 
@@ -34,7 +32,7 @@ def output(words: Sequence[str], given: bytes = b"") -> bytes:
 def replies(setup: str, texts: Sequence[bytes]) -> Sequence[str]:
     """What an office in memory answers to these messages, one after the other: `held ..` or `refused ..`."""
     told = output(["replay", "--conf", setup], b"".join(map(bags.framed, texts)))
-    found = told.decode(errors="backslashreplace").split("\n")[:len(texts)]
+    found = processes.text(told).split("\n")[:len(texts)]
     for reply in found:
         if not reply.startswith(("held ", "refused ")) or reply in ("refused NoMemory", "refused Store"):
             raise Fault(f"{name()} replay: {reply}", Exit.FAILED)
@@ -44,6 +42,11 @@ def replies(setup: str, texts: Sequence[bytes]) -> Sequence[str]:
 def exported(setup: str, store: str) -> Sequence[bytes]:
     """All messages that a store keeps, which no office has open."""
     return list(bags.messages_in(output(["export", "--conf", setup, "--db", store])))
+
+
+def kept(setup: str, store: str) -> Mapping[str, Kept]:
+    """What such a store keeps of each sender."""
+    return kept_in(output(["mail", "--conf", setup, "--db", store]).decode())
 
 
 def testing(setup: str, store: str) -> reports.Testing:
@@ -69,7 +72,7 @@ def proposed(setup: str, bag: bytes, day: str) -> tuple[Sequence[str], Sequence[
     With them come the notes on groups that it leaves out.
     """
     ran = run(["propose", "--all", "--day", day, "--conf", setup], bag)
-    told = ran.stderr.decode(errors="backslashreplace").splitlines()
+    told = processes.text(ran.stderr).splitlines()
     if ran.returncode not in (0, 1):
         raise Fault(told[-1] if told else f"{name()} propose: status {ran.returncode}", Exit.FAILED)
     return ran.stdout.decode().splitlines(), [line for line in told if not line.startswith("office: run ")]

@@ -4,6 +4,7 @@ Each reader takes the text of a report and the name that its faults begin with, 
 """
 import datetime
 import enum
+import functools
 import re
 from dataclasses import dataclass
 from typing import Mapping, NamedTuple, Optional, Sequence, Union
@@ -138,16 +139,15 @@ class Testing:
     rows: Sequence[Row]
 
 
-@dataclass(frozen=True)
-class Unstable:
+class Unstable(Testing):
     """What the next run, after this many, sees of unstable if its order covers all mail that is kept without a gap.
 
     A row may be of a source that is missing.
     """
 
-    finished: int
-    sources: Mapping[str, str]
-    rows: Sequence[Row]
+
+Wish = tuple[str, Sequence[str]]
+"""A hint: its words up to its items, as `age-days 3`, and its items."""
 
 
 class ItemStanding(enum.Enum):
@@ -182,6 +182,19 @@ class Hints:
     finished: int
     sender: Optional[str]
     items: Sequence[HintItem]
+
+    @functools.cached_property
+    def by_number(self) -> Mapping[int, Sequence[HintItem]]:
+        """The items of each hint."""
+        found: dict[int, list[HintItem]] = {}
+        for item in self.items:
+            found.setdefault(item.number, []).append(item)
+        return found
+
+    @property
+    def wishes(self) -> Mapping[int, Wish]:
+        """Each hint's words up to its items, and its items."""
+        return {number: (items[0].words, [item.item for item in items]) for number, items in self.by_number.items()}
 
 
 @dataclass(frozen=True)

@@ -1,13 +1,13 @@
 """The senders of a running office and their roles, by what it answers to messages that it looks at and doesn't keep."""
-from typing import Callable, Mapping, Optional
+from typing import Callable, Mapping
 
 from office_tools import messages
+from office_tools.letters import GREATEST
 from office_tools.mailing import verdict
 from office_tools.messages import Label, Role, Severity, Urgency
 from office_tools.service import Service
 from office_tools.setups import Setup
 
-GREATEST = 999_999_999  # the greatest number of a message
 ANY_BINARY = {"Package": "aa", "Version": "1", "Architecture": "all"}
 
 SENT_BY: Mapping[Role, Callable[[Label], bytes]] = {
@@ -19,17 +19,24 @@ SENT_BY: Mapping[Role, Callable[[Label], bytes]] = {
 """A message that a sender of this role alone may send."""
 
 
-def role_of(service: Service, sender: str) -> Optional[Role]:
-    """The role of a sender: the office refuses what it may not send as `WrongRole`."""
-    label = Label(sender, GREATEST)
-    return next((role for role, text in SENT_BY.items() if verdict(service, text(label)) != "refused WrongRole"), None)
+def has_role(service: Service, sender: str, role: Role) -> bool:
+    """Whether a sender has a role: the office refuses what it may not send as `WrongRole`."""
+    return verdict(service, SENT_BY[role](Label(sender, GREATEST))) != "refused WrongRole"
+
+
+def sender_of(service: Service, role: Role) -> str:
+    """The first sender of a role, found without mailing anything."""
+    found = next((sender for sender in service.kept() if has_role(service, sender, role)), None)
+    if found is None:
+        raise service.strange("/lint")
+    return found
 
 
 def setup_of(service: Service) -> Setup:
     """The senders and their roles, in the setup's order. No route names the architectures: the setup here has none."""
     senders: dict[str, Role] = {}
     for sender in service.kept():
-        role = role_of(service, sender)
+        role = next((role for role in SENT_BY if has_role(service, sender, role)), None)
         if role is None:
             raise service.strange("/lint")
         senders[sender] = role

@@ -6,7 +6,7 @@ import re
 import ssl
 import urllib.parse
 from dataclasses import dataclass
-from typing import Mapping, Optional
+from typing import Mapping, Optional, Sequence
 
 from office_tools import reports
 from office_tools.faults import Exit, Fault, cause_of
@@ -192,6 +192,11 @@ class Service:
         if not reply.is_good:
             raise self.bad(path, reply)
         return reply.body.decode()
+
+    def new_proposals(self, day: datetime.date) -> Sequence[str]:
+        """The hints for groups that the office proposes for the run of a day, without those in force."""
+        standing = [" ".join([words, *items]) for words, items in self.hints().wishes.values()]
+        return [hint for hint in (self.proposed(day) or "").splitlines() if hint not in standing]
 
     def testing(self) -> reports.Testing:
         """What is in testing."""

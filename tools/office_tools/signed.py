@@ -11,9 +11,9 @@ from dataclasses import dataclass
 from pathlib import Path
 from typing import Sequence
 
-from office_tools import bags
+from office_tools import bags, processes
 from office_tools.accounts import service_at
-from office_tools.faults import Exit, Fault, cause_of
+from office_tools.faults import Exit, Fault
 from office_tools.files import read_bytes, write_whole
 from office_tools.mailing import is_held, mailed
 from office_tools.messages import ParagraphFault, label_of, paragraphs
@@ -61,7 +61,7 @@ def checked(letter: Path, rings: Sequence[Path]) -> bytes:
     if ran.returncode == -signal.SIGXFSZ:
         raise Fault(f"no key fits\nthe text has more than {bags.LONGEST} bytes", Exit.NEGATIVE)
     if ran.returncode:
-        raise Fault(f"no key fits\n{ran.stderr.decode(errors='backslashreplace').strip()}", Exit.NEGATIVE)
+        raise Fault(f"no key fits\n{processes.text(ran.stderr).strip()}", Exit.NEGATIVE)
     return read_bytes(str(output))
 
 
@@ -73,11 +73,7 @@ def is_signed_by(letter: Path, ring: Path) -> bool:
 
 def gpgv(words: Sequence[str]) -> "subprocess.CompletedProcess[bytes]":
     """Runs gpgv with these words."""
-    try:
-        return subprocess.run(["gpgv", "-q", *words], stdin=subprocess.DEVNULL, capture_output=True, check=False,
-                              preexec_fn=limited)
-    except OSError as fault:
-        raise Fault(f"gpgv: {cause_of(fault)}", Exit.FAILED) from fault
+    return processes.ended(["gpgv", "-q", *words], preexec_fn=limited)
 
 
 def limited() -> None:

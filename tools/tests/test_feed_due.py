@@ -4,8 +4,8 @@ import unittest
 from helpers import SYNC
 from office_tools import reports
 from office_tools.faults import Fault
-from office_tools.feed.due import Due as Lines, lists_of
 from office_tools.from_packages.binaries import Binary
+from office_tools.from_packages.due import Due as Lines, lists_of
 
 
 def binary(name, version, architecture="amd64", source=""):

@@ -15,7 +15,8 @@ from office_tools.bags import framed
 from office_tools.faults import Fault
 from office_tools.feed import archive, known, memory
 from office_tools.feed.mailbox import Folder, Outgoing
-from office_tools.from_packages import sent, told
+from office_tools.files import read_bytes
+from office_tools.from_packages import told
 from office_tools.from_packages.binaries import fitting, read_binaries
 from office_tools.from_packages.sources import Arrival, read_arrivals, read_sources
 from office_tools.messages import Label, Urgency, build, label_of, upload
@@ -160,7 +161,7 @@ class Garbled(Reading):
 
     def test_sent_mail(self):
         def read(path):
-            sent.read_sent(path)
+            known.sent_in(path, read_bytes(path))
         self.each(BAG, read)
 
     def test_the_folder_of_a_feed(self):

@@ -105,7 +105,7 @@ class Reading(unittest.TestCase):
     def test_labels(self):
         for text in bags.messages_in(example("archive.bag")):
             first = next(paragraphs(text))
-            self.assertEqual(messages.sender_and_number(text), (first.value("From"), int(first.value("Number"))))
+            self.assertEqual(messages.label_of(text), (first.value("From"), int(first.value("Number"))))
         self.assertEqual(messages.label_of(b"\nnumber: 7\nfrom: rt\n\nNumber: 8"), Label("rt", 7))
         for text in (b"", b"From: rt", b"Number: 7", b"From: rt\nNumber: 07", b"From: rt\nNumber: 0", b"word",
                      b"From: rt\nNumber: 1234567890", b"From: rt\n\nNumber: 7", b"From: rt\nNumber: 7\nFrom: rt"):
@@ -135,7 +135,7 @@ class Writing(unittest.TestCase):
 
     def test_each_kind(self):
         """The texts are the examples of the rules, but for an urgency and covers; most are in tables."""
-        due = {messages.sender_and_number(text.encode()): text.encode()
+        due = {messages.label_of(text.encode()): text.encode()
                for text in re.split(r"\n(?=From: )", re.search(r"```\n(From: .*?)```", RULES, re.S)[1])}
         for label, fields in table(("Message", "Its further fields, each in a line")):
             sender, number, kind = words(label)[0][0].split()
@@ -145,12 +145,12 @@ class Writing(unittest.TestCase):
             due["rt", number] = f"From: rt\nNumber: {number}\nKind: hint\nHint: {words(example_of)[0][0]}\n".encode()
         due["ftp", 1] = due["ftp", 1].replace(b"HIGH (fix)", b"high")
         due["clock", 1] = due["clock", 1].replace(b"rt 8, , ftp 2", b"rt 8, ftp 2")
-        self.assertEqual({messages.sender_and_number(text): text for text in made()}, due)
+        self.assertEqual({messages.label_of(text): text for text in made()}, due)
 
     @needs_office
     def test_the_office_holds_them(self):
         told = office("replay", "--conf", SETUP, given=b"".join(map(bags.framed, made()))).stdout.decode().split("\n")
-        due = ["held %s %d" % messages.sender_and_number(text) for text in made()]
+        due = ["held %s %d" % messages.label_of(text) for text in made()]
         self.assertEqual(told[:len(due)], due)
 
     def test_a_bug_of_all_versions(self):

@@ -5,8 +5,8 @@ import functools
 import os
 from typing import Sequence
 
-from office_tools import bags, days, faults, messages, program, reports, setups
-from office_tools.adopt.rows import lifted, stripped
+from office_tools import bags, days, faults, messages, program, reports
+from office_tools.adopt.rows import adoptable
 from office_tools.apply.brakes import named
 from office_tools.apply.contents import Contents, Indexes, target, wanted
 from office_tools.apply.holding import without_source
@@ -14,16 +14,15 @@ from office_tools.apply.plans import plan_to
 from office_tools.apply.published import read_indexes
 from office_tools.apply.turn import tell_alone
 from office_tools.faults import Fault
+from office_tools.feed.known import LOW_DAYS, Known
 from office_tools.files import write_whole
 from office_tools.from_packages import mail, told
-from office_tools.from_packages.binaries import Binary, fitting, read_binaries
-from office_tools.from_packages.sent import Sent
-from office_tools.from_packages.sources import Arrival, Sources, read_sources
-from office_tools.messages import Label, Urgency
+from office_tools.from_packages.index import Index, read_index
+from office_tools.from_packages.sources import Arrival
+from office_tools.messages import Urgency, numbered
+from office_tools.senders import HINTS
 
 NAME = "office-adopt"
-LONG_AGO = 10  # days that an upload of the urgency low waits, where nothing else is said
-MOST_ARCHITECTURES = 16
 
 tell = functools.partial(faults.tell, NAME)
 
@@ -48,17 +47,18 @@ def parser() -> argparse.ArgumentParser:
     return words
 
 
-def letters(setup: str, binaries: Sequence[Binary], sources: Sources, day: datetime.date) -> Sequence[bytes]:
+def letters(setup: str, index: Index, day: datetime.date) -> Sequence[bytes]:
     """All mail of the first run; behind its order the hints are taken back, since all that they ask is done by it."""
-    sent = Sent()
-    arrival = Arrival(Urgency.MEDIUM, max(day - datetime.timedelta(LONG_AGO), datetime.date(1970, 1, 1)).isoformat())
-    came = list(mail.uploads(sources.versions, sent, mail.Uploading({}, arrival, sources.maintainers)))
-    made = list(mail.builds(binaries, sent))
-    wishes = list(mail.hints(setup, sent, [*came, *made], day.isoformat()))
-    first = mail.order(day.isoformat(), sent, {"ftp": len(came), "bd": len(made), "rt": len(wishes)})
-    unhints = [messages.unhint(Label("rt", len(wishes) + number), number) for number in range(1, len(wishes) + 1)]
-    print(f"uploads {len(came)}, builds {len(made)}, hints {len(wishes)}, orders 1, unhints {len(unhints)}")
-    return [*came, *made, *wishes, first, *unhints]
+    sent = Known()
+    arrival = Arrival(Urgency.MEDIUM, max(day - datetime.timedelta(LOW_DAYS), datetime.date(1970, 1, 1)).isoformat())
+    news = mail.news(index, sent, mail.Uploading({}, arrival, index.maintainers))
+    hints = mail.hints(setup, b"", sent, news.texts, day.isoformat())
+    order = mail.order(day.isoformat(), sent, {**news.counts, HINTS: len(hints)})
+    unhints = numbered(HINTS, len(hints), (functools.partial(messages.unhint, cancels=number)
+                                           for number in range(1, len(hints) + 1)))
+    print(f"uploads {len(news.uploads)}, builds {len(news.builds)}, hints {len(hints)}, orders 1, "
+          f"unhints {len(unhints)}")
+    return [*news.texts, *hints, order, *unhints]
 
 
 def checked(setup: str, bag: bytes, have: Contents) -> int:
@@ -107,25 +107,17 @@ def main(words: Sequence[str]) -> int:
     """Writes the setup and the bag, and prints what they have."""
     asked = parser().parse_args(words)
     told.NAME = NAME
-    found, architectures = read_binaries(asked.packages)
-    if not architectures:
+    testing = read_index(asked.packages, asked.sources)
+    if not testing.architectures:
         raise Fault("testing has no package: begin with the indexes of unstable by office-from-packages")
-    if len(architectures) > MOST_ARCHITECTURES:
-        raise Fault(f"the files name {len(architectures)} architectures; 1 to {MOST_ARCHITECTURES} are taken")
-    fit = list(fitting(found))
-    current = read_sources(asked.sources, fit)
-    at_version, moved = lifted(fit, current.versions)
-    binaries, gone = stripped(at_version, architectures)
-    for line in [entry.line() for entry in moved] + [entry.line() for entry in gone]:
-        tell(line)
-    sources = current.among({binary.source for binary in binaries})
-    print(f"sources {len(sources.versions)}, packages {len(binaries)}: under another version {len(moved)}, "
-          f"clauses taken out {len(gone)}")
+    testing.check("the files name")
+    index, moved, gone = adoptable(testing)
+    print(f"sources {len(index.sources)}, packages {len(index.binaries)}: under another version {moved}, "
+          f"clauses taken out {gone}")
     if asked.dry_run:
         return 0
-    setup = os.path.join(asked.folder, "setup.conf")
-    write_whole(setup, setups.written(setups.Setup(architectures, mail.senders(asked.spare))))
-    bag = b"".join(map(bags.framed, letters(setup, binaries, sources, asked.day)))
+    setup = mail.write_setup(asked.folder, index.architectures, asked.spare)
+    bag = b"".join(map(bags.framed, letters(setup, index, asked.day)))
     write_whole(os.path.join(asked.folder, "bag"), bag)
     return 0 if asked.no_check else checked(setup, bag, read_indexes([("", path) for path in asked.packages],
                                                                      asked.sources))

@@ -1,55 +1,49 @@
 """What has to be sent differently, so that each package of an existing testing is in the office's."""
 import dataclasses
 from collections import defaultdict
-from dataclasses import dataclass
 from typing import Mapping, Sequence
 
 from office_tools import relations, versions
 from office_tools.from_packages.binaries import Binary, Key
+from office_tools.from_packages.index import Index
 from office_tools.from_packages.suites import Suite, Suites
+from office_tools.from_packages.told import tell
 from office_tools.relations import Clause
 
 FIELDS = ("Pre-Depends", "Depends")
 
-
-@dataclass(frozen=True)
-class Lifted:
-    """A package that was built of an older version of its source than testing has, and is sent under that one."""
-
-    binary: Binary
-    version: str
-
-    def line(self) -> str:
-        """The line on it."""
-        return (f"{self.binary.name} {self.binary.architecture} {self.binary.version}: sent under {self.binary.source} "
-                f"{self.version}: it was built of {self.binary.source_version}")
+Stripped = tuple[Binary, Clause]
+"""A clause that nothing in testing meets, and the package that it is taken out of."""
 
 
-def lifted(binaries: Sequence[Binary], current: Mapping[str, str]) -> tuple[Sequence[Binary], Sequence[Lifted]]:
-    """The packages, each under its source's version in testing, and those for which the archive has another version."""
+def adoptable(index: Index) -> tuple[Index, int, int]:
+    """What is sent of a testing, and how many packages are sent under another version, and clauses taken out.
+
+    Each of these is reported.
+    """
+    at_version, moved = lifted(index.binaries, index.sources)
+    binaries, gone = stripped(at_version, index.architectures)
+    for binary in moved:
+        tell(f"{binary.name} {binary.architecture} {binary.version}: sent under {binary.source} "
+             f"{index.sources[binary.source]}: it was built of {binary.source_version}")
+    for binary, clause in gone:
+        tell(f"{binary.name} {binary.architecture} {binary.version}: sent without {relations.written(clause)}: "
+             "nothing in testing meets it")
+    return index.of(binaries), len(moved), len(gone)
+
+
+def lifted(binaries: Sequence[Binary], current: Mapping[str, str]) -> tuple[Sequence[Binary], Sequence[Binary]]:
+    """The packages, each under its source's version in testing, and those that were built of another version."""
     told: list[Binary] = []
-    moved: list[Lifted] = []
+    moved: list[Binary] = []
     for binary in binaries:
         version = current[binary.source]
         if versions.compare(version, binary.source_version) != 0:
-            moved.append(Lifted(binary, version))
+            moved.append(binary)
             fields = {**binary.fields, "Source": f"{binary.source} ({version})"}
             binary = dataclasses.replace(binary, source_version=version, fields=fields)
         told.append(binary)
     return told, moved
-
-
-@dataclass(frozen=True)
-class Stripped:
-    """A clause that nothing in testing meets, and the package that it is taken out of."""
-
-    binary: Binary
-    clause: Clause
-
-    def line(self) -> str:
-        """The line on it."""
-        return (f"{self.binary.name} {self.binary.architecture} {self.binary.version}: sent without "
-                f"{relations.written(self.clause)}: nothing in testing meets it")
 
 
 def stripped(binaries: Sequence[Binary], architectures: Sequence[str]) -> tuple[Sequence[Binary], Sequence[Stripped]]:
@@ -65,8 +59,8 @@ def stripped(binaries: Sequence[Binary], architectures: Sequence[str]) -> tuple[
             return binaries, gone
         gone += found
         clauses: dict[Key, set[Clause]] = defaultdict(set)
-        for entry in found:
-            clauses[entry.binary.key].add(entry.clause)
+        for binary, clause in found:
+            clauses[binary.key].add(clause)
         binaries = [without(binary, clauses[binary.key]) if binary.key in clauses else binary for binary in binaries]
 
 
@@ -80,7 +74,7 @@ def unmet(suites: Suites) -> Sequence[Stripped]:
     watched: dict[int, set[Key]] = defaultdict(set)
     for binary, suite in bad:
         watched[id(suite)].add(binary.key)
-    return [Stripped(binary, clause) for binary, suite in bad for clause in dict.fromkeys(binary.clauses)
+    return [(binary, clause) for binary, suite in bad for clause in dict.fromkeys(binary.clauses)
             if not suite.left[clause] and not meets_later(suite, clause, watched[id(suite)])]
 
 

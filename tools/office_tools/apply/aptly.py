@@ -7,8 +7,8 @@ import re
 from typing import Sequence
 
 from office_tools.apply.contents import Contents, Indexes, Row, Source
-from office_tools.apply.managers import parts, run
-from office_tools.apply.published import shows, source_of
+from office_tools.apply.managers import Manager, parts, run
+from office_tools.apply.published import source_of
 from office_tools.faults import Exit, Fault
 from office_tools.files import read_bytes
 
@@ -18,7 +18,7 @@ NO_VALUE = "<no value>"
 INSTALLERS = "$PackageType (udeb)"
 
 
-class Aptly:
+class Aptly(Manager):
     """The repositories `origin` and `testing`; testing is published under its own name and this prefix."""
 
     indexes = Indexes.ONCE
@@ -41,13 +41,8 @@ class Aptly:
         except (ValueError, TypeError, KeyError) as fault:
             raise Fault(f"{self.config}: aptly shows no rootDir of it", Exit.REFUSED) from fault
 
-    def folder(self) -> str:
-        """Where aptly publishes testing."""
-        return os.path.join(self.root, "public", self.prefix, "dists", self.testing_name)
-
     def architectures(self) -> Sequence[str]:
-        """The architectures that testing is published with; a missing repository is refused."""
-        release = os.path.join(self.folder(), "Release")
+        release = os.path.join(self.published_folders()[0], "Release")
         if not os.path.exists(release):
             raise Fault(f"{release}: {self.testing_name} isn't published yet: aptly publish repo does it once",
                         Exit.REFUSED)
@@ -74,7 +69,6 @@ class Aptly:
             raise
 
     def listed(self, repository: str) -> Contents:
-        """What a repository has."""
         if re.search(r"^Number of packages: 0$", self.shown(repository), re.MULTILINE):
             return Contents()
         sources: set[Source] = set()
@@ -91,35 +85,23 @@ class Aptly:
                 built_of[Row(architecture, architecture, name, version)] = source_of(self.config, value, name, version)
         return Contents(frozenset(sources), frozenset(built_of), built_of)
 
-    def testing(self) -> Contents:
-        """What testing has."""
-        return self.listed(self.testing_name)
-
     def origin(self) -> Contents:
-        """What the repository has that packages come from."""
         others = len(self.search(self.origin_name, INSTALLERS))
-        return dataclasses.replace(self.listed(self.origin_name), other_kinds={"udeb": others} if others else {})
+        return dataclasses.replace(super().origin(), other_kinds={"udeb": others} if others else {})
 
     def copy(self, come: Contents) -> None:
-        """Copies these sources and rows."""
         for part in parts(references(come)):
             self.aptly("repo", "copy", self.origin_name, self.testing_name, *part)
 
     def remove(self, go: Contents) -> None:
-        """Takes these sources and rows out."""
         for part in parts(references(go)):
             self.aptly("repo", "remove", self.testing_name, *part)
 
     def published_folders(self) -> Sequence[str]:
-        """The folders by which both repositories are published, each under its own name."""
-        return [self.folder(), os.path.join(os.path.dirname(self.folder()), self.origin_name)]
-
-    def is_published(self, have: Contents) -> bool:
-        """Whether the indexes of testing are whole and have this."""
-        return shows(self.folder(), have, self.indexes)
+        return [os.path.join(self.root, "public", self.prefix, "dists", name)
+                for name in (self.testing_name, self.origin_name)]
 
     def publish(self) -> None:
-        """Publishes testing again."""
         self.aptly("publish", "update", "-batch", *self.words, self.testing_name, self.prefix)
 
 

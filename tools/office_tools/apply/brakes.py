@@ -8,7 +8,7 @@ from typing import Optional, Sequence
 from office_tools import versions
 from office_tools.apply.contents import Contents, Item, Target
 from office_tools.apply.plans import Lists, Plan, ask, key_of, listed
-from office_tools.faults import Exit, Fault
+from office_tools.faults import Exit, Fault, some
 
 MOST_GONE = 40  # packages and sources
 SHARE_GONE = 50  # one of this many is 2 %
@@ -54,5 +54,4 @@ def check_back(lists: Lists, lower: Sequence[Item], want: Contents) -> None:
 
 def named(names: Sequence[str]) -> str:
     """The first of many names, and how many more there are."""
-    more = f" and {len(names) - SHOWN} more" if len(names) > SHOWN else ""
-    return ", ".join(names[:SHOWN]) + more
+    return some(names, SHOWN)

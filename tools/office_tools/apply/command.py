@@ -11,14 +11,16 @@ from office_tools.apply.aptly import Aptly
 from office_tools.apply.brakes import Terms
 from office_tools.apply.contents import ALL, Contents, Indexes, Target, check_taken, target, wanted
 from office_tools.apply.holding import Evidence, Groups
-from office_tools.apply.managers import Manager, locked
+from office_tools.apply.managers import Manager
 from office_tools.apply.plans import plan_to
-from office_tools.apply.published import is_whole, packages_of, raw_sections, read_folder, read_indexes, read_release
+from office_tools.apply.published import is_whole, packages_of, read_folder, read_indexes, read_release
 from office_tools.apply.reprepro import Reprepro
 from office_tools.apply.turn import Turn, counts, tell_alone
+from office_tools.control import raw_sections
 from office_tools.counts import count
 from office_tools.faults import Exit, Fault
-from office_tools.files import read_bytes
+from office_tools.files import read_bytes, write_whole
+from office_tools.folders import locked
 from office_tools.look.judge import judge, read_known
 from office_tools.reports import Outcome
 from office_tools.service import DEFAULT_URL, Service
@@ -126,7 +128,7 @@ def to_heidi(testing: reports.Testing, path: str, published: Optional[Contents],
     come, go = due.without(before), before.without(due)
     is_same = come.is_empty and go.is_empty and os.path.exists(path)
     if not is_dry and not is_same:
-        heidi.write(path, due)
+        write_whole(path, heidi.written(due))
     for line in (*(f"came: {line}" for line in come.lines()), *(f"went: {line}" for line in go.lines())):
         print(line)
     print(f"testing {testing.finished}: {counts(due)}; came {counts(come)}; went {counts(go)}")
@@ -193,7 +195,7 @@ def main(words: Sequence[str]) -> int:
     if asked.manager == "compare":
         return compared(testing, asked.packages, asked.sources)
     manager, place = manager_of(asked)
-    locked(place)
+    locked(place, NAME, " on this archive")
     service = service_at(asked.url or DEFAULT_URL) if asked.testing is None else None
     architectures = list(dict.fromkeys(row.architecture for row in testing.rows if row.architecture != ALL))
     evidence = Evidence(groups_of(service, testing.finished), judge(), architectures,

@@ -4,7 +4,7 @@ import os
 from office_tools import versions
 from office_tools.apply.contents import Contents, Row, Source
 from office_tools.faults import Exit, Fault
-from office_tools.files import read_bytes, write_whole
+from office_tools.files import read_bytes
 
 SOURCE = "source"
 
@@ -32,8 +32,3 @@ def read(path: str) -> Contents:
         else:
             rows.add(Row(architecture, architecture, name, version))
     return Contents(frozenset(sources), frozenset(rows))
-
-
-def write(path: str, contents: Contents) -> None:
-    """Writes the file, whole or not at all."""
-    write_whole(path, written(contents))

@@ -9,7 +9,7 @@ from dataclasses import dataclass, field
 from typing import Callable, Iterator, Mapping, Optional, Sequence
 
 from office_tools.apply.contents import ALL, Contents, Row, Source
-from office_tools.look.judge import Broken, Judge, Known, Package, provided
+from office_tools.look.judge import Broken, Judge, Known, Package, names_of
 
 Groups = Callable[[frozenset[str]], Sequence[frozenset[str]]]
 """The groups by which runs moved some of these sources."""
@@ -129,14 +129,9 @@ class Holding:
 
     def blamed(self, broken: Broken) -> set[str]:
         """The changing sources whose packages the causes mention."""
-        found: set[str] = set()
-        for contents in (self.want, self.have):
-            for row, source in contents.built_of.items():
-                if source.name in self.changed and source.name not in self.held and row in contents.rows:
-                    package = package_of(row)
-                    names = {package.label, package.name, *provided(self.texts.get(package, ""))}
-                    found.update({source.name} if names & broken.named else ())
-        return found
+        return {source.name for contents in (self.want, self.have) for row, source in contents.built_of.items()
+                if source.name in self.changed and source.name not in self.held and row in contents.rows
+                and names_of(package_of(row), self.texts) & broken.named}
 
     def result(self) -> Contents:
         """The testing that results: the held sources as testing has them, all others as the office wants them."""

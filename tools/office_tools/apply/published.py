@@ -1,14 +1,13 @@
 """The indexes of a suite as they are published: what they have, and whether they are whole."""
 import hashlib
 import os
-from typing import Iterator, Mapping, Optional, Sequence
+from typing import Optional, Sequence
 
-import apt_pkg
 from debian import deb822
 
 from office_tools import relations
 from office_tools.apply.contents import Contents, Indexes, Row, Source
-from office_tools.control import opened, sections
+from office_tools.control import sections
 from office_tools.faults import Fault, cause_of
 from office_tools.files import read_bytes
 
@@ -36,19 +35,6 @@ def read_indexes(packages: Sequence[tuple[str, str]], sources: Sequence[str]) ->
             built_of[Row(place or architecture, architecture, name, version)] = \
                 source_of(path, fields.get("Source"), name, version)
     return Contents(frozenset(found), frozenset(built_of), built_of)
-
-
-def raw_sections(path: str) -> Iterator[tuple[Mapping[str, str], str]]:
-    """The paragraphs of a file as apt reads them, each with its text."""
-    try:
-        for section in opened(path):
-            yield section, str(section)
-    except UnicodeDecodeError as fault:
-        raise Fault(f"{path}: it is no text in UTF-8") from fault
-    except OSError as fault:
-        raise Fault(f"{path}: {cause_of(fault)}") from fault
-    except apt_pkg.Error as fault:
-        raise Fault(f"{path}: apt can't read it: {str(fault).removeprefix('E:')}") from fault
 
 
 def source_of(path: str, value: Optional[str], name: str, version: str) -> Source:

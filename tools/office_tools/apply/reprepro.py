@@ -4,8 +4,7 @@ from collections import Counter
 from typing import Iterator, Optional, Sequence
 
 from office_tools.apply.contents import Contents, Indexes, Row, Source
-from office_tools.apply.managers import parts, run
-from office_tools.apply.published import shows
+from office_tools.apply.managers import Manager, parts, run
 from office_tools.faults import Exit, Fault
 
 LIST = r"${$architecture} ${$type} ${package} ${version} ${$source} ${$sourceversion} ${architecture}\n"
@@ -13,7 +12,7 @@ PUBLISH_LATER = ("--export=silent-never", "--keepunreferencedfiles")
 """Nothing is published before all is done, and no file goes that clients may still ask for."""
 
 
-class Reprepro:
+class Reprepro(Manager):
     """The suites `origin` and `testing`, by their codenames, of the archive in a folder."""
 
     indexes = Indexes.EACH
@@ -37,7 +36,6 @@ class Reprepro:
                         Exit.FAILED) from fault
 
     def architectures(self) -> Sequence[str]:
-        """The architectures of testing; a missing suite is refused."""
         if not os.path.isdir(os.path.join(self.base, "conf")):
             raise Fault(f"{self.base}: it is no archive of reprepro: it has no folder conf", Exit.REFUSED)
         try:
@@ -51,7 +49,6 @@ class Reprepro:
         return sorted(suites[0] - {"source"})
 
     def listed(self, suite: str) -> Contents:
-        """What a suite has by reprepro's own tables."""
         sources: set[Source] = set()
         built_of: dict[Row, Source] = {}
         others: Counter[str] = Counter()
@@ -66,37 +63,21 @@ class Reprepro:
                 others[kind] += 1
         return Contents(frozenset(sources), frozenset(built_of), built_of, others)
 
-    def testing(self) -> Contents:
-        """What testing has."""
-        return self.listed(self.testing_name)
-
-    def origin(self) -> Contents:
-        """What the suite has that packages come from."""
-        return self.listed(self.origin_name)
-
     def copy(self, come: Contents) -> None:
-        """Copies these rows, then these sources."""
         for kind, formulas in (("deb", row_formulas(come)), ("dsc", source_formulas(come))):
             for part in parts(formulas):
                 self.reprepro(*PUBLISH_LATER, "-T", kind, "copyfilter", self.testing_name, self.origin_name,
                               " | ".join(part))
 
     def remove(self, go: Contents) -> None:
-        """Takes these sources out, then these rows."""
         for kind, formulas in (("dsc", source_formulas(go)), ("deb", row_formulas(go))):
             for part in parts(formulas):
                 self.reprepro(*PUBLISH_LATER, "-T", kind, "removefilter", self.testing_name, " | ".join(part))
 
     def published_folders(self) -> Sequence[str]:
-        """The folders by which both suites are published."""
         return [os.path.join(self.dists, name) for name in (self.testing_name, self.origin_name)]
 
-    def is_published(self, have: Contents) -> bool:
-        """Whether the indexes of testing are whole and have this."""
-        return shows(os.path.join(self.dists, self.testing_name), have, self.indexes)
-
     def publish(self) -> None:
-        """Writes the indexes of testing."""
         self.reprepro("export", self.testing_name)
 
 

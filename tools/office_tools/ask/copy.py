@@ -7,7 +7,7 @@ from office_tools import bags, program, setups
 from office_tools.ask.answer import Answer
 from office_tools.faults import Exit, Fault
 from office_tools.letters import letters
-from office_tools.senders import runs_sender
+from office_tools.senders import in_turn
 from office_tools.service import Service
 
 
@@ -23,8 +23,7 @@ class Copy:
         """The mail as a bag. The orders come first, so that it has all mail of a run that was ready."""
         if self.mail is None:
             self.check_setup()
-            runs = runs_sender(self.service)
-            senders = sorted(self.service.kept(), key=lambda sender: sender != runs)
+            senders = in_turn(self.service, list(self.service.kept()))
             self.mail = b"".join(bags.framed(text) for sender in senders for _, text in letters(self.service, sender))
         return self.mail
 

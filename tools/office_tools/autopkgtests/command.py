@@ -1,20 +1,15 @@
 """office-tests: mails a running office a bug for each autopkgtest that a version in unstable fails."""
 import argparse
-import functools
-import sys
 from typing import Sequence
 
-from office_tools import faults
 from office_tools.accounts import service_at
 from office_tools.autopkgtests.changes import TEST, changes, verdicts_of
 from office_tools.autopkgtests.results import read_results
-from office_tools.bags import framed
-from office_tools.bugs.kept import read_book, send
+from office_tools.bugs.kept import mail_changes, own_of, read_book
+from office_tools.faults import tell
 from office_tools.service import DEFAULT_URL
 
 NAME = "office-tests"
-
-tell = functools.partial(faults.tell, NAME)
 
 
 def parser() -> argparse.ArgumentParser:
@@ -44,22 +39,9 @@ def main(words: Sequence[str]) -> int:
     book = read_book(service, TEST)
     verdicts = verdicts_of(iter(results), service.unstable().sources, service.testing().sources)
     found = changes(verdicts, book)
-    others = [change for change in found.changes if change.before is not None and not book.is_own(change.number)
-              and not asked.take_over]
-    for change in others:
-        tell(f"{change.line()}: left alone: its last message isn't of {NAME}; --take-over sends it")
+    sent = own_of(found.changes, book, NAME, asked.take_over)
     for test in found.waiting:
-        tell(f"{test}: {verdicts.version(test.source)} has no result yet: it stays failed")
-    sent = [change for change in found.changes if change not in others]
-    texts = [change.text(book.label(place)) for place, change in enumerate(sent)]
+        tell(NAME, f"{test}: {verdicts.version(test.source)} has no result yet: it stays failed")
     lifted = sum(change.version is None for change in sent)
     summary = f"tests {len(verdicts.outcomes)}, failed {len(sent) - lifted}, lifted {lifted}"
-    if asked.dry_run:
-        sys.stdout.buffer.write(b"".join(map(framed, texts)))
-        tell(summary)
-        return int(bool(texts))
-    send(service, texts)
-    for change in sent:
-        print(change.line())
-    print(summary)
-    return 0
+    return mail_changes(service, book, sent, NAME, summary, asked.dry_run)

@@ -1,25 +1,19 @@
 """office-bugs: mails a running office the release-critical bugs that a bug tracker lists."""
 import argparse
-import functools
-import sys
 from typing import Sequence
 
-from office_tools import faults
 from office_tools.accounts import service_at
-from office_tools.bags import framed
 from office_tools.bugs.changes import LISTED, Change, Lists, changes, read_pairs
-from office_tools.bugs.kept import Book, read_book, send
+from office_tools.bugs.kept import Book, mail_changes, own_of, read_book
 from office_tools.bugs.lists import names_of, read_list
 from office_tools.counts import count
-from office_tools.faults import Exit, Fault
+from office_tools.faults import Exit, Fault, some, tell
 from office_tools.service import DEFAULT_URL
 
 NAME = "office-bugs"
 MOST_CLOSED, SHARE = 20, 10
 """Most bugs that are closed unasked, and one in how many of the open ones; not if both are exceeded."""
 SHOWN = 10  # names that are printed
-
-tell = functools.partial(faults.tell, NAME)
 
 
 def parser() -> argparse.ArgumentParser:
@@ -59,26 +53,11 @@ def main(words: Sequence[str]) -> int:
     book = read_book(service, LISTED)
     names = names_of(service.unstable()), names_of(service.testing())
     lists = read_pairs(unstable, testing, names)
-    found = list(changes(lists, book, names))
-    others = [change for change in found if change.before is not None and not book.is_own(change.number)
-              and not asked.take_over]
-    for change in others:
-        tell(f"{change.line()}: left alone: its last message isn't of {NAME}; --take-over sends it")
-    found = [change for change in found if change not in others]
+    found = own_of(list(changes(lists, book, names)), book, NAME, asked.take_over)
     if lists.unknown:
-        more = f" and {len(lists.unknown) - SHOWN} more" if len(lists.unknown) > SHOWN else ""
-        tell(f"no source or package of the office: {', '.join(lists.unknown[:SHOWN])}{more}")
+        tell(NAME, f"no source or package of the office: {some(lists.unknown, SHOWN)}")
     check(found, book, lists, asked.close)
-    texts = [change.text(book.label(place)) for place, change in enumerate(found)]
     summary = f"bugs {len(lists.pairs)}, new {sum(change.before is None for change in found)}, " \
               f"changed {sum(change.before is not None and not change.is_closing for change in found)}, " \
               f"closed {sum(change.is_closing for change in found)}"
-    if asked.dry_run:
-        sys.stdout.buffer.write(b"".join(map(framed, texts)))
-        tell(summary)
-        return int(bool(texts))
-    send(service, texts)
-    for change in found:
-        print(change.line())
-    print(summary)
-    return 0
+    return mail_changes(service, book, found, NAME, summary, asked.dry_run)

@@ -3,17 +3,19 @@
 A tool that sends bugs remembers nothing itself. It marks its messages with a field that the office doesn't read, and
 finds them again in the office's mail.
 """
+import sys
 from dataclasses import dataclass, field
-from typing import Optional, Sequence
+from typing import Optional, Protocol, Sequence, TypeVar
 
 from office_tools import messages, versions
-from office_tools.faults import Exit, Fault
-from office_tools.letters import GREATEST, letters
-from office_tools.mailing import is_held, mailed, verdict
-from office_tools.messages import Kind, Label, Paragraph, Range, Severity, kind_of, paragraphs
+from office_tools.bags import framed
+from office_tools.faults import Exit, Fault, tell
+from office_tools.letters import letters
+from office_tools.mailing import is_held, mailed
+from office_tools.messages import Kind, Label, Paragraph, Range, Role, Severity, kind_of, paragraphs
+from office_tools.roles import sender_of
 from office_tools.service import Service
 
-WRONG_ROLE = ("refused WrongRole", "refused UnknownSender")
 CRITICAL = {Severity.CRITICAL.value, Severity.GRAVE.value, Severity.SERIOUS.value}
 
 
@@ -79,7 +81,7 @@ class Book:
 def read_book(service: Service, mark: str) -> Book:
     """All bugs that an office keeps, for a tool with this mark. A `Fault` names the first missing message."""
     kept = service.kept()
-    sender = bugs_sender(service, list(kept))
+    sender = sender_of(service, Role.BUGS)
     count = kept[sender]
     if count.greatest != count.unbroken:
         raise Fault(f"{service.url}: {sender} {count.unbroken + 1} isn't kept, and {sender} {count.greatest} is: send "
@@ -93,19 +95,57 @@ def read_book(service: Service, mark: str) -> Book:
     return book
 
 
-def bugs_sender(service: Service, senders: Sequence[str]) -> str:
-    """The sender that may send bugs, found by asking the office without mailing anything."""
-    for sender in senders:
-        text = messages.bug(Label(sender, GREATEST), 1, "office", Severity.WISHLIST)
-        if verdict(service, text) not in WRONG_ROLE:
-            return sender
-    raise service.strange("/lint")
-
-
 def bug_of(first: Paragraph) -> Bug:
     """The bug that a kept message states."""
     number, source = int(first.value("Bug") or 0), first.value("Source") or ""
     return Bug(number, source, first.value("Severity") or "", Range(first.value("Found"), first.value("Fixed")), first)
+
+
+class Changed(Protocol):
+    """A number on which something has to be sent."""
+
+    @property
+    def number(self) -> int:
+        """The number in the office."""
+
+    @property
+    def before(self) -> Optional[Bug]:
+        """What the office keeps on it."""
+
+    def text(self, label: Label) -> bytes:
+        """The message."""
+
+    def line(self) -> str:
+        """What is printed of it."""
+
+
+AnyChanged = TypeVar("AnyChanged", bound=Changed)
+
+
+def own_of(found: Sequence[AnyChanged], book: Book, name: str, takes_over: bool) -> Sequence[AnyChanged]:
+    """Those that the tool of this name sends: their last message is its own, unless it takes over others. The others
+    are reported.
+    """
+    others = [change for change in found if change.before is not None and not book.is_own(change.number)
+              and not takes_over]
+    for change in others:
+        tell(name, f"{change.line()}: left alone: its last message isn't of {name}; --take-over sends it")
+    return [change for change in found if change not in others]
+
+
+def mail_changes(service: Service, book: Book, found: Sequence[Changed], name: str,
+                 summary: str, is_dry: bool) -> int:
+    """Sends what changed, and prints it; or prints the mail as a bag: the status."""
+    texts = [change.text(book.label(place)) for place, change in enumerate(found)]
+    if is_dry:
+        sys.stdout.buffer.write(b"".join(map(framed, texts)))
+        tell(name, summary)
+        return int(bool(texts))
+    send(service, texts)
+    for change in found:
+        print(change.line())
+    print(summary)
+    return Exit.DONE
 
 
 def send(service: Service, texts: Sequence[bytes]) -> None:

@@ -2,7 +2,7 @@
 import re
 from collections import defaultdict
 from dataclasses import dataclass
-from typing import Iterator, Mapping, Sequence, Union
+from typing import Iterator, Mapping, Sequence
 
 from office_tools import reports
 from office_tools.addresses import read_named
@@ -63,7 +63,7 @@ class Names:
         return found if name.startswith(OF_SOURCE) else found | self.of_package.get(name, set())
 
 
-def names_of(suite: Union[reports.Unstable, reports.Testing]) -> Names:
+def names_of(suite: reports.Testing) -> Names:
     """The names of a suite. A source that a manager made up for old packages isn't one of the archive's."""
     of_package: dict[str, set[str]] = defaultdict(set)
     for row in suite.rows:

@@ -2,16 +2,15 @@
 import argparse
 import datetime
 import functools
-import os
 from typing import Mapping, Optional, Sequence
 
 from office_tools import days, faults
 from office_tools.accounts import service_at
-from office_tools.apply.managers import locked_for
-from office_tools.day.settings import Settings, read_settings
+from office_tools.day.settings import read_settings
 from office_tools.day.standing import Line, memory, standing, waiting
 from office_tools.day.steps import Ran, Steps
-from office_tools.faults import Exit, Fault, cause_of
+from office_tools.faults import Exit, Fault
+from office_tools.folders import locked, made
 from office_tools.service import Service
 
 NAME = "office-day"
@@ -43,15 +42,6 @@ def parser() -> argparse.ArgumentParser:
     words.add_argument("--without", action="append", default=[], choices=("bugs", "tests"),
                        help="leave out this step, as when its list can't be had; may be repeated")
     return words
-
-
-def prepared(settings: Settings) -> None:
-    """Makes the folder of what is remembered, and locks it against another day."""
-    try:
-        os.makedirs(settings.state, exist_ok=True)
-    except OSError as fault:
-        raise Fault(f"{settings.state}: {cause_of(fault)}", Exit.REFUSED) from fault
-    locked_for(settings.state, NAME)
 
 
 def patient(service: Service, patience: int) -> Sequence[Line]:
@@ -90,7 +80,7 @@ def main(words: Sequence[str]) -> int:
     asked = parser().parse_args(words)
     more = {step: getattr(asked, step) for step in STEPS}
     settings = read_settings(asked.conf, more, asked.without)
-    prepared(settings)
+    locked(made(settings.state), NAME)
     service = service_at(settings.url)
     today = asked.day or days.today()
     kept = memory(settings.state, today)

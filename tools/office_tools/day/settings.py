@@ -2,7 +2,6 @@
 import argparse
 import os
 import shlex
-import urllib.parse
 from dataclasses import dataclass, field
 from typing import Optional, Sequence
 
@@ -12,6 +11,7 @@ from office_tools.bugs import command as bugs
 from office_tools.counts import count
 from office_tools.faults import Exit, Fault
 from office_tools.files import read_bytes
+from office_tools.folders import cache_of
 from office_tools.messages import ParagraphFault, paragraphs
 from office_tools.service import DEFAULT_URL
 
@@ -116,5 +116,4 @@ def number(path: str, value: Optional[str]) -> int:
 
 def state_for(url: str) -> str:
     """The folder of what is remembered: the unit's, or one in the user's cache."""
-    caches = os.environ.get("XDG_CACHE_HOME") or os.path.expanduser("~/.cache")
-    return os.environ.get("STATE_DIRECTORY") or os.path.join(caches, "office-day", urllib.parse.quote(url, ""))
+    return os.environ.get("STATE_DIRECTORY") or cache_of("office-day", url)

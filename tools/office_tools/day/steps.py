@@ -2,14 +2,14 @@
 import functools
 import os
 import shutil
-import subprocess
 import sys
 from dataclasses import dataclass, field
 from typing import Callable, Optional, Sequence
 
+from office_tools import processes
 from office_tools.accounts import service_at
 from office_tools.day.settings import Settings
-from office_tools.faults import Exit, Fault, cause_of
+from office_tools.faults import Exit, Fault
 from office_tools.feed import mailbox
 
 
@@ -75,9 +75,7 @@ class Steps:
         """Brings the mail of this day into that folder, too, so that it is a backup of all mail."""
         service = service_at(self.settings.url)
         try:
-            folder = mailbox.folder_for(self.cache, service)
-            mailbox.locked(folder)
-            mailbox.fetch(service, folder)
+            mailbox.fetch(service, mailbox.folder_for(self.cache, service))
         except Fault as fault:
             return Ran("mail", Exit.FAILED, [], [fault.cause])
         return Ran("mail", Exit.DONE, [], [])
@@ -137,9 +135,5 @@ class Steps:
 
 def executed(name: str, words: Sequence[str]) -> Ran:
     """Runs a command to its end."""
-    try:
-        ran = subprocess.run(words, stdin=subprocess.DEVNULL, capture_output=True, check=False, text=True,
-                             errors="backslashreplace")
-    except OSError as fault:
-        raise Fault(f"{words[0]}: {cause_of(fault)}", Exit.FAILED) from fault
-    return Ran(name, ran.returncode, ran.stdout.splitlines(), ran.stderr.splitlines())
+    ran = processes.ended(words)
+    return Ran(name, ran.returncode, processes.text(ran.stdout).splitlines(), processes.text(ran.stderr).splitlines())

@@ -4,12 +4,12 @@ import datetime
 import email.utils
 import os
 import shutil
-import subprocess
 from dataclasses import dataclass, field
 from typing import Mapping, Optional, Sequence
 
 from debian import deb822
 
+from office_tools import processes
 from office_tools.faults import Exit, Fault, cause_of
 from office_tools.files import write_whole
 
@@ -103,13 +103,9 @@ def apt_options(folder: str) -> Sequence[str]:
 
 def apt(words: Sequence[str]) -> str:
     """What apt-get prints. If it fails, its first error is the `Fault`, with the way out if a key is missing."""
-    try:
-        ran = subprocess.run(["apt-get", *words], stdin=subprocess.DEVNULL, capture_output=True, check=False, text=True,
-                             errors="backslashreplace", env={**os.environ, "LC_ALL": "C"})
-    except OSError as fault:
-        raise Fault(f"apt-get: {cause_of(fault)}", Exit.FAILED) from fault
+    ran = processes.ended(["apt-get", *words], env=processes.english())
     if ran.returncode:
-        told = [line for line in ran.stderr.splitlines() if line.startswith("E:")]
+        told = [line for line in processes.text(ran.stderr).splitlines() if line.startswith("E:")]
         cause = told[0][2:].strip() if told else f"status {ran.returncode}"
         raise Fault("apt-get: " + (cause[:-1] + KEY if cause.endswith(UNSIGNED) else cause), Exit.FAILED)
-    return ran.stdout
+    return processes.text(ran.stdout)

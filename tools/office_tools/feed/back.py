@@ -12,25 +12,37 @@ from typing import Iterable, Iterator, Mapping, Optional, Sequence
 
 from office_tools import reports, versions
 from office_tools.apply import marks
+from office_tools.deciding import SOURCE
 from office_tools.feed.known import Known
-from office_tools.feed.told import Weight, tell
 from office_tools.from_packages.binaries import Binary, Key
+from office_tools.from_packages.due import Due
+from office_tools.from_packages.index import Index
+from office_tools.from_packages.told import Weight, tell
 
 
 @dataclass(frozen=True)
 class Archive:
-    """What the archive has in unstable, what the mail says, what the office's testing has, and the maintainers."""
+    """What the archive has in unstable, what the mail says, what the office's testing has, and what is due to it."""
 
-    sources: Mapping[str, str]
-    binaries: Sequence[Binary]
+    index: Index
     known: Known
     testing: reports.Testing
-    maintainers: Mapping[str, str] = field(default_factory=dict)
+    due: Due
+
+    @property
+    def sources(self) -> Mapping[str, str]:
+        """The version of each source."""
+        return self.index.sources
+
+    @property
+    def binaries(self) -> Sequence[Binary]:
+        """The packages."""
+        return self.index.binaries
 
     @functools.cached_property
-    def keys(self) -> frozenset[Key]:
-        """The packages of the archive."""
-        return frozenset(binary.key for binary in self.binaries)
+    def held(self) -> Mapping[Key, str]:
+        """The archive's version of each package that is in the office's testing."""
+        return {(row.package, row.architecture): marks.package_version(row.version) for row in self.testing.rows}
 
     def told_version(self, source: str) -> Optional[str]:
         """The archive's version that was last sent for a source, without marks."""
@@ -38,9 +50,9 @@ class Archive:
         return None if version is None else marks.source_version(version)
 
     def is_lower(self, source: str) -> bool:
-        """Whether the archive has less of a source than was sent."""
-        told = self.told_version(source)
-        return told is not None and versions.compare(self.sources[source], told) < 0
+        """Whether the archive has less of a source than was sent, and not the same version in other bytes."""
+        return (source, SOURCE) in self.due.left and \
+            versions.compare(self.sources[source], self.told_version(source) or "") < 0
 
     def is_above_testing(self, source: str) -> bool:
         """Whether the archive has a newer version of a source than testing."""
@@ -51,6 +63,10 @@ class Archive:
         """The archive's version of a source that is in the office's testing."""
         version = self.testing.sources.get(source)
         return None if version is None else marks.source_version(version)
+
+    def is_current(self, binary: Binary) -> bool:
+        """Whether a package was built of its source's version in the archive."""
+        return versions.compare(binary.source_version, self.sources[binary.source]) == 0
 
 
 @dataclass
@@ -98,83 +114,60 @@ class Retold:
 def came_back(archive: Archive, allowed: Sequence[str]) -> Retold:
     """What is sent again. `allowed` are the sources that may go back in testing."""
     found = Retold()
-    rows = by_source(archive.binaries)
-    live = archive.known.live
+    rows: dict[str, list[Binary]] = defaultdict(list)
+    for binary in archive.binaries:
+        rows[binary.source].append(binary)
     for source, version in sorted(archive.sources.items()):
-        told = archive.told_version(source)
-        if told is None or marks.is_made_up(source):
+        if source not in archive.known.versions or marks.is_made_up(source):
             continue
-        order = versions.compare(version, told)
-        own = rows.get(source, [])
-        if order < 0:
-            withdrawn(archive, found, Withdrawal(source, version, told, own, live), allowed)
-        elif order > 0 and versions.compare(version, archive.known.versions[source]) <= 0:
-            found.sources[source] = marks.back(archive.known.versions[source], version)
+        if archive.is_lower(source):
+            withdrawn(archive, found, source, rows[source], allowed)
+        elif (source, SOURCE) in archive.due.tells and not archive.known.is_above((source, SOURCE), version):
             found.again.add(source)
-            retell(archive, found, source, own)
-    alone(archive, found, live)
+            retell(archive, found, source, rows[source])
+    alone(archive, found)
     return found
 
 
-@dataclass(frozen=True)
-class Withdrawal:
-    """A source with less in the archive than was sent, its packages there, and what was sent and not dropped."""
-
-    source: str
-    version: str
-    told: str
-    own: Sequence[Binary]
-    live: Mapping[Key, str]
-
-    @property
-    def has_lower(self) -> bool:
-        """Whether the archive has a package at a lower version than was sent."""
-        return any(binary.key in self.live and versions.compare(
-            binary.version, marks.package_version(self.live[binary.key])) < 0 for binary in self.own)
-
-
-def withdrawn(archive: Archive, found: Retold, gone: Withdrawal, allowed: Sequence[str]) -> None:
+def withdrawn(archive: Archive, found: Retold, source: str, own: Sequence[Binary], allowed: Sequence[str]) -> None:
     """Sends the older version if testing is to have it; else what was withdrawn is dropped."""
-    source, version, told = gone.source, gone.version, gone.told
-    held = archive.held_version(source)
+    version, told, held = archive.sources[source], archive.told_version(source), archive.held_version(source)
     is_ahead = held is not None and versions.compare(held, version) > 0
     if is_ahead and source not in allowed:
         tell(f"source {source}: testing has {held}, and unstable has {version} only: if testing is to go back, allow "
              f"it by --back {source}", Weight.STANDS)
     if held is not None and versions.compare(held, version) == 0 or is_ahead and source not in allowed:
-        if gone.has_lower:
+        if any(binary.key in archive.due.drops for binary in own):
             tell(f"source {source} {told}: it was withdrawn, and is dropped; unstable has {version}", Weight.ONCE)
         return
-    found.sources[source] = marks.back(archive.known.versions[source], version)
     if is_ahead:
         found.urgent.add(source)
-    retell(archive, found, source, gone.own)
+    retell(archive, found, source, own)
     found.lines[source] = f"source {source} {told}: it was withdrawn: {version} is sent as {found.sources[source]}"
 
 
 def retell(archive: Archive, found: Retold, source: str, own: Iterable[Binary]) -> None:
-    """Sends all packages of a source again that are built of its version in the archive."""
+    """Sends a source again, and all its packages that are built of its version in the archive."""
+    found.sources[source] = marks.back(archive.known.versions[source], archive.sources[source])
     for binary in own:
-        if versions.compare(binary.source_version, archive.sources[source]) == 0:
-            bound = archive.known.bound(binary.key)
-            if bound and versions.compare(binary.version, bound) <= 0:
-                found.packages[binary.key] = marks.back(bound, binary.version)
+        if archive.is_current(binary) and not archive.known.is_above(binary.key, binary.version):
+            found.packages[binary.key] = marks.back(archive.known.bound(binary.key), binary.version)
 
 
-def alone(archive: Archive, found: Retold, live: Mapping[Key, str]) -> None:
+def alone(archive: Archive, found: Retold) -> None:
     """Packages that were dropped and are back, or that the archive has less of, though not of their source.
 
     They are sent again, unless testing has them all the same.
     """
-    held = {(row.package, row.architecture): marks.package_version(row.version) for row in archive.testing.rows}
+    known, live = archive.known, archive.known.live
     for binary in archive.binaries:
-        key, bound = binary.key, archive.known.bound(binary.key)
-        if not bound or key in found.packages or archive.known.staying.get(key) == bound:
+        key, bound = binary.key, known.bound(binary.key)
+        if key in found.packages or known.is_above(key, binary.version) or known.staying.get(key) == bound:
             continue
         told = marks.package_version(bound) if key in live else ""
-        if binary.version == told or versions.compare(binary.version, bound) > 0 or archive.is_lower(binary.source):
+        if binary.version == told or archive.is_lower(binary.source):
             continue
-        if held.get(key) == binary.version and not (told and versions.compare(binary.version, told) >= 0):
+        if archive.held.get(key) == binary.version and not (told and versions.compare(binary.version, told) >= 0):
             continue
         found.packages[key] = marks.back(bound, binary.version)
         found.alone[key] = f"{binary.name} {binary.architecture} {binary.version}: it is back below {bound}, which " \
@@ -206,11 +199,3 @@ def strange_needs(binaries: Sequence[Binary], packages: Mapping[Key, str]) -> It
                 for key in names.get(part.name, ()):
                     if part.is_met_by(packages[key]) and not part.is_met_by(own[key]):
                         yield key, f"{binary.name} {binary.version} needs {part}"
-
-
-def by_source(binaries: Sequence[Binary]) -> Mapping[str, list[Binary]]:
-    """The packages of each source."""
-    found: dict[str, list[Binary]] = defaultdict(list)
-    for binary in binaries:
-        found[binary.source].append(binary)
-    return found

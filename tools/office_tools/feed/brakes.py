@@ -6,10 +6,10 @@ import re
 from dataclasses import dataclass
 from typing import Collection, Iterator, Mapping, Optional, Sequence
 
-from office_tools import relations, reports, versions
-from office_tools.apply import marks
-from office_tools.faults import Exit, Fault
+from office_tools import relations
+from office_tools.faults import Exit, Fault, some
 from office_tools.feed.archive import Release
+from office_tools.feed.back import Archive
 from office_tools.feed.mailbox import Mailbox
 from office_tools.from_packages.binaries import Binary, Key, binary_of
 from office_tools.from_packages.suites import Suite
@@ -89,43 +89,33 @@ def date_of(text: str) -> Optional[datetime.datetime]:
 
 @dataclass(frozen=True)
 class Gone:
-    """The packages that would be dropped, those sent and not dropped, and what the archive and testing have.
-
-    `sources` has each source's version in the archive.
-    """
+    """The packages that would be dropped, and what the archive and testing have."""
 
     dropped: Mapping[Key, str]
-    told: int
-    binaries: Sequence[Binary]
-    sources: Mapping[str, str]
-    testing: reports.Testing
+    archive: Archive
 
     def check(self, box: Mailbox, allowed: int) -> None:
         """Refuses drops of many packages, and of one that others need, unless this number of packages is allowed."""
         count = len(self.dropped)
         if not count or count <= allowed:
             return
-        names = ", ".join(f"{name} {architecture}" for name, architecture in sorted(self.dropped)[:SHOWN])
-        more = f" and {count - SHOWN} more" if count > SHOWN else ""
+        names = some(list(map(" ".join, sorted(self.dropped))), SHOWN)
         way = f"if this is meant, allow it by --gone {count}"
-        if count > MOST_GONE and count * 100 > self.told * MOST_PERCENT:
-            raise Fault(f"{count} of {self.told} packages are gone from the archive: {names}{more}: {way}",
-                        Exit.REFUSED)
+        told = len(self.archive.known.live)
+        if count > MOST_GONE and count * 100 > told * MOST_PERCENT:
+            raise Fault(f"{count} of {told} packages are gone from the archive: {names}: {way}", Exit.REFUSED)
         broken = list(self.broken(box))
         if broken:
-            others = f" and {len(broken) - 1} more" if len(broken) > 1 else ""
-            raise Fault(f"{names}{more}: gone from the archive, and needed by {broken[0]}{others}: {way}", Exit.REFUSED)
+            raise Fault(f"{names}: gone from the archive, and needed by {some(broken, 1)}: {way}", Exit.REFUSED)
 
     def broken(self, box: Mailbox) -> Iterator[str]:
         """The packages of testing that unstable still has, and that can't be installed there without what is gone.
 
         A package replaced by a newer version of its own source is no slip, so it isn't among what is gone.
         """
-        lost = self.needed(box)
-        architectures = sorted({binary.architecture for binary in self.binaries} - {"all"})
-        held = {(row.package, row.architecture): marks.package_version(row.version) for row in self.testing.rows}
-        for architecture in architectures if lost else []:
-            own = [binary for binary in self.binaries if binary.architecture in (architecture, "all")]
+        lost, held = self.needed(box), self.archive.held
+        for architecture in sorted(self.archive.index.architectures) if lost else []:
+            own = [binary for binary in self.archive.binaries if binary.architecture in (architecture, "all")]
             back = [binary for binary in lost if binary.architecture in (architecture, "all")]
             if not back:
                 continue
@@ -136,16 +126,10 @@ class Gone:
 
     def needed(self, box: Mailbox) -> Sequence[Binary]:
         """The packages that are gone, are in testing, and are of no source that has a newer version in the archive."""
-        sources = {(row.package, row.architecture): row.source for row in self.testing.rows}
-        keys = {key for key in self.dropped if key in sources and not self.is_newer(sources[key])}
+        sources = {(row.package, row.architecture): row.source for row in self.archive.testing.rows}
+        keys = {key for key in self.dropped if key in sources and not self.archive.is_above_testing(sources[key])}
         return list({binary.key: binary for binary in packages_named(box, {name for name, _ in keys})
                      if binary.key in keys and binary.version == self.dropped[binary.key]}.values())
-
-    def is_newer(self, source: str) -> bool:
-        """Whether the archive has a newer version of a source than testing."""
-        version, held = self.sources.get(source), self.testing.sources.get(source)
-        return version is not None and (
-            held is None or versions.compare(version, marks.source_version(held)) > 0)
 
 
 def packages_named(box: Mailbox, names: Collection[str]) -> Iterator[Binary]:

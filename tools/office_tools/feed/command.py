@@ -10,21 +10,24 @@ from office_tools import days
 from office_tools.accounts import service_at
 from office_tools.bags import framed
 from office_tools.faults import Exit, Fault
-from office_tools.feed import archive, brakes, due, mailbox, restoring
-from office_tools.feed.indexes import Indexes, indexes_in
+from office_tools.feed import archive, brakes, mailbox, restoring
+from office_tools.feed.back import Archive
+from office_tools.feed.indexes import indexes_in
 from office_tools.feed.known import Known
 from office_tools.feed.mailbox import Mailbox, Outgoing
 from office_tools.feed.memory import ChangesRead, Memory, remembered
-from office_tools.feed.news import BUILDS, HINTS, UPLOADS, News, Told, Unstable, Ways, news
+from office_tools.feed.news import News, Ways, news
 from office_tools.feed.sending import Sending, check_architectures
-from office_tools.feed.told import Lines, Weight, tell
+from office_tools.feed.told import Lines
 from office_tools.feed.words import parser
 from office_tools.files import write_whole
-from office_tools.from_packages import proposals
-from office_tools.from_packages.binaries import fitting, read_binaries
-from office_tools.from_packages.sources import Arrival, Arrivals, read_arrivals, read_sources
-from office_tools.messages import Urgency
-from office_tools.senders import runs_sender
+from office_tools.from_packages.due import Lists, lists_of
+from office_tools.from_packages.index import Index, read_index
+from office_tools.from_packages.mail import proposal
+from office_tools.from_packages.sources import Arrival, Arrivals, read_arrivals
+from office_tools.from_packages.told import Weight, tell
+from office_tools.messages import Urgency, numbered
+from office_tools.senders import BUILDS, HINTS, UPLOADS, runs_sender
 from office_tools.service import Kept, Service
 
 OWN = (UPLOADS, BUILDS, HINTS)
@@ -86,12 +89,8 @@ class Feed:
 
     def proposals(self, day: datetime.date) -> Sequence[bytes]:
         """Hints for the groups that the office proposes, without those in force."""
-        wishes = (self.service.proposed(day) or "").splitlines()
-        standing: dict[int, str] = {}
-        for item in self.service.hints().items:
-            standing[item.number] = f"{standing.get(item.number, item.words)} {item.item}"
-        new = [wish for wish in wishes if wish not in standing.values()]
-        return list(proposals.letters(new, HINTS, self.service.kept()[HINTS].unbroken, day.isoformat()))
+        wishes = [proposal(wish, day.isoformat()) for wish in self.service.new_proposals(day)]
+        return numbered(HINTS, self.service.kept()[HINTS].unbroken, wishes)
 
     def propose(self, day: datetime.date, is_asked: Optional[bool]) -> None:
         """Mails hints for the groups that the office proposes, and orders a run over them if runs are ordered."""
@@ -107,15 +106,14 @@ class Feed:
         print(f"proposed {len(hints)}, in {path}")
 
 
-def unstable_of(files: archive.Files, indexes: Indexes) -> Unstable:
+def unstable_of(files: archive.Files, folder: str) -> Index:
     """What the indexes have."""
-    found, architectures = read_binaries(files.packages, indexes.sections)
-    if not architectures:
+    indexes = indexes_in(folder)
+    found = read_index(files.packages, files.sources, indexes.sections)
+    if not found.architectures:
         raise Fault("the indexes have no package", Exit.REFUSED)
-    binaries = list(fitting(found))
-    sources = read_sources(files.sources, binaries, indexes.sections)
     indexes.write()
-    return Unstable(sources.versions, binaries, architectures, sources.maintainers)
+    return found
 
 
 @dataclass(frozen=True)
@@ -137,16 +135,15 @@ class Turn:
             archive.Files(asked.packages, asked.sources)
         if not asked.other_release:
             brakes.check_releases(files.releases, self.memory.releases)
-        unstable = unstable_of(files, indexes_in(self.folder))
+        unstable = unstable_of(files, self.folder)
         feed = self.feed(unstable)
         if not asked.dry_run:
             feed.settle()
-        told = Told(self.service.testing(), self.service.hints(), self.lists(unstable, feed.box.known).due())
-        ways = Ways(self.day.isoformat(), self.arrivals(feed), asked.rebuilds, asked.smooth,
-                    asked.back)
-        found, gone = news(unstable, feed.box, told, ways)
-        brakes.Gone(gone, len(feed.box.known.live), unstable.binaries, unstable.sources, told.testing).check(
-            feed.box, asked.gone)
+        known = feed.box.known
+        there = Archive(unstable, known, self.service.testing(), self.lists(unstable, known).due())
+        ways = Ways(self.day.isoformat(), self.arrivals(feed), asked.rebuilds, asked.smooth, asked.back)
+        found, gone = news(there, feed.box, self.service.hints(), ways)
+        brakes.Gone(gone, there).check(feed.box, asked.gone)
         if asked.dry_run:
             sys.stdout.buffer.write(found.bag())
             tell(found.summary(), Weight.NOTE)
@@ -158,11 +155,11 @@ class Turn:
                self.changes.now).write(self.folder)
         return int(self.lines.is_standing)
 
-    def lists(self, unstable: Unstable, known: Known) -> due.Lists:
+    def lists(self, unstable: Index, known: Known) -> Lists:
         """The lists of the office's unstable, over all mail, and of the archive."""
-        return due.lists_of(self.service.unstable(), unstable.sources, unstable.binaries, known.dropped)
+        return lists_of(self.service.unstable(), unstable.sources, unstable.binaries, known.dropped)
 
-    def feed(self, unstable: Unstable) -> Feed:
+    def feed(self, unstable: Index) -> Feed:
         """The office, with all mail that it keeps, once nothing keeps this feed from being sent."""
         asked = self.asked
         box = mailbox.fetch(self.service, self.folder)
@@ -183,7 +180,7 @@ class Turn:
             return found
         return {upload: replace(arrival, day=self.day.isoformat()) for upload, arrival in found.items()}
 
-    def send(self, feed: Feed, found: News, unstable: Unstable) -> None:
+    def send(self, feed: Feed, found: News, unstable: Index) -> None:
         """Sends what is new, and orders the runs, unless unstable then has what the archive lost."""
         asked = self.asked
         sent = feed.sending.send(found.texts)
@@ -208,7 +205,6 @@ def main(words: Sequence[str]) -> int:
     day = asked.day or days.today()
     service = service_at(asked.url)
     folder = mailbox.folder_for(asked.cache, service)
-    mailbox.locked(folder)
     memory = remembered(folder)
     lines = Lines(day, memory.lines, asked.all_lines)
     lines.take_over()

@@ -2,16 +2,22 @@
 import contextlib
 import datetime
 import json
+import re
 from dataclasses import dataclass, field
 from typing import Any, Mapping, Sequence
 
-from office_tools import days, messages, versions
+from office_tools import bags, days, versions
 from office_tools.apply import marks
+from office_tools.deciding import SOURCE
 from office_tools.faults import Fault
 from office_tools.from_packages.binaries import Key
-from office_tools.from_packages.sent import key_of, needed
 from office_tools.from_packages.sources import put_newer
-from office_tools.messages import Kind, Label, Paragraph, kind_of, paragraphs
+from office_tools.from_packages.told import tell
+from office_tools.messages import Kind, Label, Paragraph, kind_of, label_of_first, paragraphs
+from office_tools.orders import stated_covers
+from office_tools.senders import HINTS
+
+SPARE = re.compile(r"again[1-9][0-9]*")
 
 FORM = 2
 """The number of the form in which it is kept. A file of another form is read no more."""
@@ -53,15 +59,24 @@ class Known:
         return datetime.date.fromisoformat(self.last_day) if self.last_day else datetime.date.min
 
     def bound(self, key: Key) -> str:
-        """The version above which a package has to be sent so that it counts; an empty text if there is none."""
+        """The version above which a package or a source has to be sent so that it counts; an empty text if there is
+        none.
+        """
+        if key[1] == SOURCE:
+            return self.versions.get(key[0], "")
         told, dropped = self.packages.get(key, ""), self.dropped.get(key, "")
         return told if told and (not dropped or versions.compare(told, dropped) > 0) else dropped
+
+    def is_above(self, key: Key, version: str) -> bool:
+        """Whether a package or a source counts if it is sent under this version."""
+        bound = self.bound(key)
+        return not bound or versions.compare(version, bound) > 0
 
     def letters(self) -> Sequence[tuple[int, Paragraph]]:
         """The first paragraphs of the release team's messages, by number."""
         return [(number, next(paragraphs(text.encode()))) for number, text in sorted(self.hints.items())]
 
-    def take(self, label: Label, text: bytes, is_spare: bool, is_hint: bool) -> None:
+    def take(self, label: Label, text: bytes) -> None:
         """Takes the next message of a sender on. A text that no office keeps is a `Fault` or a `ValueError`."""
         first, *others = paragraphs(text)
         kind = kind_of(first)
@@ -69,28 +84,27 @@ class Known:
             put_newer(self.versions, needed(first, "Source"), needed(first, "Version"))
         elif kind is Kind.BUILD:
             for paragraph in others:
-                self.take_package(label, paragraph, is_spare)
+                self.take_package(label, paragraph)
         elif kind is Kind.DROP:
             put_newer(self.dropped, key_of(first), needed(first, "Version"))
         elif kind is Kind.RUN:
             self.last_day = max(self.last_day, days.day(needed(first, "Day")).isoformat())
-            for item in needed(first, "Covers").split(","):
-                sender, number = (item.split() + ["", "0"])[:2]
-                self.covers[sender] = max(self.covers.get(sender, 0), int(number))
+            for sender, number in stated_covers(first).items():
+                self.covers[sender] = max(self.covers.get(sender, 0), number)
         elif kind is Kind.UNHINT:
             int(needed(first, "Cancels"))
         elif kind is Kind.DELAYS:
             self.low_days = int(needed(first, "Low"))
-        if is_hint:
+        if label.sender == HINTS:
             self.hints[label.number] = text.decode()
-        self.taken[label.sender] = label.number
+        self.taken[label.sender] = max(self.taken.get(label.sender, 0), label.number)
         self.ends.setdefault(label.sender, [text.decode()])[1:] = [text.decode()]
 
-    def take_package(self, label: Label, paragraph: Paragraph, is_spare: bool) -> None:
+    def take_package(self, label: Label, paragraph: Paragraph) -> None:
         """Takes a package of a build on."""
         key, version = key_of(paragraph), needed(paragraph, "Version")
         put_newer(self.packages, key, version)
-        if is_spare:
+        if SPARE.fullmatch(label.sender):
             self.retold.setdefault((key, version), set()).add(label.sender)
         if marks.is_made_up((paragraph.value("Source") or "").split(" ", 1)[0]):
             put_newer(self.staying, key, version)
@@ -140,4 +154,35 @@ def pair_of(words: str) -> Key:
 
 def first_of(text: bytes) -> Paragraph:
     """The first paragraph of a message; an empty one if there is none."""
-    return next(paragraphs(text), messages.Paragraph(1, ()))
+    return next(paragraphs(text), Paragraph(1, ()))
+
+
+def key_of(paragraph: Paragraph) -> Key:
+    """The package that a paragraph names, and its architecture."""
+    return needed(paragraph, "Package"), needed(paragraph, "Architecture")
+
+
+def needed(paragraph: Paragraph, name: str) -> str:
+    """The value of a field that each message of its kind has."""
+    value = paragraph.value(name)
+    if value is None:
+        raise Fault(f"it has no field {name}")
+    return value
+
+
+def sent_in(path: str, bag: bytes) -> Known:
+    """What was sent by a bag. A text that is no message took no number, and is reported."""
+    found = Known()
+    try:
+        for place, text in enumerate(bags.messages_in(bag), 1):
+            try:
+                first = first_of(text)
+                label = label_of_first(first)
+                if label is None or kind_of(first) is None:
+                    raise Fault("it is no message")
+                found.take(label, text)
+            except (Fault, ValueError) as fault:
+                tell(f"{path}: message {place}: left out: {fault}")
+    except bags.BagFault as fault:
+        raise Fault(f"{path}: {fault.cause}") from fault
+    return found

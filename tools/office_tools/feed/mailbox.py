@@ -3,11 +3,8 @@
 The folder's bag is a backup of the office's mail, too. It only grows: a message is appended once.
 """
 import contextlib
-import fcntl
 import hashlib
 import os
-import re
-import urllib.parse
 from dataclasses import dataclass, field
 from typing import Iterator, Mapping, Optional, Sequence
 
@@ -15,38 +12,23 @@ from office_tools import bags
 from office_tools.faults import Exit, Fault, cause_of
 from office_tools.feed import known
 from office_tools.feed.known import Known
-from office_tools.feed.told import Weight, tell
+from office_tools.feed.told import NAME
 from office_tools.files import read_bytes, write_whole
+from office_tools.folders import cache_of, locked, made
+from office_tools.from_packages.told import Weight, tell
 from office_tools.letters import letters
 from office_tools.messages import label_of
 from office_tools.service import Kept, Service
 
 BAG, OUTGOING, KNOWN = "bag", "outgoing", "known.json"
-HINTS = "rt"
-SPARE = re.compile(r"again[1-9][0-9]*")
 SHOWN = 5  # senders that a fault names
 
 
 def folder_for(asked: Optional[str], service: Service) -> str:
-    """The folder of what is remembered of an office; it is made if there is none."""
-    caches = os.environ.get("XDG_CACHE_HOME") or os.path.expanduser("~/.cache")
-    # apt takes a name that doesn't begin at the root as one below its own folder.
-    place = os.path.abspath(asked or os.path.join(caches, "office-feed", urllib.parse.quote(service.url, "")))
-    try:
-        os.makedirs(place, exist_ok=True)
-    except OSError as fault:
-        raise Fault(f"{place}: {cause_of(fault)}", Exit.REFUSED) from fault
+    """The folder of what is remembered of an office, locked against another office-feed."""
+    place = made(asked or cache_of(NAME, service.url))
+    locked(place, NAME, " for this office")
     return place
-
-
-def locked(folder: str) -> int:
-    """Locks the folder against another office-feed, until this process ends."""
-    number = os.open(folder, os.O_RDONLY)
-    try:
-        fcntl.flock(number, fcntl.LOCK_EX | fcntl.LOCK_NB)
-    except OSError as fault:
-        raise Fault(f"{folder}: another office-feed works for this office", Exit.REFUSED) from fault
-    return number
 
 
 @dataclass
@@ -181,7 +163,7 @@ def take(found: Known, text: bytes) -> None:
     if label is None:
         raise Fault("it has a text that is no message")
     if label.number == found.taken.get(label.sender, 0) + 1:
-        found.take(label, text, bool(SPARE.fullmatch(label.sender)), label.sender == HINTS)
+        found.take(label, text)
 
 
 def fetch(service: Service, folder: str) -> Mailbox:

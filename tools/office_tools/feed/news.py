@@ -1,6 +1,7 @@
 """What is new in an archive since the office's kept mail: the messages on it."""
 import dataclasses
 import datetime
+import functools
 from collections import Counter
 from dataclasses import dataclass, field
 from typing import Iterator, Mapping, Optional, Sequence
@@ -8,35 +9,25 @@ from typing import Iterator, Mapping, Optional, Sequence
 from office_tools import days, messages, reports, versions
 from office_tools.apply import marks
 from office_tools.bags import framed
+from office_tools.deciding import SOURCE
 from office_tools.faults import Exit, Fault
 from office_tools.feed.back import Archive, Retold, came_back, without_strange
 from office_tools.feed.brakes import packages_named
-from office_tools.feed.due import Due
 from office_tools.feed.known import Known, first_of
 from office_tools.feed.mailbox import Mailbox
 from office_tools.feed.rebuilds import Rebuilds, rebuilds
 from office_tools.feed.smooth import left_behind, stay
-from office_tools.feed.told import Weight, tell
 from office_tools.from_packages import mail
 from office_tools.from_packages.binaries import Binary, Key
-from office_tools.from_packages.proposals import PROPOSED
+from office_tools.from_packages.index import Index
+from office_tools.from_packages.mail import PROPOSED
 from office_tools.from_packages.sources import Arrival, Arrivals
-from office_tools.messages import Kind, Label, Paragraph, Urgency, kind_of
+from office_tools.messages import Kind, Made, Paragraph, Urgency, kind_of, numbered
 from office_tools.reports import ItemStanding
+from office_tools.senders import BUILDS, HINTS, UPLOADS
 
-UPLOADS, BUILDS, HINTS = "ftp", "bd", "rt"
 GONE = "Gone"
 """A field that the office doesn't read: it marks the hints that this command sends, so that it knows them again."""
-
-
-@dataclass(frozen=True)
-class Unstable:
-    """What the archive has in unstable: each source's version, the binary packages, and who maintains the sources."""
-
-    sources: Mapping[str, str]
-    binaries: Sequence[Binary]
-    architectures: Sequence[str]
-    maintainers: Mapping[str, str] = field(default_factory=dict)
 
 
 @dataclass(frozen=True)
@@ -74,15 +65,6 @@ class News:
 
 
 @dataclass(frozen=True)
-class Told:
-    """What the office says of testing, and of the hints in force; and what is due to it."""
-
-    testing: reports.Testing
-    hints: reports.Hints
-    due: Due
-
-
-@dataclass(frozen=True)
 class Ways:
     """The day of the feed, how uploads came, and what it may do: send rebuilds, and let these sources go back."""
 
@@ -93,76 +75,63 @@ class Ways:
     back: Sequence[str] = ()
 
 
-def news(unstable: Unstable, box: Mailbox, told: Told, ways: Ways) -> tuple[News, Mapping[Key, str]]:
+def news(archive: Archive, box: Mailbox, hints: reports.Hints, ways: Ways) -> tuple[News, Mapping[Key, str]]:
     """What the archive has and the mail doesn't say; and the packages that are gone, for the brakes."""
-    look_at(unstable, box)
-    archive = Archive(unstable.sources, unstable.binaries, box.known, told.testing, unstable.maintainers)
+    known, testing = archive.known, archive.testing
+    look_at(archive.index, known)
     retold = came_back(archive, ways.back)
     again = rebuilds(archive, box, retold) if ways.with_rebuilds else Rebuilds()
     staying = stay(archive, box, retold, again) if ways.is_smooth else set()
     without_strange(archive, retold)
     retold.tell()
     found = News()
-    found.uploads = list(uploads(archive, box, retold, ways))
-    lost = {key: box.known.bound(key) for key in told.due.drops if key not in {*retold.packages, *staying}}
-    gone = {key: version for key, version in lost.items() if key not in archive.keys}
-    removals = list(standing(box.known))
+    last = {sender: known.taken.get(sender, 0) for sender in (UPLOADS, BUILDS, HINTS)}
+    found.uploads = numbered(UPLOADS, last[UPLOADS], uploads(archive, box, retold, ways))
+    lost = {key: known.bound(key) for key in archive.due.drops if key not in {*retold.packages, *staying}}
+    there = {binary.key for binary in archive.binaries}
+    gone = {key: version for key, version in lost.items() if key not in there}
+    removals = list(standing(known))
     done = [removal.source for removal in removals if removal.is_own and marks.is_made_up(removal.source)
-            and removal.source not in told.testing.sources]
-    dropped = sorted({**lost, **left_behind(box, done)}.items())
-    found.drops = [messages.drop(Label(UPLOADS, number), name, architecture, version)
-                   for number, ((name, architecture), version)
-                   in enumerate(dropped, box.known.taken.get(UPLOADS, 0) + len(found.uploads) + 1)]
+            and removal.source not in testing.sources]
+    found.drops = numbered(UPLOADS, last[UPLOADS] + len(found.uploads),
+                           mail.drops({**lost, **left_behind(box, done)}))
     found.builds = [*again.builds(box, retold),
-                    *mail.builds_of([*packages(archive, retold, again.keys), *retold.extra],
-                                    box.known.taken.get(BUILDS, 0))]
-    number = box.known.taken.get(HINTS, 0)
-    left = leaving(unstable, told.testing, box, ways.is_smooth)
-    found.hints = list(removal_hints(left, told.testing, removals, number))
-    back = [*taken_back(unstable, told.testing, removals, box.known.versions), *spent(box.known, told.hints)]
-    found.unhints = [messages.unhint(Label(HINTS, after), hint)
-                     for after, hint in enumerate(back, number + len(found.hints) + 1)]
+                    *mail.builds([*packages(archive, retold, again.keys), *retold.extra], last[BUILDS])]
+    left = leaving(archive, box, ways.is_smooth)
+    found.hints = numbered(HINTS, last[HINTS], removal_hints(left, testing, removals))
+    back = [*taken_back(archive, removals), *spent(known, hints)]
+    found.unhints = numbered(HINTS, last[HINTS] + len(found.hints), (
+        functools.partial(messages.unhint, cancels=hint) for hint in back))
     return found, gone
 
 
-def look_at(unstable: Unstable, box: Mailbox) -> None:
+def look_at(index: Index, known: Known) -> None:
     """Refuses indexes without an architecture that the mail names."""
-    counted = Counter(architecture for _, architecture in box.known.live)
-    lacking = sorted(set(counted) - set(unstable.architectures) - {"all"})
+    counted = Counter(architecture for _, architecture in known.live)
+    lacking = sorted(set(counted) - set(index.architectures) - {"all"})
     if lacking:
         raise Fault(f"the indexes have no package of {', '.join(lacking)}, and the office was sent "
                     f"{counted[lacking[0]]} of {lacking[0]}: all would be dropped", Exit.REFUSED)
 
 
-def uploads(archive: Archive, box: Mailbox, retold: Retold, ways: Ways) -> Iterator[bytes]:
+def uploads(archive: Archive, box: Mailbox, retold: Retold, ways: Ways) -> Iterator[Made]:
     """An upload of each source that is new, or that is sent again under another version."""
-    for name in sorted(set(box.known.versions) - set(archive.sources)):
-        if not marks.is_made_up(name):
-            tell(f"source {name} {box.known.versions[name]}: it is gone, and nothing takes an upload back", Weight.NOTE)
-    number = box.known.taken.get(UPLOADS, 0)
-    others = mail.by_source(ways.known)
+    known, due = archive.known, archive.due.tells
+    mail.tell_gone(known, archive.sources)
+    coming = mail.Uploading(ways.known, Arrival(Urgency.MEDIUM, ways.day), archive.index.maintainers)
     for name, version in sorted(archive.sources.items()):
-        told = archive.told_version(name)
-        if name not in retold.sources and (told is None or versions.compare(version, told) > 0):
-            arrival: Optional[Arrival] = arrival_of(name, version, ways)
-            other = mail.replaced(others.get(name, {}), version, told)
-            if other is not None:
-                number += 1
-                yield mail.more_urgent(Label(UPLOADS, number), name, other, others[name][other])
+        made_up = retold.sources.get(name)
+        if made_up is None:
+            if (name, SOURCE) in due and known.is_above((name, SOURCE), version):
+                yield from coming.uploads(name, version, archive.told_version(name))
         elif name in retold.urgent:
-            arrival = long_ago(ways.day, box.known.low_days)
+            yield coming.upload(name, made_up, long_ago(ways.day, known.low_days))
         else:
-            is_once_more = name in retold.sources and name not in retold.again
-            first = first_arrival(box, name, version) if is_once_more else None
-            arrival = first or arrival_of(name, version, ways) if name in retold.sources else None
-        if arrival is not None:
-            number += 1
-            yield messages.upload(Label(UPLOADS, number), name, retold.sources.get(name, version), arrival.urgency,
-                                  arrival.day, archive.maintainers.get(name))
+            first = None if name in retold.again else first_arrival(box, name, version)
+            yield coming.upload(name, made_up, first or coming.arrival(name, version))
     for name, version in sorted(retold.staying.items()):
-        if archive.known.versions.get(name) != version:
-            number += 1
-            yield messages.upload(Label(UPLOADS, number), name, version, Urgency.CRITICAL, ways.day)
+        if known.versions.get(name) != version:
+            yield coming.upload(name, version, Arrival(Urgency.CRITICAL, ways.day))
 
 
 def long_ago(day: str, wait: int) -> Arrival:
@@ -171,11 +140,6 @@ def long_ago(day: str, wait: int) -> Arrival:
     """
     first, today = datetime.date(days.FIRST_YEAR, 1, 1), datetime.date.fromisoformat(day)
     return Arrival(Urgency.LOW, (today - datetime.timedelta(min(wait, (today - first).days))).isoformat())
-
-
-def arrival_of(name: str, version: str, ways: Ways) -> Arrival:
-    """How a source came that the feed sees for the first time."""
-    return ways.known.get((name, version), Arrival(Urgency.MEDIUM, ways.day))
 
 
 def first_arrival(box: Mailbox, name: str, version: str) -> Optional[Arrival]:
@@ -192,16 +156,15 @@ def first_arrival(box: Mailbox, name: str, version: str) -> Optional[Arrival]:
 
 def packages(archive: Archive, retold: Retold, others: set[Key]) -> Iterator[Binary]:
     """The packages that are new, or sent again, as they are sent; without those from other senders."""
+    known = archive.known
     for binary in archive.binaries:
-        source = retold.sources.get(binary.source)
-        last = archive.known.versions.get(binary.source, "")
-        is_current = versions.compare(binary.source_version, archive.sources[binary.source]) == 0
+        key, source = binary.key, retold.sources.get(binary.source)
+        last = known.versions.get(binary.source, "")
         if source is None and marks.is_back(last) and is_same(marks.source_version(last), binary.source_version):
             source = last
-        bound = archive.known.bound(binary.key)
-        is_new = not bound or versions.compare(binary.version, bound) > 0
-        if binary.key not in others and (binary.key in retold.packages or is_new):
-            yield retold.told(binary, retold.under.get(binary.key) or (source if is_current else None))
+        is_new = key in archive.due.tells and known.is_above(key, binary.version)
+        if key not in others and (key in retold.packages or is_new):
+            yield retold.told(binary, retold.under.get(key) or (source if archive.is_current(binary) else None))
 
 
 def standing(known: Known) -> Iterator[Removal]:
@@ -222,19 +185,20 @@ def removals_of(number: int, first: Paragraph) -> Iterator[Removal]:
             yield Removal(number, source, version, first.value(GONE) is not None)
 
 
-def removal_hints(sources: Sequence[str], testing: reports.Testing, removals: Sequence[Removal],
-                  after: int) -> Iterator[bytes]:
+def removal_hints(sources: Sequence[str], testing: reports.Testing, removals: Sequence[Removal]) -> Iterator[Made]:
     """A hint for each of these sources, in this order, unless one in force takes it out."""
-    number = after
     for source in sources:
         version = testing.sources[source]
         if not any(removal.source == source and is_same(removal.version, version) for removal in removals):
-            number += 1
-            yield messages.composed([("From", HINTS), ("Number", str(number)), ("Kind", Kind.HINT.value),
-                                     ("Hint", f"remove {source}/{version}"), (GONE, f"{source} {version}")])
+            yield removal_of(source, version)
 
 
-def leaving(unstable: Unstable, testing: reports.Testing, box: Mailbox, is_smooth: bool) -> Sequence[str]:
+def removal_of(source: str, version: str) -> Made:
+    """The hint for a source that is gone from unstable."""
+    return functools.partial(messages.hint, wish=f"remove {source}/{version}", more=[(GONE, f"{source} {version}")])
+
+
+def leaving(archive: Archive, box: Mailbox, is_smooth: bool) -> Sequence[str]:
     """The sources that are in testing and gone from unstable, those first that no other one of them needs.
 
     Sources of packages that stay are among them, if this command takes care of them: the office refuses to remove one
@@ -242,9 +206,10 @@ def leaving(unstable: Unstable, testing: reports.Testing, box: Mailbox, is_smoot
 
     A run takes each hint to remove a source once, by number. Sources that need each other are in order of names.
     """
-    left = sorted(source for source, version in testing.sources.items() if source not in unstable.sources
+    testing = archive.testing
+    left = sorted(source for source, version in testing.sources.items() if source not in archive.sources
                   and (is_smooth or not marks.is_made_up(source))
-                  and not leaves_later(box.known.versions, source, version))
+                  and not leaves_later(archive.known, source, version))
     needs = needs_among(left, testing, box) if len(left) > 1 else {}
     found: list[str] = []
     while left:
@@ -268,13 +233,12 @@ def needs_among(sources: Sequence[str], testing: reports.Testing, box: Mailbox) 
     return found
 
 
-def taken_back(unstable: Unstable, testing: reports.Testing, removals: Sequence[Removal],
-               told: Mapping[str, str]) -> Iterator[int]:
+def taken_back(archive: Archive, removals: Sequence[Removal]) -> Iterator[int]:
     """This command's hints for sources that have left testing, are back, or are sent without their needs first."""
     for removal in removals:
-        held = testing.sources.get(removal.source)
+        held = archive.testing.sources.get(removal.source)
         is_done = held is None or not is_same(held, removal.version)
-        is_over = removal.source in unstable.sources or leaves_later(told, removal.source, removal.version)
+        is_over = removal.source in archive.sources or leaves_later(archive.known, removal.source, removal.version)
         if removal.is_own and (is_done or is_over):
             yield removal.number
 
@@ -290,9 +254,9 @@ def spent(known: Known, hints: reports.Hints) -> Iterator[int]:
                 yield number
 
 
-def leaves_later(told: Mapping[str, str], source: str, version: str) -> bool:
+def leaves_later(known: Known, source: str, version: str) -> bool:
     """Whether a source that is gone has to move to a made-up version before it leaves testing."""
-    last = told.get(source, "")
+    last = known.versions.get(source, "")
     return last.endswith(marks.LEAVING) and not is_same(last, version)
 
 

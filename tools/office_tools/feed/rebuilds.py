@@ -10,11 +10,12 @@ from typing import Iterator, Mapping, Sequence
 from office_tools import messages, reports, versions
 from office_tools.apply import marks
 from office_tools.feed.back import Archive, Retold
-from office_tools.feed.known import Known
-from office_tools.feed.mailbox import SPARE, Mailbox
-from office_tools.feed.told import Weight, tell
+from office_tools.feed.known import SPARE
+from office_tools.feed.mailbox import Mailbox
 from office_tools.from_packages.binaries import Binary, Key
+from office_tools.from_packages.told import Weight, tell
 from office_tools.messages import Label
+from office_tools.senders import BUILDS
 
 
 @dataclass
@@ -59,12 +60,12 @@ def rebuilds(archive: Archive, box: Mailbox, retold: Retold) -> Rebuilds:
     """
     found = Rebuilds()
     known, testing = archive.known, archive.testing
-    held = {(row.package, row.architecture): marks.package_version(row.version) for row in testing.rows}
     for source, rows in sorted(by_source(archive.binaries, testing).items()):
         told = known.versions.get(source, "0")
-        older = [binary for binary in rows if not is_new(binary, known) and binary.key not in retold.packages]
+        older = [binary for binary in rows
+                 if not known.is_above(binary.key, binary.version) and binary.key not in retold.packages]
         is_pending = versions.compare(told, testing.sources[source]) > 0
-        is_told = len(older) == len(rows) and (is_pending or not any(is_above(binary, held) for binary in rows))
+        is_told = len(older) == len(rows) and (is_pending or not any(is_above(binary, archive) for binary in rows))
         if is_told or source in retold.sources or archive.is_above_testing(source):
             continue
         retold.sources[source] = next_version(marks.source_version(testing.sources[source]), told)
@@ -98,15 +99,9 @@ def by_source(binaries: Sequence[Binary], testing: reports.Testing) -> Mapping[s
     return found
 
 
-def is_new(binary: Binary, known: Known) -> bool:
-    """Whether a package is above what was sent of it and what was dropped."""
-    bound = known.bound(binary.key)
-    return not bound or versions.compare(binary.version, bound) > 0
-
-
-def is_above(binary: Binary, held: Mapping[Key, str]) -> bool:
+def is_above(binary: Binary, archive: Archive) -> bool:
     """Whether a package is above what testing has of it."""
-    version = held.get(binary.key)
+    version = archive.held.get(binary.key)
     return version is None or versions.compare(binary.version, version) > 0
 
 
@@ -128,7 +123,7 @@ def spares_for(binary: Binary, box: Mailbox) -> Sequence[str]:
     if told != binary.version or dropped is not None and versions.compare(told, dropped) <= 0:
         return []
     senders = list(box.kept)
-    used = box.known.retold.get((binary.key, binary.version), set()) | {"bd"}
+    used = box.known.retold.get((binary.key, binary.version), set()) | {BUILDS}
     first = min(senders.index(sender) for sender in used)
     return [sender for sender in senders[:first] if SPARE.fullmatch(sender)
             and box.kept[sender].greatest == box.kept[sender].unbroken]

@@ -4,8 +4,8 @@ from collections import defaultdict
 from office_tools import bags
 from office_tools.faults import Exit, Fault
 from office_tools.feed.mailbox import Folder
-from office_tools.feed.told import tell
 from office_tools.files import read_bytes
+from office_tools.from_packages.told import tell
 from office_tools.mailing import is_held, mailed
 from office_tools.messages import label_of
 from office_tools.service import Service

@@ -7,7 +7,7 @@ from typing import Mapping, Optional, Sequence
 from office_tools import messages
 from office_tools.faults import Exit, Fault
 from office_tools.feed.mailbox import Outgoing
-from office_tools.feed.told import Weight, tell
+from office_tools.from_packages.told import Weight, tell
 from office_tools.mailing import is_held, mailed, verdict
 from office_tools.messages import Kind, Label, kind_of, label_of, paragraphs
 from office_tools.service import Kept, Service
@@ -126,15 +126,10 @@ def subject(text: bytes) -> str:
     return f"{sender_of(text)} {first.value('Number')}"
 
 
-def next_label(sender: str, kept: Mapping[str, Kept]) -> Label:
-    """The sender's next number."""
-    return Label(sender, kept[sender].unbroken + 1)
-
-
 def check_architectures(service: Service, sender: str, kept: Mapping[str, Kept], names: Sequence[str]) -> None:
     """Refuses indexes of an architecture that isn't in the office's setup: the office is asked about a drop there."""
     for name in names:
-        reply = verdict(service, messages.drop(next_label(sender, kept), "aa", name, "0"))
+        reply = verdict(service, messages.drop(Label(sender, kept[sender].unbroken + 1), "aa", name, "0"))
         if reply == "refused UnknownArchitecture":
             raise Fault(f"the indexes have packages of {name}: the office has another setup than the archive",
                         Exit.REFUSED)

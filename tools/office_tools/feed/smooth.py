@@ -13,9 +13,9 @@ from office_tools.feed.back import Archive, Retold
 from office_tools.feed.brakes import binaries_in, packages_named
 from office_tools.feed.mailbox import Mailbox
 from office_tools.feed.rebuilds import Rebuilds, spares_for
-from office_tools.feed.told import Weight, tell
 from office_tools.from_packages.binaries import Binary, Key
 from office_tools.from_packages.suites import Suite
+from office_tools.from_packages.told import Weight, tell
 from office_tools.relations import Clause
 
 
@@ -56,17 +56,15 @@ def leaving(archive: Archive) -> set[Key]:
     A source that isn't built there yet on the package's architecture doesn't count: it can't move.
     """
     index = {binary.key: binary for binary in archive.binaries}
-    current = {(binary.source, binary.architecture) for binary in archive.binaries
-               if versions.compare(binary.source_version, archive.sources[binary.source]) == 0}
+    current = {(binary.source, binary.architecture) for binary in archive.binaries if archive.is_current(binary)}
     built = {source for source, _ in current}
     found: set[Key] = set()
     for row in archive.testing.rows:
-        held, there = archive.held_version(row.source), archive.sources.get(row.source)
-        if marks.is_made_up(row.source) or held is None or there is None or versions.compare(there, held) <= 0:
+        if marks.is_made_up(row.source) or not archive.is_above_testing(row.source):
             continue
         other = index.get((row.package, row.architecture))
         is_replaced = other is not None and (
-            other.source != row.source or versions.compare(other.source_version, there) == 0)
+            other.source != row.source or archive.is_current(other))
         is_built = row.source in built if row.architecture == "all" else (row.source, row.architecture) in current
         if is_built and not is_replaced:
             found.add((row.package, row.architecture))
@@ -88,8 +86,7 @@ def held_by(archive: Archive, box: Mailbox) -> Sequence[Binary]:
 def needed(archive: Archive, left: Sequence[Binary], others: Sequence[Binary]) -> Iterator[Binary]:
     """Those of the leaving packages without which others of testing can't be installed once their sources moved."""
     moved = {binary.source for binary in left}
-    new = [binary for binary in archive.binaries if binary.source in moved
-           and versions.compare(binary.source_version, archive.sources[binary.source]) == 0]
+    new = [binary for binary in archive.binaries if binary.source in moved and archive.is_current(binary)]
     replaced = {binary.key for binary in new}
     staying = [binary for binary in others if binary.source not in moved and binary.key not in replaced]
     told: set[Key] = set()

@@ -9,13 +9,6 @@ from office_tools.from_packages.told import Weight
 NAME = "office-feed"
 SHOWN = 20  # lines of what stands still that are printed again each day
 
-__all__ = ["NAME", "Lines", "Weight", "tell"]
-
-
-def tell(what: str, weight: Weight = Weight.STANDS) -> None:
-    """Prints a line."""
-    told.tell(what, weight)
-
 
 @dataclass
 class Lines:

@@ -3,18 +3,22 @@ import argparse
 import os
 from typing import Sequence
 
-from office_tools import days, setups
+from office_tools import days
 from office_tools.accounts import service_at
+from office_tools.adopt.command import letters
+from office_tools.adopt.rows import adoptable
 from office_tools.bags import framed
-from office_tools.faults import Exit, Fault
+from office_tools.faults import Exit, Fault, some
 from office_tools.files import write_whole
 from office_tools.from_britney.compare import compared, read_heidi, reason
 from office_tools.from_britney.folder import Folder
-from office_tools.from_britney.mailbag import adopted, news, office_of, read_suite, setup_of
-from office_tools.from_britney.told import NAME, take_over, tell
-from office_tools.from_packages.mail import MOST_SPARES, spares
+from office_tools.from_britney.mailbag import news, office_of, read_suite
+from office_tools.from_packages import told
+from office_tools.from_packages.mail import MOST_SPARES, spares, write_setup
+from office_tools.from_packages.told import tell
 from office_tools.service import DEFAULT_URL
 
+NAME = "office-from-britney"
 SHOWN = 10
 
 
@@ -43,18 +47,15 @@ def parser() -> argparse.ArgumentParser:
 
 def make(asked: argparse.Namespace) -> int:
     """Writes the setup and the bag."""
-    take_over()
     folder = Folder(asked.data)
     testing, unstable = read_suite(folder.testing), read_suite(folder.unstable)
     strange = sorted(set(unstable.architectures) - set(testing.architectures))
     if strange:
         raise Fault(f"{asked.data}: unstable has {', '.join(strange)}, and testing hasn't", Exit.REFUSED)
-    setup, bag = os.path.join(asked.folder, "setup.conf"), os.path.join(asked.folder, "bag")
-    text = setups.written(setup_of(testing.architectures, asked.spare))
-    write_whole(setup, text)
+    setup, bag = write_setup(asked.folder, testing.architectures, asked.spare), os.path.join(asked.folder, "bag")
     first: bytes = b""
     if asked.after is None:
-        first = b"".join(map(framed, adopted(setup, testing, asked.day)))
+        first = b"".join(map(framed, letters(setup, adoptable(testing)[0], asked.day)))
         write_whole(bag, first)
     office = office_of(setup, asked.after or bag)
     texts = news(folder, unstable, testing, office, asked.day.isoformat())
@@ -74,8 +75,7 @@ def compare(asked: argparse.Namespace) -> int:
     for what, names in (("sources that build nothing on the office's architectures", found.idle),
                         ("packages of britney's that the office doesn't know", strange)):
         if names:
-            more = f" and {len(names) - SHOWN} more" if len(names) > SHOWN else ""
-            tell(f"left alone: {what}: {', '.join(names[:SHOWN])}{more}")
+            tell(f"left alone: {what}: {some(names, SHOWN)}")
     rows = sum(differing.is_rows_alone for differing in found.differing)
     ahead = sum(differing.is_ahead and not differing.is_rows_alone for differing in found.differing)
     print(f"sources {found.total}, differ {len(found.differing)}: britney is ahead {ahead}, "
@@ -85,5 +85,6 @@ def compare(asked: argparse.Namespace) -> int:
 
 def main(words: Sequence[str]) -> int:
     """Makes the mail, or compares."""
+    told.NAME = NAME
     asked = parser().parse_args(words)
     return make(asked) if asked.form == "bag" else compare(asked)

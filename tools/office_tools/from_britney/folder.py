@@ -10,8 +10,8 @@ from office_tools import relations, versions
 from office_tools.bugs.lists import Entry, read_list
 from office_tools.faults import Exit, Fault
 from office_tools.files import read_bytes
-from office_tools.from_britney.told import tell
 from office_tools.from_packages.sources import Arrival, Arrivals
+from office_tools.from_packages.told import tell
 from office_tools.messages import Urgency, rank
 
 PACKAGES = "Packages_"

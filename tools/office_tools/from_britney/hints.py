@@ -3,19 +3,19 @@ import functools
 import os
 import re
 from dataclasses import dataclass
-from typing import Callable, Iterator, Mapping, Sequence
+from typing import Iterator, Mapping, Sequence
 
 from office_tools import messages, relations, versions
 from office_tools.from_britney.folder import text_of
-from office_tools.from_britney.told import tell
-from office_tools.messages import Kind, Label, Paragraph, kind_of
+from office_tools.from_packages.told import tell
+from office_tools.messages import Kind, Label, Made, Paragraph, kind_of, numbered
+from office_tools.senders import HINTS
 
 BRITNEY = "Britney"
 """A field that the office doesn't read: the file that a hint is in. It marks the hints of this command."""
 GONE = "Gone"
 """The mark of a hint for a source that is gone from unstable, as office-feed has it."""
 AGE = re.compile("0*[0-9]{1,4}")
-SENDER = "rt"
 
 ITEMS: Mapping[str, str] = {
     "unblock": "unblock", "approve": "unblock", "easy": "easy", "hint": "easy", "remove": "remove",
@@ -40,7 +40,7 @@ class Wish:
 
     def text(self, label: Label) -> bytes:
         """The message."""
-        return messages.hint(label, self.hint) + messages.composed([(BRITNEY, self.file)])
+        return messages.hint(label, self.hint, [(BRITNEY, self.file)])
 
 
 def wishes(paths: Sequence[str]) -> Iterator[Wish]:
@@ -104,7 +104,7 @@ class Standing:
 
 def standing(letters: Letters) -> Sequence[Standing]:
     """The hints of this command that no message takes back."""
-    mine = {label.number: first for label, first in letters.items() if label.sender == SENDER}
+    mine = {label.number: first for label, first in letters.items() if label.sender == HINTS}
     cancelled = {first.value("Cancels") for first in mine.values() if kind_of(first) is Kind.UNHINT}
     return [Standing(number, first.value("Hint") or "") for number, first in sorted(mine.items())
             if kind_of(first) is Kind.HINT and str(number) not in cancelled
@@ -113,21 +113,21 @@ def standing(letters: Letters) -> Sequence[Standing]:
 
 def removal(label: Label, source: str, version: str) -> bytes:
     """The hint for a source that is gone from unstable, which britney takes out of testing without one."""
-    return messages.hint(label, f"remove {source}/{version}") + messages.composed([(GONE, f"{source} {version}")])
+    return messages.hint(label, f"remove {source}/{version}", [(GONE, f"{source} {version}")])
 
 
 def changes(found: Sequence[Wish], gone: Mapping[str, str], stand: Sequence[Standing], last: int) -> Sequence[bytes]:
     """Messages that put just these hints in force, with those for sources gone too; `last` is the last number."""
     have = {entry.hint for entry in stand}
     want = {wish.hint for wish in found}
-    new: list[Callable[[Label], bytes]] = [wish.text for wish in found if wish.hint not in have]
+    new: list[Made] = [wish.text for wish in found if wish.hint not in have]
     for name, version in sorted(gone.items()):
         hint = f"remove {name}/{version}"
         if hint not in have | want:
             new.append(functools.partial(removal, source=name, version=version))
         want.add(hint)
     new += [functools.partial(messages.unhint, cancels=entry.number) for entry in stand if entry.hint not in want]
-    return [text(Label(SENDER, number)) for number, text in enumerate(new, last + 1)]
+    return numbered(HINTS, last, new)
 
 
 def firsts(texts: Sequence[bytes]) -> Letters:

@@ -2,24 +2,23 @@
 import argparse
 import os
 from dataclasses import replace
-from typing import Mapping, Sequence
+from typing import Sequence
 
-from office_tools import bags, setups, versions
+from office_tools import bags, versions
 from office_tools.days import day
-from office_tools.faults import Fault
-from office_tools.files import write_whole
+from office_tools.feed.known import sent_in
+from office_tools.files import read_bytes, write_whole
 from office_tools.from_packages import mail
-from office_tools.from_packages.binaries import Binary, fitting, read_binaries
-from office_tools.from_packages.sent import read_sent
-from office_tools.from_packages.sources import Arrival, read_arrivals, read_sources
+from office_tools.from_packages.index import read_index
+from office_tools.from_packages.sources import Arrival, read_arrivals
 from office_tools.from_packages.suites import Suites
 from office_tools.from_packages.told import NAME
 from office_tools.messages import Urgency
+from office_tools.senders import HINTS
 
 DESCRIPTION = """Makes FOLDER/setup.conf and FOLDER/bag from the indexes of an archive: an upload for each source, its
 builds, hints for the groups that the program office proposes, and the first order, which covers all of these. With
 --after it makes the bag of what is new since. What isn't taken over is listed on standard error, a line for each."""
-MOST_ARCHITECTURES = 16
 
 
 def words() -> argparse.ArgumentParser:
@@ -47,35 +46,24 @@ def words() -> argparse.ArgumentParser:
 def main(given: Sequence[str]) -> int:
     """Writes the setup and the bag, and prints what they have."""
     asked = words().parse_args(given)
-    found, architectures = read_binaries(asked.packages)
-    if not architectures or len(architectures) > MOST_ARCHITECTURES:
-        raise Fault(f"the files name {len(architectures)} architectures; 1 to {MOST_ARCHITECTURES} are taken")
-    binaries = list(fitting(found))
-    sources = read_sources(asked.sources, binaries)
-    current = sources.versions
-    sent = read_sent(asked.after)
+    index = read_index(asked.packages, asked.sources)
+    index.check("the files name")
+    bag = read_bytes(asked.after) if asked.after else b""
+    sent = sent_in(asked.after, bag)
     arrived = Arrival(Urgency(asked.urgency), str(asked.uploaded))
     known = read_arrivals(asked.changes, arrived)
     if asked.after:  # what is new came since the mail before, whatever its uploader wrote
         known = {upload: replace(arrival, day=arrived.day) for upload, arrival in known.items()}
-    arrivals = mail.Uploading(known, arrived, sources.maintainers)
-    suites = Suites(current_of(binaries, current), architectures)
     if not asked.with_uninstallable:
-        suites.leave_out(sent)
-        binaries = [binary for binary in binaries if binary.key not in suites.gone]
-    came = list(mail.uploads(current, sent, arrivals))
-    gone = list(mail.drops(binaries, sent, sent.last["ftp"] + len(came)))
-    made = list(mail.builds(binaries, sent))
-    setup = os.path.join(asked.folder, "setup.conf")
-    write_whole(setup, setups.written(setups.Setup(architectures, mail.senders(asked.spare))))
-    wishes = [] if asked.no_hints else list(mail.hints(setup, sent, [*came, *gone, *made], str(asked.run)))
-    order = mail.order(str(asked.run), sent, {"ftp": len(came) + len(gone), "bd": len(made), "rt": len(wishes)})
-    texts = [*came, *gone, *made, *wishes, order]
-    write_whole(os.path.join(asked.folder, "bag"), b"".join(map(bags.framed, texts)))
-    print(f"uploads {len(came)}, drops {len(gone)}, builds {len(made)}, hints {len(wishes)}, orders 1")
+        current = [binary for binary in index.binaries
+                   if versions.compare(binary.source_version, index.sources[binary.source]) == 0]
+        gone = Suites(current, index.architectures).left_out(sent)
+        index = replace(index, binaries=[binary for binary in index.binaries if binary.key not in gone])
+    news = mail.news(index, sent, mail.Uploading(known, arrived, index.maintainers))
+    setup = mail.write_setup(asked.folder, index.architectures, asked.spare)
+    hints = [] if asked.no_hints else mail.hints(setup, bag, sent, news.texts, str(asked.run))
+    order = mail.order(str(asked.run), sent, {**news.counts, HINTS: len(hints)})
+    write_whole(os.path.join(asked.folder, "bag"), b"".join(map(bags.framed, [*news.texts, *hints, order])))
+    print(f"uploads {len(news.uploads)}, drops {len(news.drops)}, builds {len(news.builds)}, hints {len(hints)}, "
+          "orders 1")
     return 0
-
-
-def current_of(binaries: Sequence[Binary], current: Mapping[str, str]) -> list[Binary]:
-    """The packages that were built of their source's current version."""
-    return [binary for binary in binaries if versions.compare(binary.source_version, current[binary.source]) == 0]

@@ -38,10 +38,6 @@ class Sources:
         if maintainer.isprintable() and 0 < len(maintainer) <= LONGEST_MAINTAINER:
             self.maintainers[name] = maintainer
 
-    def among(self, names: set[str]) -> "Sources":
-        """Those of these names."""
-        return Sources({name: version for name, version in self.versions.items() if name in names}, self.maintainers)
-
 
 def read_sources(paths: Sequence[str], binaries: Sequence[Binary], read: Reader = sections) -> Sources:
     """The sources, each at the newest version that a package or a file Sources names."""

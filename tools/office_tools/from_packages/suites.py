@@ -2,8 +2,8 @@
 from collections import defaultdict
 from typing import Mapping, Optional, Sequence
 
+from office_tools.feed.known import Known
 from office_tools.from_packages.binaries import Binary, Key
-from office_tools.from_packages.sent import Sent
 from office_tools.from_packages.told import tell
 from office_tools.relations import Clause, written
 
@@ -58,7 +58,6 @@ class Suites:
 
     def __init__(self, binaries: Sequence[Binary], architectures: Sequence[str]) -> None:
         self.architectures = architectures
-        self.gone: set[Key] = set()
         self.suites = [Suite([binary for binary in binaries if binary.architecture in (architecture, "all")])
                        for architecture in architectures]
 
@@ -68,12 +67,14 @@ class Suites:
                 for place, binary in enumerate(suite.binaries) if not suite.good[place]
                 and (binary.architecture == architecture or architecture == self.architectures[0])]
 
-    def leave_out(self, sent: Sent) -> None:
-        """Leaves out the packages that can't be installed and were never sent, and reports why."""
+    def left_out(self, sent: Known) -> set[Key]:
+        """The packages that can't be installed and were never sent: they are left out, and why is reported."""
+        found: set[Key] = set()
         for binary, suite in sorted(self.judged_bad(),
                                     key=lambda found: (found[0].name, found[0].version, found[0].architecture)):
-            if not sent.knows(binary.key):
+            if not sent.bound(binary.key):
                 clause = next(clause for clause in binary.clauses if not suite.left[clause])
                 tell(f"{binary.name} {binary.version} {binary.architecture}: left out: nothing installable meets "
                      f"{written(clause)}")
-                self.gone.add(binary.key)
+                found.add(binary.key)
+        return found

@@ -6,8 +6,8 @@ from office_tools import versions
 from office_tools.counts import FORM
 from office_tools.hint.letters import Letter, Signature, hint, unhint
 from office_tools.hint.team import Standing, Team
-from office_tools.lint.state import Wish, wish_of
-from office_tools.reports import HintItem, ItemStanding
+from office_tools.lint.state import wish_of
+from office_tools.reports import HintItem, ItemStanding, Wish
 
 
 @dataclass(frozen=True)

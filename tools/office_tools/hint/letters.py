@@ -2,7 +2,7 @@
 from dataclasses import dataclass
 from typing import Optional, Sequence
 
-from office_tools.messages import Kind, Label, composed
+from office_tools.messages import Kind, Label, composed, message
 
 
 @dataclass(frozen=True)
@@ -27,9 +27,7 @@ class Letter:
 
     def text(self, label: Label) -> bytes:
         """The message of this number."""
-        name = "Hint" if self.kind is Kind.HINT else "Cancels"
-        head = [("From", label.sender), ("Number", str(label.number)), ("Kind", self.kind.value), (name, self.value)]
-        return composed([*head, *self.signature.fields()])
+        return message(label, self.kind, (self.value,)) + composed(self.signature.fields())
 
 
 def hint(wish: str, signature: Signature) -> Letter:

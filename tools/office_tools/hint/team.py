@@ -9,10 +9,10 @@ from office_tools.lint.look import Days, Look
 from office_tools.lint.office import ServiceOffice
 from office_tools.lint.places import place_of
 from office_tools.lint.slips import slips
-from office_tools.lint.state import State, Wish
+from office_tools.lint.state import State
 from office_tools.mailing import is_held, mailed, verdict
 from office_tools.messages import Label, Role, paragraphs
-from office_tools.reports import HintItem
+from office_tools.reports import HintItem, Wish
 from office_tools.service import Service
 
 TURNS = 20  # how often the next number is taken, if others mail at the same time
@@ -71,10 +71,8 @@ class Team:
 
     def standing(self) -> Standing:
         """The hints in force."""
-        items: dict[int, list[HintItem]] = {}
-        for item in self.service.hints().items:
-            items.setdefault(item.number, []).append(item)
-        return Standing({number: (of[0].words, [item.item for item in of]) for number, of in items.items()}, items)
+        hints = self.service.hints()
+        return Standing(hints.wishes, hints.by_number)
 
     def signature(self, number: int) -> Signature:
         """Who asked for a hint, and why, if its message says so."""

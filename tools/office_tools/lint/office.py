@@ -4,7 +4,7 @@
 no office has open, or about an office in memory to which nothing was mailed.
 """
 import abc
-from typing import Iterator, Mapping, Optional, Sequence
+from typing import Iterator, Optional, Sequence
 
 from office_tools import program, setups
 from office_tools.faults import Exit, Fault
@@ -90,16 +90,6 @@ class StoreMail(Kept):
         numbers = sorted(label.number for label in self.kept if label and label.sender == sender)
         return (self.kept[Label(sender, number)] for number in numbers)
 
-    def counts(self, senders: Sequence[str]) -> Mapping[str, Count]:
-        """What is kept of each sender."""
-        return {sender: self.count(sender) for sender in senders}
-
-    def count(self, sender: str) -> Count:
-        """What is kept of one sender."""
-        numbers = sorted(label.number for label in self.kept if label and label.sender == sender)
-        unbroken = next((place for place, number in enumerate(numbers) if number != place + 1), len(numbers))
-        return Count(len(numbers), unbroken, max(numbers, default=0))
-
 
 class StoreOffice(Office):
     """An office whose verdicts are those of a replay in memory, after the mail that a store keeps."""
@@ -128,8 +118,8 @@ class StoreOffice(Office):
 
     def state(self) -> State:
         """The state, by what the program says of the store."""
-        counts = self.mail.counts(list(self.setup.senders))
         if self.store is None:
-            return State(self.setup, counts, Testing(0, {}, ()), self.mail)
+            return State(self.setup, dict.fromkeys(self.setup.senders, Count(0, 0, 0)), Testing(0, {}, ()), self.mail)
+        counts = program.kept(self.conf, self.store)
         return State(self.setup, counts, program.testing(self.conf, self.store), self.mail).told(
             program.unstable(self.conf, self.store), program.hints(self.conf, self.store))

@@ -9,8 +9,9 @@ import Levenshtein
 from office_tools import versions
 from office_tools.lint.effects import EFFECTS
 from office_tools.lint.look import Check, Look, Warned, same
-from office_tools.lint.state import State, source_of, stated_covers
+from office_tools.lint.state import State, source_of
 from office_tools.messages import BINARY_FIELDS, FIELDS_OF, HEAD_FIELDS, Kind, Paragraph
+from office_tools.orders import stated_covers
 
 FARTHEST = 2  # changed letters between a name that isn't read and the one that is most likely meant
 

@@ -2,12 +2,13 @@
 import abc
 import re
 from dataclasses import dataclass, field
-from typing import Callable, Iterable, Iterator, Mapping, Optional, Sequence, TypeVar
+from typing import Callable, Iterable, Iterator, Mapping, Optional, TypeVar
 
 from office_tools import versions
 from office_tools.messages import (KINDS_OF, Kind, Label, Paragraph, ParagraphFault, Role, kind_of, label_of_first,
                                    paragraphs)
-from office_tools.reports import Hints, Testing, Unstable
+from office_tools.orders import Orders
+from office_tools.reports import Hints, Testing, Unstable, Wish
 from office_tools.service import Kept as Count
 from office_tools.setups import Setup
 
@@ -17,8 +18,6 @@ SOURCE = re.compile(r"([^\s(]+)\s*(?:\(\s*([^\s)]+)\s*\))?")
 Key = TypeVar("Key")
 Pair = tuple[str, str]
 """An architecture and the name of a package."""
-Wish = tuple[str, Sequence[str]]
-"""A hint: its words up to its items, as `age-days 3`, and its items."""
 Delays = Mapping[str, int]
 """How many days an upload of each urgency waits, by the fields of a message on delays."""
 FIRST_DELAYS: Delays = {"Low": 10, "Medium": 5, "High": 2, "Critical": 0}
@@ -56,12 +55,6 @@ def names_in(text: bytes) -> Iterator[str]:
     for binary in binaries:
         yield binary.value("Package") or ""
         yield from (found[1] for found in map(NAME.match, (binary.value("Provides") or "").split(",")) if found)
-
-
-def stated_covers(first: Paragraph) -> Mapping[str, int]:
-    """What an order that the office takes states for each sender that it names."""
-    items = (item.split() for item in (first.value("Covers") or "").split(",") if item.strip())
-    return {sender: int(number) for sender, number in items}
 
 
 @dataclass(frozen=True)
@@ -206,21 +199,6 @@ def raise_to(greatest: dict[Key, Given], of: Key, new: Given) -> None:
         greatest[of] = new
 
 
-@dataclass
-class Orders:
-    """What the kept orders state: the greatest number for each sender, and the latest day."""
-
-    covers: dict[str, int] = field(default_factory=dict)
-    day: str = ""
-
-    def take(self, text: bytes) -> None:
-        """Takes an order."""
-        first = next(paragraphs(text))
-        self.day = max(self.day, first.value("Day") or "")
-        for sender, number in stated_covers(first).items():
-            self.covers[sender] = max(self.covers.get(sender, 0), number)
-
-
 class State:
     """The state that warnings are judged by."""
 
@@ -239,17 +217,15 @@ class State:
         self.names: set[str] = set()
         self.has_kept_names = False
         for text in kept.mail(self.runs) if counts[self.runs].kept else ():
-            self.orders.take(text)
+            self.orders.take(next(paragraphs(text)))
 
     def told(self, unstable: Unstable, hints: Hints) -> "State":
         """The same, with what the office says of unstable and of the hints in force."""
         self.seen.sources.update((name, Given(version, EARLIER)) for name, version in unstable.sources.items())
         self.seen.rows.update(
             ((row.architecture, row.package), Given(row.version, EARLIER)) for row in unstable.rows)
-        for item in hints.items:
-            self.seen.hints.add(item.number)
-            words, items = self.seen.wishes.get(item.number, (item.words, ()))
-            self.seen.wishes[item.number] = words, [*items, item.item]
+        self.seen.hints.update(hints.wishes)
+        self.seen.wishes.update(hints.wishes)
         self.names.update(row.package for row in unstable.rows)
         return self
 
@@ -279,7 +255,7 @@ class State:
     def see(self, label: Label, text: bytes) -> None:
         """Takes a message into what a run over it sees."""
         if label.sender == self.runs:
-            self.orders.take(text)
+            self.orders.take(next(paragraphs(text)))
         else:
             self.seen.take(self.places[label.sender], label.number, text)
 

@@ -4,7 +4,7 @@ from typing import Iterator, Mapping, Sequence
 
 from office_tools import reports
 from office_tools.apply import marks
-from office_tools.look.judge import Broken, Judge, Known, Package, provided
+from office_tools.look.judge import Broken, Judge, Known, Package, names_of
 
 ALL = "all"
 
@@ -90,12 +90,8 @@ class Eye:
         """The changing sources with packages, old or new, that the causes mention; without any, all that changes."""
         changing = step.moved | step.removed
         rows = [row for testing in (step.before, step.after) for row in testing.rows if row.source in changing]
-        found = frozenset(row.source for row in rows if self.names(package_of(row)) & broken.named)
+        found = frozenset(row.source for row in rows if names_of(package_of(row), self.known) & broken.named)
         return found or changing
-
-    def names(self, package: Package) -> frozenset[str]:
-        """How the causes may mention a package."""
-        return frozenset((package.label, package.name, *provided(self.known.get(package, ""))))
 
 
 def package_of(row: reports.Row) -> Package:

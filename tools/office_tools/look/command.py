@@ -1,18 +1,16 @@
 """office-look: judges the testing that the next order would make, and blocks what can't be installed there."""
 import argparse
-import datetime
 import functools
 import os
 import sys
-import urllib.parse
 from typing import Iterator, Optional, Sequence
 
 from office_tools import days, faults
 from office_tools.accounts import service_at
-from office_tools.apply.managers import locked_for
 from office_tools.apply.published import packages_of
 from office_tools.bags import framed
-from office_tools.faults import Exit, Fault, cause_of
+from office_tools.faults import Exit, Fault
+from office_tools.folders import cache_of, locked, made
 from office_tools.look import looking
 from office_tools.look.blame import Eye
 from office_tools.look.copy import Copy
@@ -53,18 +51,6 @@ def parser() -> argparse.ArgumentParser:
     words.add_argument("packages", metavar="PACKAGES", nargs="*",
                        help="a file Packages, or a folder dists/SUITE: those of testing and of unstable")
     return words
-
-
-def folder_for(asked: Optional[str], service: Service) -> str:
-    """The folder of the copy; it is made if there is none, and locked until this process ends."""
-    caches = os.environ.get("XDG_CACHE_HOME") or os.path.expanduser("~/.cache")
-    place = os.path.abspath(asked or os.path.join(caches, NAME, urllib.parse.quote(service.url, "")))
-    try:
-        os.makedirs(place, exist_ok=True)
-    except OSError as fault:
-        raise Fault(f"{place}: {cause_of(fault)}", Exit.REFUSED) from fault
-    locked_for(place, NAME)
-    return place
 
 
 def files_of(names: Sequence[str]) -> Iterator[str]:
@@ -128,14 +114,6 @@ def step(look: Look, asked: argparse.Namespace, told: set[str], hints: Sequence[
     return status
 
 
-def proposed(service: Service, day: datetime.date) -> Sequence[str]:
-    """The hints for groups that the office proposes for the run of a day, without those in force."""
-    standing: dict[int, str] = {}
-    for item in service.hints().items:
-        standing[item.number] = f"{standing.get(item.number, item.words)} {item.item}"
-    return [hint for hint in (service.proposed(day) or "").splitlines() if hint not in standing.values()]
-
-
 def main(words: Sequence[str]) -> int:
     """Looks at the next run, and orders it."""
     known = parser()
@@ -145,7 +123,9 @@ def main(words: Sequence[str]) -> int:
     if asked.propose and not asked.order:
         known.error("--propose needs --order")
     service = service_at(asked.url)
-    copy = Copy(service, asked.conf, folder_for(asked.cache, service))
+    folder = made(asked.cache or cache_of(NAME, service.url))
+    locked(folder, NAME)
+    copy = Copy(service, asked.conf, folder)
     waiting = waits(service)
     for line in waiting:
         tell(line)
@@ -168,7 +148,7 @@ def main(words: Sequence[str]) -> int:
             tell(f"blocked: {block.source} {block.version}")
     if asked.propose and not asked.dry_run:
         look.begin()
-        hints = proposed(service, asked.day)
+        hints = service.new_proposals(asked.day)
         print(f"proposed {len(hints)}")
         if hints:
             status = max(status, step(look, asked, told, hints))

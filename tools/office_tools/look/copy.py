@@ -12,7 +12,7 @@ from office_tools.faults import Exit, Fault
 from office_tools.files import read_bytes, write_whole
 from office_tools.letters import letters
 from office_tools.messages import Label
-from office_tools.service import KEPT_LINE, Kept, Service
+from office_tools.service import Kept, Service
 
 STORE, ENDS = "store.db", "ends"
 TRIAL = "trial-"
@@ -77,14 +77,7 @@ class Copy:
 
     def own(self) -> Mapping[str, Kept]:
         """What the copy keeps of each sender."""
-        if not os.path.exists(self.store):
-            return {}
-        found = {}
-        for line in program.output(["mail", *self.words(self.store)]).decode().splitlines():
-            parts = KEPT_LINE.fullmatch(line)
-            if parts is not None:
-                found[parts[1]] = Kept(int(parts[2]), int(parts[3] or 0), int(parts[4] or 0))
-        return found
+        return program.kept(self.setup, self.store) if os.path.exists(self.store) else {}
 
     def bring(self) -> None:
         """Brings over the mail after what the copy keeps without a gap, and writes down where it ends."""

@@ -5,13 +5,13 @@ Both see what the office doesn't: Conflicts, Breaks, Multi-Arch and qualifiers.
 import os
 import re
 import shutil
-import subprocess
 import tempfile
 from dataclasses import dataclass
 from typing import Iterator, Mapping, NamedTuple, Optional, Protocol, Sequence
 
+from office_tools import processes
 from office_tools.control import sections
-from office_tools.faults import Exit, Fault, cause_of
+from office_tools.faults import Exit, Fault
 
 SECONDS = 3600  # how long a judge may take
 FIELDS = ("Package", "Version", "Architecture", "Multi-Arch", "Pre-Depends", "Depends", "Provides", "Conflicts",
@@ -69,6 +69,11 @@ def provided(paragraph: str) -> Iterator[str]:
             yield from (found[0] for found in map(NAME.match, re.split(r",\s*", value)) if found)
 
 
+def names_of(package: Package, known: Mapping[Package, str]) -> frozenset[str]:
+    """How the causes may mention a package."""
+    return frozenset((package.label, package.name, *provided(known.get(package, ""))))
+
+
 class Judge(Protocol):
     """A program that finds the packages that can't be installed."""
 
@@ -93,15 +98,11 @@ def output(words: Sequence[str], texts: Mapping[Package, str], file: str) -> str
         path = os.path.join(folder, file)
         with open(path, "w", encoding="utf-8") as index:
             index.writelines(text + "\n" for text in texts.values())
-        try:
-            ran = subprocess.run([*words, path], stdin=subprocess.DEVNULL, capture_output=True, check=False, text=True,
-                                 errors="backslashreplace", timeout=SECONDS, env={**os.environ, "LC_ALL": "C"})
-        except (OSError, subprocess.TimeoutExpired) as fault:
-            raise Fault(f"{words[0]}: {cause_of(fault)}", Exit.FAILED) from fault
+        ran = processes.ended([*words, path], timeout=SECONDS, env=processes.english())
     if ran.returncode not in (0, 1) or (ran.returncode == 1 and not ran.stdout):
-        said = ran.stderr.strip().split("\n")[-1]
+        said = processes.text(ran.stderr).strip().split("\n")[-1]
         raise Fault(f"{words[0]}: {said or f'status {ran.returncode}'}", Exit.FAILED)
-    return ran.stdout
+    return processes.text(ran.stdout)
 
 
 @dataclass(frozen=True)

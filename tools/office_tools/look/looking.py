@@ -1,17 +1,19 @@
 """A look at the run that would be ordered: what can't be installed after it is blocked, until that no longer holds."""
 import datetime
+import functools
 import re
 from dataclasses import dataclass
 from typing import Iterator, Mapping, Optional, Sequence
 
 from office_tools import messages
 from office_tools.faults import Exit, Fault
-from office_tools.from_packages import proposals
+from office_tools.from_packages.mail import proposal
 from office_tools.letters import letters
 from office_tools.look.blame import Eye, Step
 from office_tools.look.copy import Copy, Trial
 from office_tools.mailing import is_held, mailed
-from office_tools.messages import Kind, Label, label_of, paragraphs
+from office_tools.messages import Made, label_of, numbered, paragraphs
+from office_tools.orders import Orders, stated_covers
 from office_tools.service import Service
 
 TURNS = 20
@@ -68,7 +70,7 @@ class Look:
         """What the next run does with these hints, and what has to be blocked first."""
         before = self.copy.testing()
         order = self.copy.order(self.day.isoformat())
-        proposed = list(proposals.letters(more, self.hints, self.last, self.day.isoformat()))
+        proposed = numbered(self.hints, self.last, (proposal(hint, self.day.isoformat()) for hint in more))
         blocked: dict[str, str] = {}
         for _ in range(TURNS):
             texts = [*proposed, *self.letters(blocked, len(proposed))]
@@ -93,27 +95,19 @@ class Look:
     def letters(self, blocked: Mapping[str, str], after: int) -> Sequence[bytes]:
         """The mail after which exactly these sources are blocked by this command: each with its version and the cause.
         """
-        found: list[bytes] = []
-        number = self.last + after
         staying = {block.source for block in self.standing
                    if blocked.get(block.source, "").startswith(f"{block.version}: ")}
-        for block in self.standing:
-            if block.source not in staying:
-                number += 1
-                found.append(messages.unhint(Label(self.hints, number), block.number))
-        for source, why in sorted(blocked.items()):
-            if source not in staying:
-                number += 1
-                found.append(messages.composed([
-                    ("From", self.hints), ("Number", str(number)), ("Kind", Kind.HINT.value),
-                    ("Hint", f"block {source}"), (LOOKED, f"{source} {why}")]))
-        return found
+        found: list[Made] = [functools.partial(messages.unhint, cancels=block.number) for block in self.standing
+                             if block.source not in staying]
+        found += [functools.partial(messages.hint, wish=f"block {source}", more=[(LOOKED, f"{source} {why}")])
+                  for source, why in sorted(blocked.items()) if source not in staying]
+        return numbered(self.hints, self.last + after, found)
 
     def covering(self, order: bytes, count: int) -> bytes:
         """An order that covers this many more messages of the sender of hints."""
         if not count:
             return order
-        numbers = {**covers(next(paragraphs(order)).value("Covers") or ""), self.hints: self.last + count}
+        numbers = {**stated_covers(next(paragraphs(order))), self.hints: self.last + count}
         told = ", ".join(f"{sender} {number}" for sender, number in numbers.items())
         return COVER.sub(f"Covers: {told}".encode(), order)
 
@@ -142,18 +136,7 @@ def is_due(service: Service, order: bytes, day: datetime.date) -> bool:
     """Whether an order covers mail that no order covers yet, or its day is after that of all orders."""
     label = label_of(order)
     assert label is not None
-    covered: dict[str, int] = {}
-    latest = datetime.date.min
+    known = Orders()
     for _, text in letters(service, label.sender):
-        first = next(paragraphs(text))
-        latest = max(latest, datetime.date.fromisoformat(first.value("Day") or ""))
-        for sender, number in covers(first.value("Covers") or "").items():
-            covered[sender] = max(covered.get(sender, 0), number)
-    due = covers(next(paragraphs(order)).value("Covers") or "")
-    return day > latest or any(number > covered.get(sender, 0) for sender, number in due.items())
-
-
-def covers(value: str) -> Mapping[str, int]:
-    """The numbers that an order covers, by their senders."""
-    pairs = [part.split() for part in value.split(",") if part.strip()]
-    return {sender: int(number) for sender, number in pairs}
+        known.take(next(paragraphs(text)))
+    return known.is_due(next(paragraphs(order)), day.isoformat())

@@ -2,44 +2,11 @@
 import json
 import os
 import urllib.parse
-from dataclasses import dataclass, field
 from typing import Any
 
 from office_tools.faults import Exit, Fault, cause_of
 from office_tools.files import write_whole
-from office_tools.letters import GREATEST
-
-
-@dataclass
-class Numbers:
-    """A set of numbers, kept as the ranges that they make, each with its first and its last number."""
-
-    ranges: list[tuple[int, int]] = field(default_factory=list)
-
-    def add(self, number: int) -> None:
-        """Takes a number that is greater than all present ones, or is present already."""
-        if self.ranges and number <= self.ranges[-1][1]:
-            return
-        if self.ranges and number == self.ranges[-1][1] + 1:
-            self.ranges[-1] = (self.ranges[-1][0], number)
-        else:
-            self.ranges.append((number, number))
-
-    def has(self, number: int) -> bool:
-        """Whether a number is present."""
-        return any(first <= number <= last for first, last in self.ranges)
-
-    def upto(self, last: int) -> "Numbers":
-        """Those up to a number."""
-        return Numbers([(first, min(end, last)) for first, end in self.ranges if first <= last])
-
-    def behind(self, number: int) -> int:
-        """How many there are that are greater than a number."""
-        return sum(last - max(first, number + 1) + 1 for first, last in self.ranges if last > number)
-
-    def next_missing(self, first: int) -> int:
-        """The least missing number from this one on."""
-        return next((end + 1 for start, end in self.ranges if start <= first <= end), first)
+from office_tools.letters import GREATEST, Numbers
 
 
 Held = dict[str, Numbers]

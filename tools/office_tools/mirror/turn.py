@@ -1,14 +1,14 @@
 """One turn: the mail of an office is brought to another one, or into a bag."""
 from dataclasses import dataclass, field
-from typing import BinaryIO, Callable, Iterator
+from typing import BinaryIO, Callable
 
 from office_tools import bags
 from office_tools.faults import Exit, Fault
-from office_tools.letters import letters
+from office_tools.letters import Numbers, letters
 from office_tools.mailing import is_held, mailed
 from office_tools.messages import Label
-from office_tools.mirror.held import Held, Numbers
-from office_tools.senders import runs_sender
+from office_tools.mirror.held import Held
+from office_tools.senders import in_turn
 from office_tools.service import Kept, Service
 
 SAVED_EACH = 100  # messages after which it is remembered what is held
@@ -23,11 +23,6 @@ class Source:
 
     def __post_init__(self) -> None:
         self.senders = list(self.service.kept())
-
-    def in_turn(self) -> Iterator[str]:
-        """The senders, that of orders first: so a ready run's mail is all present when its sender's turn comes."""
-        runs = runs_sender(self.service)
-        return iter(sorted(self.senders, key=lambda sender: sender != runs))
 
 
 @dataclass
@@ -48,7 +43,7 @@ class Turn:
         theirs = target.kept()
         if list(theirs) != source.senders:
             raise Fault(f"{target.url}: it has other senders than {source.service.url}", Exit.REFUSED)
-        for sender in source.in_turn():
+        for sender in in_turn(source.service, source.senders):
             before = still_held(held.get(sender, Numbers()), theirs[sender])
             self.sender_to_office(source, target, held, sender, before)
 
@@ -79,7 +74,7 @@ class Turn:
 
     def to_bag(self, source: Source, output: BinaryIO) -> None:
         """Writes all mail as a bag."""
-        for sender in source.in_turn():
+        for sender in in_turn(source.service, source.senders):
             for _, text in letters(source.service, sender):
                 output.write(bags.framed(text))
                 self.sent += 1

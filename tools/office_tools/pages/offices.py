@@ -1,8 +1,9 @@
 """Where reports come from: a service, a store that no office has open, or the files of one run."""
+import abc
 import http.client
 import re
 import time
-from typing import Iterable, Iterator, Mapping, Optional, Protocol, Sequence
+from typing import Iterable, Iterator, Mapping, Optional, Sequence
 
 from office_tools import bags, program, reports
 from office_tools.faults import Fault, tell
@@ -10,53 +11,70 @@ from office_tools.files import read_bytes
 from office_tools.messages import Kind, kind_of, Label, label_of, paragraphs
 from office_tools.pages.outcomes import run_of
 from office_tools.pages.state import SentHint
-from office_tools.service import kept_in, NO_ROUTE, Service
+from office_tools.service import Kept, kept_in, NO_ROUTE, Service
 
 NAME = "office-pages"
 AT_ONCE = 100  # sources about which the program is asked by one command, which opens the store once
 
 
-class Office(Protocol):
-    """What the pages are made of. Each text is as the office prints it."""
+class Office(abc.ABC):
+    """What the pages are made of. Each text is as the office prints it; what isn't available is None or nothing."""
 
+    @abc.abstractmethod
     def runs(self) -> Sequence[reports.Run]:
         """The finished runs, in order."""
 
+    @abc.abstractmethod
     def excuses(self, run: int) -> str:
         """The excuses of a run."""
 
+    @abc.abstractmethod
     def update(self, run: int) -> str:
         """The update of a run."""
 
+    @abc.abstractmethod
     def testing(self) -> Optional[str]:
-        """What is in testing, if available."""
+        """What is in testing."""
 
     def unstable(self) -> Optional[str]:
-        """What the next run sees of unstable over all mail that is kept without a gap, if available."""
+        """What the next run sees of unstable over all mail that is kept without a gap."""
+        return None
 
     def kept_mail(self) -> Optional[Mapping[str, int]]:
-        """Up to which number the mail of each sender is kept without a gap, in the setup's order, if available."""
+        """Up to which number the mail of each sender is kept without a gap, in the setup's order."""
+        return {sender: kept.unbroken for sender, kept in self.kept().items()} or None
 
-    def letters(self, sender: str, first: int, last: int) -> Iterator[tuple[int, bytes]]:
+    def kept(self) -> Mapping[str, Kept]:
+        """What is kept of each sender."""
+        return {}
+
+    def letters(self, _sender: str, _first: int, _last: int) -> Iterator[tuple[int, bytes]]:
         """The messages of a sender from one number to another, between which none is missing."""
+        return iter(())
 
-    def why(self, sources: Sequence[str], until: float) -> Iterator[tuple[str, str]]:
+    def why(self, _sources: Sequence[str], _until: float) -> Iterator[tuple[str, str]]:
         """Of each source in turn what the last run says of it. None is asked about after that time (`monotonic`)."""
+        return iter(())
 
-    def hint(self, number: int) -> Optional[SentHint]:
-        """A hint of the release team, if available."""
+    def hint(self, _number: int) -> Optional[SentHint]:
+        """A hint of the release team."""
+        return None
 
     def next_hint(self, sender: str) -> Optional[Label]:
-        """The first number after all that the release team sent, if available."""
+        """The first number after all that the release team sent."""
+        kept = self.kept().get(sender)
+        return Label(sender, kept.greatest + 1) if kept else None
 
     def hints(self) -> Optional[str]:
-        """The hints in force, if available."""
+        """The hints in force."""
+        return None
 
-    def proposed(self, source: str = "") -> Optional[str]:
-        """What it proposes for all groups that can move, or for one source, if available."""
+    def proposed(self, _source: str = "") -> Optional[str]:
+        """What it proposes for all groups that can move, or for one source."""
+        return None
 
 
-class ServiceOffice:
+class ServiceOffice(Office):
     """The office that answers at a URL."""
 
     def __init__(self, url: str) -> None:
@@ -79,8 +97,8 @@ class ServiceOffice:
     def unstable(self) -> Optional[str]:
         return self.newer("/unstable")
 
-    def kept_mail(self) -> Optional[Mapping[str, int]]:
-        return {sender: kept.unbroken for sender, kept in self.service.kept().items()}
+    def kept(self) -> Mapping[str, Kept]:
+        return self.service.kept()
 
     def letters(self, sender: str, first: int, last: int) -> Iterator[tuple[int, bytes]]:
         while first <= last:
@@ -112,10 +130,6 @@ class ServiceOffice:
                 return hint
         return None
 
-    def next_hint(self, sender: str) -> Optional[Label]:
-        kept = self.service.kept().get(sender)
-        return Label(sender, kept.greatest + 1) if kept else None
-
     def hints(self) -> Optional[str]:
         return self.newer("/hints")
 
@@ -146,7 +160,7 @@ def hint_in(text: bytes) -> Optional[SentHint]:
     return None
 
 
-class StoreOffice:
+class StoreOffice(Office):
     """The office whose store is in a file that no office has open, asked by the program."""
 
     def __init__(self, setup: str, store: str) -> None:
@@ -173,8 +187,8 @@ class StoreOffice:
     def unstable(self) -> Optional[str]:
         return self.told("report", "unstable")
 
-    def kept_mail(self) -> Optional[Mapping[str, int]]:
-        return {sender: kept.unbroken for sender, kept in kept_in(self.told("mail")).items()}
+    def kept(self) -> Mapping[str, Kept]:
+        return kept_in(self.told("mail"))
 
     def letters(self, sender: str, first: int, last: int) -> Iterator[tuple[int, bytes]]:
         found = self.all_mail().get(sender, {})
@@ -206,10 +220,6 @@ class StoreOffice:
             self.sent = dict(hints_in(text for of in self.all_mail().values() for text in of.values()))
         return self.sent.get(number)
 
-    def next_hint(self, sender: str) -> Optional[Label]:
-        kept = kept_in(self.told("mail")).get(sender)
-        return Label(sender, kept.greatest + 1) if kept else None
-
     def hints(self) -> Optional[str]:
         return self.told("hints")
 
@@ -229,7 +239,7 @@ def hints_in(texts: Iterable[bytes]) -> Iterator[tuple[int, SentHint]]:
                 yield label.number, hint
 
 
-class FileOffice:
+class FileOffice(Office):
     """The reports of one run, in files."""
 
     def __init__(self, excuses: str, update: str, testing: Optional[str]) -> None:
@@ -256,30 +266,6 @@ class FileOffice:
 
     def testing(self) -> Optional[str]:
         return self.in_testing
-
-    def unstable(self) -> Optional[str]:
-        return None
-
-    def kept_mail(self) -> Optional[Mapping[str, int]]:
-        return None
-
-    def letters(self, sender: str, first: int, last: int) -> Iterator[tuple[int, bytes]]:
-        return iter(())
-
-    def why(self, sources: Sequence[str], until: float) -> Iterator[tuple[str, str]]:
-        return iter(())
-
-    def hint(self, number: int) -> Optional[SentHint]:
-        return None
-
-    def next_hint(self, sender: str) -> Optional[Label]:
-        return None
-
-    def hints(self) -> Optional[str]:
-        return None
-
-    def proposed(self, source: str = "") -> Optional[str]:
-        return None
 
 
 def text_of(path: str) -> str:

@@ -4,13 +4,13 @@ import contextlib
 import functools
 import os
 import sys
-import urllib.parse
 from typing import Iterator, Sequence
 
 from office_tools import bags, faults, program
 from office_tools.faults import Exit, Fault
 from office_tools.feed.mailbox import BAG
 from office_tools.files import read_bytes
+from office_tools.folders import cache_of
 from office_tools.service import DEFAULT_URL, Service
 from office_tools.undo.exchange import Locked, discarded, exchange, state_of
 from office_tools.undo.outcome import check, differences, replayed, summary
@@ -37,10 +37,9 @@ def caches_of(asked: argparse.Namespace, letters: Sequence[Letter]) -> Sequence[
 
 def usual(url: str, letters: Sequence[Letter]) -> Iterator[str]:
     """Where office-feed, office-day and office-pages keep what they remember of this office."""
-    folder = os.environ.get("XDG_CACHE_HOME") or os.path.expanduser("~/.cache")
-    place = urllib.parse.quote(Service(url).url, "")
-    yield os.path.join(folder, "office-feed", place)
-    for day in (DAY, os.path.join(folder, "office-day", place)):
+    place = Service(url).url
+    yield cache_of("office-feed", place)
+    for day in (DAY, cache_of("office-day", place)):
         feed = os.path.join(day, "feed")
         if day != DAY or not is_of_another(os.path.join(feed, BAG), letters):
             yield from (feed, os.path.join(day, "look"))

@@ -8,11 +8,11 @@ from typing import Iterator, Mapping, Sequence
 from office_tools import reports
 from office_tools.apply import marks
 from office_tools.deciding import MOST, SOURCE, Program
-from office_tools.faults import Exit, Fault
-from office_tools.feed.brakes import SHOWN
+from office_tools.faults import Exit, Fault, some
 from office_tools.from_packages.binaries import Binary, Key
 
 SYNC = Program("office-sync")
+SHOWN = 5  # packages that a fault names
 
 
 @dataclass(frozen=True)
@@ -54,14 +54,23 @@ class Lists:
         """
         strange = list(lines_of(self.due().drops))
         if strange:
-            more = f" and {len(strange) - SHOWN} more" if len(strange) > SHOWN else ""
-            raise Fault(f"the office's unstable has what the archive hasn't: {', '.join(strange[:SHOWN])}{more}: no "
-                        "run is ordered before it is dropped", Exit.REFUSED)
+            raise Fault(f"the office's unstable has what the archive hasn't: {some(strange, SHOWN)}: no run is ordered "
+                        "before it is dropped", Exit.REFUSED)
 
 
 def lines_of(versions: Mapping[Key, str]) -> Iterator[str]:
     """A list as the program takes it."""
     return (f"{name} {version} {architecture}" for (name, architecture), version in versions.items())
+
+
+def keyed(sources: Mapping[str, str]) -> dict[Key, str]:
+    """The versions of sources, as in a list."""
+    return {(name, SOURCE): version for name, version in sources.items()}
+
+
+def index_of(sources: Mapping[str, str], binaries: Sequence[Binary]) -> Mapping[Key, str]:
+    """The list of an archive."""
+    return {**keyed(sources), **{binary.key: binary.version for binary in binaries}}
 
 
 def lists_of(told: reports.Unstable, sources: Mapping[str, str], binaries: Sequence[Binary],
@@ -71,11 +80,9 @@ def lists_of(told: reports.Unstable, sources: Mapping[str, str], binaries: Seque
     What stays or leaves by a mark is in no list: the archive hasn't got it any more. A version that ends in `+backN`
     stands for the archive's.
     """
-    unstable = {(name, SOURCE): marks.source_version(version) for name, version in told.sources.items()
-                if not marks.is_made_up(name)}
+    unstable = keyed({name: marks.source_version(version) for name, version in told.sources.items()
+                      if not marks.is_made_up(name)})
     unstable.update({(row.package, row.architecture): marks.package_version(row.version) for row in told.rows
                      if not marks.is_made_up(row.source) and not row.version.endswith(marks.LEAVING)})
-    index = {(name, SOURCE): version for name, version in sources.items()}
-    index.update({binary.key: binary.version for binary in binaries})
-    return Lists(unstable, index, {key: marks.package_version(version) for key, version in dropped.items()
-                                   if key not in unstable})
+    return Lists(unstable, index_of(sources, binaries), {
+        key: marks.package_version(version) for key, version in dropped.items() if key not in unstable})

@@ -1,0 +1,24 @@
+"""Other programs that are run to their end."""
+import os
+import subprocess
+from typing import Any, Sequence
+
+from office_tools.faults import Exit, Fault, cause_of
+
+
+def ended(words: Sequence[str], given: bytes = b"", **more: Any) -> "subprocess.CompletedProcess[bytes]":
+    """What a program printed, and its status. A `Fault` of status 4 says that it can't be run, or has no end."""
+    try:
+        return subprocess.run(words, input=given, capture_output=True, check=False, **more)
+    except (OSError, subprocess.TimeoutExpired) as fault:
+        raise Fault(f"{words[0]}: {cause_of(fault)}", Exit.FAILED) from fault
+
+
+def english() -> dict[str, str]:
+    """The environment of a program whose sentences are looked at."""
+    return {**os.environ, "LC_ALL": "C"}
+
+
+def text(data: bytes) -> str:
+    """What a program printed, as characters; a byte that isn't UTF-8 is shown by its number."""
+    return data.decode(errors="backslashreplace")
