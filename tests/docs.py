@@ -25,6 +25,7 @@ from pathlib import Path
 WORDS = {'office', 'rt', 'cd', 'cat', 'curl', 'grep', 'sed', 'cp', 'rm', 'mkdir', 'printf', 'sqlite3', 'cmp', 'make',
          'systemctl', 'journalctl', 'apt', 'apt-get'}
 SECONDS = 600
+KEPT = ('PATH', 'OFFICE_SYNC')  # what a command leaves to the next one
 INTERRUPT = '^C'  # what a terminal shows where Ctrl-C is typed
 # What isn't run, in which document, and why. An empty text of the environment's APT keeps apt's commands out.
 NOT_RUN = [
@@ -109,9 +110,6 @@ def commands(block, is_prompted):
         elif found:
             found[-1].shown.append(line)
     return found
-
-
-KEPT = ('PATH', 'OFFICE_SYNC')
 
 
 class Runner:

@@ -5,8 +5,8 @@
 # Usage: tests/docs.sh OFFICE
 #
 # OFFICE is the built program, OFFICE_SYNC in the environment the built office-sync, if it isn't in
-# crates/office_sync/out. What can't be run here is reported with its reason (tests/docs.py lists it). The services
-# that a document starts listen on 127.0.0.1:8080, which has to be free, and are ended. With APT=1 in the environment the
+# crates/office_sync/out. What can't be run here is reported with its reason (tests/docs.py lists it). The services that
+# a document starts listen on 127.0.0.1:8080, which has to be free, and are ended. With APT=1 in the environment the
 # commands that fetch the lists of a Debian release by apt, and make a report of them, are run too; they need root, the
 # network and some minutes.
 # DOCUMENTS in the environment names some of them alone.

@@ -75,12 +75,8 @@ from office_tools.apply import contents
 contents.older_of_all = lambda *words: []""", ("ways.py",), "lag-doc 1-2 in the index of arm64"),
     Fault("a feed that reuses a number", "feed", """
 from office_tools.feed import news
-due = news.read_sent
-def read_sent(path):
-    found = due(path)
-    found.last["ftp"] = max(0, found.last["ftp"] - 1)
-    return found
-news.read_sent = read_sent""", LOOP, "somebody else sends as ftp"),
+due = news.numbered
+news.numbered = lambda sender, last, made: due(sender, max(0, last - (sender == "ftp")), made)""", LOOP, "somebody else sends as ftp"),
     Fault("a feed that tells no drops", "feed", """
 from office_tools.feed import news
 news.mail.drops = lambda *words: []""", LOOP, "update 12"),

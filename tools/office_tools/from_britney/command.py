@@ -11,14 +11,12 @@ from office_tools.bags import framed
 from office_tools.faults import Exit, Fault, some
 from office_tools.files import write_whole
 from office_tools.from_britney.compare import compared, read_heidi, reason
-from office_tools.from_britney.folder import Folder
+from office_tools.from_britney.folder import NAME, Folder, tell
 from office_tools.from_britney.mailbag import news, office_of, read_suite
 from office_tools.from_packages import told
 from office_tools.from_packages.mail import MOST_SPARES, spares, write_setup
-from office_tools.from_packages.told import tell
 from office_tools.service import DEFAULT_URL
 
-NAME = "office-from-britney"
 SHOWN = 10
 
 

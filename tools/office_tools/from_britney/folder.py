@@ -1,23 +1,26 @@
 """A data folder of britney2: testing and unstable, each with Packages_ARCH, Sources, BugsV, and what only one has."""
 import datetime
+import functools
 import os
 import re
 from collections import defaultdict
 from dataclasses import dataclass
 from typing import Iterator, Mapping, Optional, Sequence
 
-from office_tools import relations, versions
+from office_tools import faults, relations, versions
 from office_tools.bugs.lists import Entry, read_list
 from office_tools.faults import Exit, Fault
 from office_tools.files import read_bytes
 from office_tools.from_packages.sources import Arrival, Arrivals
-from office_tools.from_packages.told import tell
 from office_tools.messages import Urgency, rank
 
+NAME = "office-from-britney"
 PACKAGES = "Packages_"
 EPOCH = datetime.date(1970, 1, 1)
 MOST_DAYS = 2932896  # up to 9999-12-31
 DAYS = re.compile(r"[0-9]{1,7}")
+
+tell = functools.partial(faults.tell, NAME)
 
 
 @dataclass(frozen=True)

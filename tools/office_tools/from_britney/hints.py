@@ -6,8 +6,7 @@ from dataclasses import dataclass
 from typing import Iterator, Mapping, Sequence
 
 from office_tools import messages, relations, versions
-from office_tools.from_britney.folder import text_of
-from office_tools.from_packages.told import tell
+from office_tools.from_britney.folder import tell, text_of
 from office_tools.messages import Kind, Label, Made, Paragraph, kind_of, numbered
 from office_tools.senders import HINTS
 

@@ -10,12 +10,11 @@ from office_tools.faults import Exit, Fault
 from office_tools.feed.known import sent_in
 from office_tools.files import read_bytes
 from office_tools.from_britney import hints
-from office_tools.from_britney.folder import Folder, Suite
+from office_tools.from_britney.folder import Folder, Suite, tell
 from office_tools.from_britney.hints import Letters
 from office_tools.from_packages import mail
 from office_tools.from_packages.index import Index, read_index
 from office_tools.from_packages.sources import Arrival
-from office_tools.from_packages.told import tell
 from office_tools.messages import Kind, Urgency, kind_of
 from office_tools.senders import BUGS, HINTS
 

@@ -124,7 +124,7 @@ def has_moved(event: Event) -> bool:
 
 def fetch_testing(office: Office, state: State, newest: int) -> bool:
     """Keeps what is in testing after the newest run; returns whether the office gave that of this run, or can't."""
-    kept = state.testing()
+    kept = state.suite("testing")
     if kept is not None and kept[0] == newest:
         return True
     told = office.testing()
@@ -160,12 +160,12 @@ def without_age(excuse: Excuse) -> str:
 
 def fetch_unstable(office: Office, state: State, newest: int) -> None:
     """Keeps what is in unstable, once a run. An answer after a later run waits for the next call."""
-    kept = state.unstable()
+    kept = state.suite("unstable")
     if kept is not None and kept[0] == newest:
         return
     told = office.unstable()
     if told is not None and told.startswith(f"unstable {newest}\n"):
-        state.keep_unstable(newest, told)
+        state.keep_suite("unstable", newest, told)
 
 
 def sources_to_ask(newest: Newest, whys: Mapping[str, Why]) -> Sequence[str]:

@@ -102,7 +102,7 @@ def refusals_of(state: State, newest: int, update: Update) -> Mapping[int, Refus
     kept = {run.number for run in state.runs()}
     left, run = set(refused), newest - 1
     while left and run in kept:
-        left &= set(refused_in(reports.read_update(state.update(run))))
+        left &= set(refused_in(reports.read_update(state.run(run).update)))
         since.update(dict.fromkeys(left, run))
         run -= 1
     return {number: Refusal(refused_because(change), newest, since[number]) for number, change in refused.items()}

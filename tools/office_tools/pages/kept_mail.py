@@ -146,8 +146,7 @@ class KeptMail:
 
     def read_up_to(self) -> Mapping[str, int]:
         """Up to which number the mail of each sender was read."""
-        with self.state.faults():
-            return dict(self.state.database.execute("SELECT sender, number FROM mail_read").fetchall())
+        return dict(self.state.all("SELECT sender, number FROM mail_read"))
 
     def is_read(self, run: int) -> bool:
         """Whether all mail was read that was kept when this run was the newest one."""
@@ -183,11 +182,9 @@ class KeptMail:
     def needing(self, names: Collection[str]) -> Mapping[str, Collection[str]]:
         """The sources with a build one of whose clauses names a package, by the package."""
         found: dict[str, set[str]] = collections.defaultdict(set)
-        with self.state.faults():
-            for some in parts(sorted(names)):
-                for name, sources in self.state.database.execute(
-                        f"SELECT name, sources FROM need WHERE name IN ({marks(some)})", some):
-                    found[name].update(sources.split(" "))
+        for some in parts(sorted(names)):
+            for name, sources in self.state.all(f"SELECT name, sources FROM need WHERE name IN ({marks(some)})", some):
+                found[name].update(sources.split(" "))
         return found
 
     def builds(self, sources: Collection[str]) -> Mapping[str, Mapping[Key, Build]]:
@@ -195,21 +192,19 @@ class KeptMail:
         first one."""
         new = sorted(source for source in sources if source not in self.known)
         found: dict[str, dict[Key, Build]] = {source: {} for source in new}
-        with self.state.faults():
-            for some in parts(new):
-                for source, text in self.state.database.execute(
-                        f"SELECT source, told FROM build WHERE source IN ({marks(some)}) ORDER BY source, place", some):
-                    for build in builds_in(text):
-                        if build.source == source:
-                            found[source].setdefault((build.architecture, build.package, build.version), build)
+        for some in parts(new):
+            for source, text in self.state.all(
+                    f"SELECT source, told FROM build WHERE source IN ({marks(some)}) ORDER BY source, place", some):
+                for build in builds_in(text):
+                    if build.source == source:
+                        found[source].setdefault((build.architecture, build.package, build.version), build)
         self.known |= found
         return {source: self.known[source] for source in sources}
 
     def people(self) -> Mapping[str, Person]:
         """Who maintains each source whose upload says so."""
-        with self.state.faults():
-            return {source: Person(maintainer, people_in(uploaders)) for source, maintainer, uploaders
-                    in self.state.database.execute("SELECT source, maintainer, uploaders FROM person")}
+        return {source: Person(maintainer, people_in(uploaders)) for source, maintainer, uploaders
+                in self.state.all("SELECT source, maintainer, uploaders FROM person")}
 
 
 @functools.lru_cache(MOST_KEPT)

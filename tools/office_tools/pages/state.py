@@ -9,7 +9,7 @@ import json
 import sqlite3
 import zlib
 from dataclasses import dataclass
-from typing import Collection, Iterable, Iterator, Mapping, NamedTuple, Optional, Sequence
+from typing import Any, Collection, Iterable, Iterator, Mapping, NamedTuple, Optional, Sequence
 
 from office_tools.faults import Fault
 from office_tools.reports import Run
@@ -158,6 +158,21 @@ class State:
                 self.database.execute("ROLLBACK")
                 raise
 
+    def all(self, question: str, words: Sequence[object] = ()) -> Sequence[Any]:
+        """The rows by which the database answers a question."""
+        with self.faults():
+            return self.database.execute(question, words).fetchall()
+
+    def one(self, question: str, words: Sequence[object] = ()) -> Any:
+        """The first of these rows, or None."""
+        return next(iter(self.all(question, words)), None)
+
+    def keep(self, table: str, rows: Sequence[Sequence[object]]) -> None:
+        """Keeps rows, each in place of an earlier one of its key, within a transaction: all pages are looked at."""
+        if rows:
+            self.database.executemany(f"INSERT OR REPLACE INTO {table} VALUES ({marks(rows[0])})", rows)
+            self.database.execute("DELETE FROM built")
+
     def close(self) -> None:
         """Closes the database."""
         with self.faults():
@@ -165,14 +180,11 @@ class State:
 
     def runs(self) -> Sequence[Run]:
         """The lines of the kept runs, in order."""
-        with self.faults():
-            return [run_in(line) for line, in self.database.execute("SELECT line FROM run ORDER BY number")]
+        return [run_in(line) for line, in self.all("SELECT line FROM run ORDER BY number")]
 
     def run(self, number: int) -> KeptRun:
         """A kept run."""
-        with self.faults():
-            found = self.database.execute(
-                "SELECT line, fetched, excuses, updated FROM run WHERE number = ?", (number,)).fetchone()
+        found = self.one("SELECT line, fetched, excuses, updated FROM run WHERE number = ?", (number,))
         return KeptRun(run_in(found[0]), found[1], unpacked(found[2]), unpacked(found[3]))
 
     def drop_from(self, number: int) -> None:
@@ -206,64 +218,41 @@ class State:
         if self.last is not None:
             self.last |= events
 
-    def update(self, number: int) -> str:
-        """The update of a kept run."""
-        with self.faults():
-            found = self.database.execute("SELECT updated FROM run WHERE number = ?", (number,)).fetchone()
-        return unpacked(found[0])
-
     def last_events(self) -> Mapping[str, Event]:
         """The last event of each source."""
         if self.last is None:
-            with self.faults():
-                self.last = {source: Event._make(parts)
-                             for source, *parts in self.database.execute("SELECT * FROM last")}
+            self.last = {source: Event._make(parts) for source, *parts in self.all("SELECT * FROM last")}
         return self.last
 
     def events(self, sources: Sequence[str]) -> Iterator[tuple[str, Sequence[Event]]]:
         """The events of each of these sources, the last one first."""
         for some in parts(sources):
             found: dict[str, list[Event]] = {source: [] for source in some}
-            with self.faults():
-                for source, *event in self.database.execute(
-                        "SELECT source, run, testing, unstable, reasons, outcome FROM event "
-                        f"WHERE source IN ({marks(some)}) ORDER BY source, run DESC", some):
-                    found[source].append(Event._make(event))
+            for source, *event in self.all("SELECT source, run, testing, unstable, reasons, outcome FROM event "
+                                           f"WHERE source IN ({marks(some)}) ORDER BY source, run DESC", some):
+                found[source].append(Event._make(event))
             yield from found.items()
 
     def events_from(self, run: int) -> Mapping[str, Sequence[Event]]:
         """The events of each source that has one from this run on, in the order of runs."""
         found: dict[str, list[Event]] = {}
-        with self.faults():
-            for source, *parts in self.database.execute(
-                    "SELECT source, run, testing, unstable, reasons, outcome FROM event WHERE source IN "
-                    "(SELECT source FROM last WHERE run >= ?) ORDER BY source, run", (run,)):
-                found.setdefault(source, []).append(Event(*parts))
+        for source, *parts in self.all(
+                "SELECT source, run, testing, unstable, reasons, outcome FROM event WHERE source IN "
+                "(SELECT source FROM last WHERE run >= ?) ORDER BY source, run", (run,)):
+            found.setdefault(source, []).append(Event(*parts))
         return found
-
-    def testing(self) -> Optional[tuple[int, str]]:
-        """What is in testing after a run, with the run's number."""
-        return self.suite("testing")
 
     def keep_testing(self, run: int, told: str) -> None:
         """Keeps what is in testing after a run, in place of what was kept, and which sources differ from that."""
-        before = self.testing()
+        before = self.suite("testing")
         lines = set(told.splitlines()).symmetric_difference(before[1].splitlines() if before else ())
         words = (line.split(" ") for line in lines)
         self.keep_suite("testing", run, told, {line[1] if len(line) == 3 else line[-1] for line in words})
 
-    def unstable(self) -> Optional[tuple[int, str]]:
-        """What the office said of unstable when this run was the newest one."""
-        return self.suite("unstable")
-
-    def keep_unstable(self, run: int, told: str) -> None:
-        """Keeps what is in unstable, in place of what was kept."""
-        self.keep_suite("unstable", run, told)
-
     def suite(self, table: str) -> Optional[tuple[int, str]]:
-        """The text of a suite, and its run."""
-        with self.faults():
-            found = self.database.execute(f"SELECT run, told FROM {table}").fetchone()
+        """What is in testing after a run, or what the office said of unstable when it was the newest one; and the run.
+        """
+        found = self.one(f"SELECT run, told FROM {table}")
         return (found[0], unpacked(found[1])) if found else None
 
     def keep_suite(self, table: str, run: int, told: str, touched: Iterable[str] = ()) -> None:
@@ -276,21 +265,17 @@ class State:
 
     def whys(self) -> Mapping[str, Why]:
         """What was answered about sources."""
-        with self.faults():
-            return {source: Why(*parts) for source, *parts in self.database.execute("SELECT * FROM why")}
+        return {source: Why(*parts) for source, *parts in self.all("SELECT * FROM why")}
 
     def keep_whys(self, whys: Mapping[str, Why], hints: Iterable[int]) -> None:
         """Keeps answers about sources, each in place of an earlier one, and which hints they name."""
         with self.transaction():
-            self.database.executemany("INSERT OR REPLACE INTO why VALUES (?, ?, ?, ?, ?)", (
-                (source, why.run, why.since, why.excuse, why.told) for source, why in whys.items()))
+            self.keep("why", [(source, why.run, why.since, why.excuse, why.told) for source, why in whys.items()])
             self.want_hints(hints)
-            self.database.execute("DELETE FROM built")
 
     def asked(self) -> Optional[int]:
         """After which run the office was asked about all sources, if it was."""
-        with self.faults():
-            found = self.database.execute("SELECT run FROM asked").fetchone()
+        found = self.one("SELECT run FROM asked")
         return found[0] if found else None
 
     def keep_asked(self, run: int) -> None:
@@ -301,30 +286,24 @@ class State:
 
     def told(self, name: str) -> Optional[tuple[int, str]]:
         """A text that is kept as it was printed, and after which run."""
-        with self.faults():
-            found = self.database.execute("SELECT run, told FROM told WHERE name = ?", (name,)).fetchone()
+        found = self.one("SELECT run, told FROM told WHERE name = ?", (name,))
         return (found[0], found[1]) if found else None
 
     def keep_told(self, name: str, run: int, text: str) -> None:
         """Keeps a text as it was printed, in place of an earlier one."""
-        if self.told(name) == (run, text):
-            return
-        with self.transaction():
-            self.database.execute("INSERT OR REPLACE INTO told VALUES (?, ?, ?)", (name, run, text))
-            self.database.execute("DELETE FROM built")
+        if self.told(name) != (run, text):
+            with self.transaction():
+                self.keep("told", [(name, run, text)])
 
     def proposals(self) -> Mapping[str, Proposal]:
         """What was proposed for sources."""
-        with self.faults():
-            return {source: Proposal(*parts) for source, *parts in self.database.execute("SELECT * FROM proposal")}
+        return {source: Proposal(*parts) for source, *parts in self.all("SELECT * FROM proposal")}
 
     def keep_proposals(self, proposals: Mapping[str, Proposal]) -> None:
         """Keeps what was proposed for sources, each in place of an earlier answer."""
-        if proposals:
-            with self.transaction():
-                self.database.executemany("INSERT OR REPLACE INTO proposal VALUES (?, ?, ?, ?)", (
-                    (source, proposal.run, proposal.excuse, proposal.told) for source, proposal in proposals.items()))
-                self.database.execute("DELETE FROM built")
+        with self.transaction():
+            self.keep("proposal", [(source, proposal.run, proposal.excuse, proposal.told)
+                                   for source, proposal in proposals.items()])
 
     def want_hints(self, numbers: Iterable[int]) -> None:
         """Keeps within a transaction that the texts of these hints are wanted."""
@@ -332,35 +311,28 @@ class State:
 
     def ask_hints(self, numbers: Iterable[int]) -> None:
         """Keeps that these hints are wanted, if some of them aren't known yet."""
-        with self.faults():
-            known = {number for number, in self.database.execute("SELECT number FROM hint")}
+        known = {number for number, in self.all("SELECT number FROM hint")}
         if not known.issuperset(numbers):
             with self.transaction():
                 self.want_hints(numbers)
 
     def wanted_hints(self) -> Sequence[int]:
         """The hints whose texts weren't asked for yet."""
-        with self.faults():
-            found = self.database.execute("SELECT number FROM hint WHERE told IS NULL ORDER BY number").fetchall()
-        return [number for number, in found]
+        return [number for number, in self.all("SELECT number FROM hint WHERE told IS NULL ORDER BY number")]
 
     def hints(self) -> Mapping[int, SentHint]:
         """Hints by their numbers."""
-        with self.faults():
-            found = self.database.execute("SELECT number, told, sent_by, comment FROM hint WHERE told IS NOT NULL")
-            return {number: SentHint(*parts) for number, *parts in found}
+        return {number: SentHint(*parts) for number, *parts in self.all(
+            "SELECT number, told, sent_by, comment FROM hint WHERE told IS NOT NULL")}
 
     def keep_hints(self, hints: Mapping[int, SentHint]) -> None:
         """Keeps hints."""
         with self.transaction():
-            self.database.executemany("INSERT OR REPLACE INTO hint VALUES (?, ?, ?, ?)", (
-                (number, hint.text, hint.by, hint.comment) for number, hint in hints.items()))
-            self.database.execute("DELETE FROM built")
+            self.keep("hint", [(number, hint.text, hint.by, hint.comment) for number, hint in hints.items()])
 
     def digests(self) -> Mapping[str, str]:
         """Of each page that was written a digest of what it was made of."""
-        with self.faults():
-            return dict(self.database.execute("SELECT path, digest FROM page").fetchall())
+        return dict(self.all("SELECT path, digest FROM page"))
 
     def keep_digests(self, digests: Mapping[str, str], gone: Sequence[str] = ()) -> None:
         """Keeps digests of pages that were written, and forgets those of pages that are gone."""
@@ -373,8 +345,7 @@ class State:
 
         Mail by which only transitions change is meant; other mail counts as anything else.
         """
-        with self.faults():
-            found = self.database.execute("SELECT made_by, has_mail FROM built").fetchone()
+        found = self.one("SELECT made_by, has_mail FROM built")
         return (found[0], bool(found[1])) if found else None
 
     def touch(self, sources: Iterable[str]) -> None:
@@ -383,13 +354,11 @@ class State:
 
     def touched(self) -> Collection[str]:
         """The sources of which something that is kept changed since all pages were made."""
-        with self.faults():
-            return [source for source, in self.database.execute("SELECT source FROM touched")]
+        return [source for source, in self.all("SELECT source FROM touched")]
 
     def basis(self) -> Optional[str]:
         """What the pages of sources show beside what is kept of each of them, when all of them were made last."""
-        with self.faults():
-            found = self.database.execute("SELECT told FROM basis").fetchone()
+        found = self.one("SELECT told FROM basis")
         return found[0] if found else None
 
     def keep_built(self, made_by: str, basis: str) -> None:
@@ -407,7 +376,7 @@ def parts(words: Sequence[str]) -> Iterator[Sequence[str]]:
     return (words[place:place + MOST_WORDS] for place in range(0, len(words), MOST_WORDS))
 
 
-def marks(words: Sequence[str]) -> str:
+def marks(words: Sequence[object]) -> str:
     """A mark for each word of a question to the database."""
     return ", ".join("?" * len(words))
 

@@ -19,7 +19,7 @@ WORDS = {OLD: "to rebuild", NEW: "rebuilt", NEITHER: "no need", MISSING: "not bu
 
 def transition_pages(facts: views.Facts, state: State) -> Iterator[SectionPage]:
     """The list of all transitions, and a page of each."""
-    unstable = state.unstable()
+    unstable = state.suite("unstable")
     if facts.testing is None or unstable is None or unstable[0] != facts.newest.number:
         told = "What is in unstable wasn't told, so transitions aren't known."
         yield SectionPage("transitions", "Transitions", (line(told),), ())

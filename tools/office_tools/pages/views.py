@@ -199,7 +199,7 @@ class Facts:
 
 def facts_of(state: State, newest: Newest, patterns: Patterns) -> Facts:
     """All that is kept, read."""
-    kept = state.testing()
+    kept = state.suite("testing")
     testing = reports.read_testing(kept[1]) if kept is not None and kept[0] == newest.number else None
     rows = testing.rows if testing else ()
     hints = state.told(HINTS)

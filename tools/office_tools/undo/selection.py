@@ -8,6 +8,7 @@ from office_tools import days, messages
 from office_tools.faults import Exit, Fault
 from office_tools.feed.news import GONE
 from office_tools.messages import Kind, Label, Paragraph, kind_of, label_of_first, paragraphs
+from office_tools.orders import Orders
 
 UNDONE = "Undone"
 """A field that the office doesn't read: what a message of the kind none was before."""
@@ -85,25 +86,17 @@ class Order:
 def orders(letters: Sequence[Letter]) -> Mapping[int, Order]:
     """The orders by their runs' numbers."""
     found: dict[int, Order] = {}
-    cover: dict[str, int] = {}
+    known = Orders()
     for letter in sorted(letters, key=lambda letter: letter.label.number):
         if kind_of(letter.first) is Kind.RUN:
-            before = dict(cover)
+            before = dict(known.covers)
             try:
-                cover.update(covered(letter.first.value("Covers") or "", before))
+                known.take(letter.first)
                 day = days.day(letter.first.value("Day") or "")
             except ValueError as fault:
                 raise Fault(f"{letter.label.sender} {letter.label.number}: it is no order", Exit.REFUSED) from fault
-            found[letter.label.number] = Order(day, before, dict(cover))
+            found[letter.label.number] = Order(day, before, dict(known.covers))
     return found
-
-
-def covered(value: str, before: Mapping[str, int]) -> Iterator[tuple[str, int]]:
-    """Up to which number a field `Covers` states each sender's mail, and at least what was covered before."""
-    for item in value.split(","):
-        words = item.split()
-        if words:
-            yield words[0], max(before.get(words[0], 0), int(words[-1]))
 
 
 def is_feeds(letter: Letter) -> bool:
