@@ -87,7 +87,7 @@ KINDS_OF: Mapping[Role, Sequence[Kind]] = {
 }
 """The kinds that a sender of each role may send."""
 
-HEAD_FIELDS: Sequence[FieldRule] = (FieldRule("From"), FieldRule("Number"), FieldRule("Kind"))
+HEAD_FIELDS: Sequence[FieldRule] = tuple(map(FieldRule, ("From", "Number", "Kind")))
 """The fields of each message's first paragraph, before those of its kind."""
 
 BINARY_FIELDS: Sequence[FieldRule] = (

@@ -29,6 +29,11 @@ def output(words: Sequence[str], given: bytes = b"") -> bytes:
     return ran.stdout
 
 
+def testing_in(told: str) -> reports.Testing:
+    """The testing at the end of what a replay prints."""
+    return reports.read_testing(told[told.rfind("\ntesting ") + 1:], f"{name()} replay")
+
+
 def replies(setup: str, texts: Sequence[bytes]) -> Sequence[str]:
     """What an office in memory answers to these messages, one after the other: `held ..` or `refused ..`."""
     told = output(["replay", "--conf", setup], b"".join(map(bags.framed, texts)))

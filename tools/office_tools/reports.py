@@ -191,7 +191,7 @@ class Hints:
             found.setdefault(item.number, []).append(item)
         return found
 
-    @property
+    @functools.cached_property
     def wishes(self) -> Mapping[int, Wish]:
         """Each hint's words up to its items, and its items."""
         return {number: (items[0].words, [item.item for item in items]) for number, items in self.by_number.items()}

@@ -5,7 +5,7 @@ import functools
 import os
 from typing import Sequence
 
-from office_tools import bags, days, faults, messages, program, reports
+from office_tools import bags, days, faults, messages, program
 from office_tools.adopt.rows import adoptable
 from office_tools.apply.brakes import named
 from office_tools.apply.contents import Contents, Indexes, target, wanted
@@ -67,8 +67,7 @@ def checked(setup: str, bag: bytes, have: Contents) -> int:
     refused = [line for line in told.splitlines() if line.startswith("refused ")]
     for line in refused:
         print(line)
-    place = told.rfind("\ntesting ") + 1
-    testing = reports.read_testing(told[place:], f"{program.name()} replay")
+    testing = program.testing_in(told)
     want = wanted(testing, sorted({row.architecture for row in have.rows}), Indexes.ONCE)
     want = as_archived(want, have) if have.sources else Contents(have.sources, want.rows, want.built_of)
     goal = target(want, have)
@@ -79,7 +78,7 @@ def checked(setup: str, bag: bytes, have: Contents) -> int:
     left = [line for line in found.lines() if line.removeprefix("too much: ") not in beside]
     for line in left:
         print(line)
-    waiting = sum(line.startswith("wait ") for line in told[:place].splitlines())
+    waiting = sum(line.startswith("wait ") for line in told.splitlines())
     tell_alone(goal, tell)
     print(f"adopted: {len(testing.sources)} sources, {len(testing.rows)} packages; {waiting} wait, "
           f"{len(refused)} refused")

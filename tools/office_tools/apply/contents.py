@@ -97,16 +97,12 @@ def wanted(testing: reports.Testing, architectures: Sequence[str], indexes: Inde
     told_under: dict[Row, Source] = {}
     sent: dict[Item, str] = {sources[name]: version for name, version in testing.sources.items()}
     for told in testing.rows:
-        for place in places(told.architecture, architectures, indexes):
+        is_each = told.architecture == ALL and indexes is Indexes.EACH
+        for place in architectures if is_each else [told.architecture]:
             row = Row(place, told.architecture, told.package, marks.package_version(told.version))
             told_under[row], sent[row] = sources[told.source], told.version
     real = {source for source in sources.values() if not marks.is_made_up(source.name)}
     return Contents(frozenset(real), frozenset(told_under), told_under, sent=sent)
-
-
-def places(architecture: str, architectures: Sequence[str], indexes: Indexes) -> Sequence[str]:
-    """The indexes that have a package of an architecture."""
-    return architectures if architecture == ALL and indexes is Indexes.EACH else [architecture]
 
 
 @dataclass(frozen=True)

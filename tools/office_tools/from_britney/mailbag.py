@@ -2,7 +2,7 @@
 from dataclasses import dataclass
 from typing import Mapping, Sequence
 
-from office_tools import bags, program, reports
+from office_tools import bags, program
 from office_tools.bugs.changes import LISTED, changes, read_pairs
 from office_tools.bugs.kept import Book, bug_of
 from office_tools.bugs.lists import Names
@@ -47,8 +47,7 @@ def book_of(letters: Letters) -> Book:
 
 def testing_of(setup: str, bag: bytes) -> Mapping[str, str]:
     """The sources of the testing that an office with this mail has."""
-    told = program.output(["replay", "--conf", setup], bag).decode()
-    return reports.read_testing(told[told.rfind("\ntesting ") + 1:], f"{program.name()} replay").sources
+    return program.testing_in(program.output(["replay", "--conf", setup], bag).decode()).sources
 
 
 @dataclass(frozen=True)

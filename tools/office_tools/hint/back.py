@@ -5,9 +5,9 @@ from typing import Iterator, Sequence
 from office_tools import versions
 from office_tools.counts import FORM
 from office_tools.hint.letters import Letter, Signature, hint, unhint
-from office_tools.hint.team import Standing, Team
+from office_tools.hint.team import Team
 from office_tools.lint.state import wish_of
-from office_tools.reports import HintItem, ItemStanding, Wish
+from office_tools.reports import HintItem, Hints, ItemStanding, Wish
 
 
 @dataclass(frozen=True)
@@ -27,7 +27,7 @@ class TakenBack:
         return f"{' '.join([words, *items])}{again}{self.reason}"
 
 
-def asked_for(standing: Standing, wish: str) -> Iterator[TakenBack]:
+def asked_for(standing: Hints, wish: str) -> Iterator[TakenBack]:
     """Each hint in force that is the one of a number, or that has an item of a wish of the same words."""
     if FORM.fullmatch(wish):
         number = int(wish)
@@ -40,7 +40,7 @@ def asked_for(standing: Standing, wish: str) -> Iterator[TakenBack]:
             yield TakenBack(number, (others, has), rest_of(standing, number, items))
 
 
-def rest_of(standing: Standing, number: int, items: Sequence[str]) -> Sequence[str]:
+def rest_of(standing: Hints, number: int, items: Sequence[str]) -> Sequence[str]:
     """The other items of a hint that have to be asked for again.
 
     None of them has to be if another hint in force asks the same. Of `age-days` the hint of the greatest number counts
@@ -57,9 +57,9 @@ def rest_of(standing: Standing, number: int, items: Sequence[str]) -> Sequence[s
     return [item for item in rest if item not in later]
 
 
-def over(standing: Standing) -> Iterator[TakenBack]:
+def over(standing: Hints) -> Iterator[TakenBack]:
     """Each hint in force all of whose items are over."""
-    for number, items in standing.items.items():
+    for number, items in standing.by_number.items():
         if all(map(is_over, items)):
             is_moved = all(item.standing is ItemStanding.MOVED for item in items)
             yield TakenBack(number, standing.wishes[number], (), ": moved" if is_moved else ": over")

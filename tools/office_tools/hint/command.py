@@ -129,7 +129,7 @@ def ask_for(team: Team, asked: argparse.Namespace) -> int:
 
 def chosen(team: Team, asked: argparse.Namespace) -> Iterator[back.TakenBack]:
     """The hints that are taken back, each once."""
-    standing = team.standing()
+    standing = team.service.hints()
     if asked.tidy:
         yield from back.over(standing)
         return

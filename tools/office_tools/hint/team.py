@@ -1,7 +1,6 @@
 """The release team of a running office: its hints in force, its next number, and its mail."""
 import datetime
-from dataclasses import dataclass
-from typing import Callable, Mapping, Optional, Sequence
+from typing import Callable, Optional, Sequence
 
 from office_tools.faults import Exit, Fault
 from office_tools.hint.letters import Letter, Signature
@@ -12,19 +11,10 @@ from office_tools.lint.slips import slips
 from office_tools.lint.state import State
 from office_tools.mailing import is_held, mailed, verdict
 from office_tools.messages import Label, Role, paragraphs
-from office_tools.reports import HintItem, Wish
 from office_tools.service import Service
 
 TURNS = 20  # how often the next number is taken, if others mail at the same time
 FAR = 30  # days back from which an upload's day is odd; no hint has one
-
-
-@dataclass(frozen=True)
-class Standing:
-    """The hints in force by their numbers, each as its words and its items, and the state of each item."""
-
-    wishes: Mapping[int, Wish]
-    items: Mapping[int, Sequence[HintItem]]
 
 
 class Team:
@@ -68,11 +58,6 @@ class Team:
             found += [slip.words for slip in slips(look)]
             state.take(label, text)
         return found
-
-    def standing(self) -> Standing:
-        """The hints in force."""
-        hints = self.service.hints()
-        return Standing(hints.wishes, hints.by_number)
 
     def signature(self, number: int) -> Signature:
         """Who asked for a hint, and why, if its message says so."""

@@ -31,24 +31,12 @@ class Text:
     is_alone: bool
 
 
+@dataclass(frozen=True)
 class Sender:
-    """What sends messages to a service, if that is asked for."""
+    """The service to which messages are sent, if that is asked for, and whether those with warnings are sent, too."""
 
-    def __init__(self, service: Optional[Service], is_forced: bool) -> None:
-        self.service = service
-        self.is_forced = is_forced
-
-    def sends(self, is_warned: bool) -> bool:
-        """Whether a message is sent."""
-        return self.service is not None and (self.is_forced or not is_warned)
-
-    def send(self, text: Text) -> str:
-        """Sends a message, and prints the office's reply."""
-        if self.service is None:
-            raise Fault("no service is named")
-        reply = mailed(self.service, text.text)
-        print(f"{text.name}: {reply}", flush=True)
-        return reply
+    service: Optional[Service]
+    is_forced: bool
 
 
 class Lint:
@@ -86,10 +74,14 @@ class Lint:
         for slip in warned:
             print(f"{text.name}:{slip.line}: warning: {slip.words}", flush=True)
         status = Exit.NEGATIVE if warned else Exit.DONE
-        if self.sender.sends(bool(warned)) and not is_held(self.sender.send(text)):
-            return Exit.REFUSED
-        if self.sender.service is None or self.sender.sends(bool(warned)):
-            self.state.take(label, text.text)
+        if self.sender.service is not None:
+            if warned and not self.sender.is_forced:
+                return status
+            reply = mailed(self.sender.service, text.text)
+            print(f"{text.name}: {reply}", flush=True)
+            if not is_held(reply):
+                return Exit.REFUSED
+        self.state.take(label, text.text)
         return status
 
 

@@ -20,14 +20,6 @@ PARTS = ("", "-wal", "-shm", "-journal")
 
 
 @dataclass(frozen=True)
-class Trial:
-    """What a run that is tried would decide: its update, and the testing that it leaves."""
-
-    update: reports.Update
-    testing: reports.Testing
-
-
-@dataclass(frozen=True)
 class Copy:
     """The store in a folder that may be lost at any time."""
 
@@ -104,8 +96,8 @@ class Copy:
         """The text of the next order over the mail of the copy."""
         return program.output(["order", "--day", day, *self.words(self.store)])
 
-    def tried(self, texts: Sequence[bytes], run: Label) -> Trial:
-        """What the run of this order decides after these messages, the last one being the order."""
+    def tried(self, texts: Sequence[bytes], run: Label) -> reports.Testing:
+        """The testing that the run of this order leaves after these messages, the last one being the order."""
         with tempfile.TemporaryDirectory(dir=self.folder, prefix=TRIAL) as folder:
             store = os.path.join(folder, STORE)
             for part in PARTS:
@@ -116,23 +108,14 @@ class Copy:
         if refused is not None:
             raise Fault(f"the copy of the office's store answers {refused}: somebody else sends mail: run it again",
                         Exit.REFUSED)
-        return trial(told, run)
+        return left_by(told, run)
 
 
-def trial(told: str, run: Label) -> Trial:
-    """The last run that a replay prints, and testing."""
-    lines = told.splitlines(keepends=True)
-    start = last(lines, f"update {run.number} ")
-    testing = last(lines, "testing ")
-    if start is None or testing is None:
+def left_by(told: str, run: Label) -> reports.Testing:
+    """The testing at the end of a replay whose last run is this one."""
+    if f"\nupdate {run.number} " not in told:
         raise Fault(f"run {run.number} can't be tried: an ordered run waits for mail", Exit.REFUSED)
-    return Trial(reports.read_update("".join(lines[start:testing])),
-                 reports.read_testing("".join(lines[testing:])))
-
-
-def last(lines: Sequence[str], head: str) -> Optional[int]:
-    """The place of the last line that begins so."""
-    return next((place for place in range(len(lines) - 1, -1, -1) if lines[place].startswith(head)), None)
+    return program.testing_in(told)
 
 
 def digest(text: Optional[bytes]) -> str:

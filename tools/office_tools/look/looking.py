@@ -5,12 +5,12 @@ import re
 from dataclasses import dataclass
 from typing import Iterator, Mapping, Optional, Sequence
 
-from office_tools import messages
+from office_tools import messages, reports
 from office_tools.faults import Exit, Fault
 from office_tools.from_packages.mail import proposal
 from office_tools.letters import letters
 from office_tools.look.blame import Eye, Step
-from office_tools.look.copy import Copy, Trial
+from office_tools.look.copy import Copy
 from office_tools.mailing import is_held, mailed
 from office_tools.messages import Made, label_of, numbered, paragraphs
 from office_tools.orders import Orders, stated_covers
@@ -75,7 +75,7 @@ class Look:
         for _ in range(TURNS):
             texts = [*proposed, *self.letters(blocked, len(proposed))]
             covered = self.covering(order, len(texts))
-            step = Step(before, self.tried(texts, covered).testing)
+            step = Step(before, self.tried(texts, covered))
             parts = self.eye.culprits(step) if self.eye is not None else []
             fixed = frozenset(blocked) | step.removed
             fresh: Mapping[str, str] = next((part for part in parts if not fixed.issuperset(part)), {})
@@ -86,8 +86,8 @@ class Look:
                            if name not in fixed)
         raise Fault(f"after {TURNS} turns packages still can't be installed: no run is ordered", Exit.REFUSED)
 
-    def tried(self, texts: Sequence[bytes], order: bytes) -> Trial:
-        """What the run of an order would do after these messages."""
+    def tried(self, texts: Sequence[bytes], order: bytes) -> reports.Testing:
+        """The testing that the run of an order would leave after these messages."""
         label = label_of(order)
         assert label is not None
         return self.copy.tried([*texts, order], label)

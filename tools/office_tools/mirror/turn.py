@@ -34,10 +34,6 @@ class Turn:
     sent: int = 0
     status: Exit = Exit.DONE
 
-    def is_at_least(self, status: Exit) -> None:
-        """Takes a status that is worse than what came before."""
-        self.status = max(self.status, status)
-
     def to_office(self, source: Source, target: Service, held: Held) -> None:
         """Posts all that the other office didn't hold yet. What it held is added to `held`, also if it fails."""
         theirs = target.kept()
@@ -69,7 +65,7 @@ class Turn:
         is_conflict = reply == "refused OtherText"
         what = f"keeps another text than {source.service.url}" if is_conflict else reply
         self.tell(f"{target.url}: {label.sender} {label.number}: {what}")
-        self.is_at_least(Exit.NEGATIVE if is_conflict else Exit.REFUSED)
+        self.status = max(self.status, Exit.NEGATIVE if is_conflict else Exit.REFUSED)
         return False
 
     def to_bag(self, source: Source, output: BinaryIO) -> None:

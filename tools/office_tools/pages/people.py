@@ -6,9 +6,8 @@ from typing import Iterable, Mapping, Sequence
 
 from office_tools.faults import Fault
 from office_tools.files import read_bytes
-from office_tools.pages.kept_mail import BETWEEN, MOST_KEPT, people_in, Person
+from office_tools.pages.kept_mail import BETWEEN, fields_of, MOST_KEPT, people_in, Person
 
-FIELD = re.compile(r"^(Package|Source|Maintainer|Uploaders):[ \t\r]*((?:.*\n?)(?:[ \t].*\n?)*)", re.M | re.I)
 SAFE = re.compile(r"[^a-z0-9.+-]")
 LONGEST = 150  # characters of a page's name
 MAIL = re.compile(r"<([^<>\s]+)>")
@@ -40,7 +39,7 @@ def in_lines(path: str, text: str) -> Iterable[tuple[str, Person]]:
 def in_paragraphs(text: str) -> Iterable[tuple[str, Person]]:
     """The people of paragraphs."""
     for paragraph in BETWEEN.split(text.strip("\n")):
-        fields = {name.lower(): " ".join(value.split()) for name, value in FIELD.findall(paragraph)}
+        fields = fields_of(paragraph)
         source, maintainer = fields.get("package") or fields.get("source", ""), fields.get("maintainer", "")
         if source and maintainer:
             yield source, Person(maintainer, people_in(fields.get("uploaders", "")))
