@@ -1,7 +1,7 @@
 """Bags: lists of messages, each after a line `mail N`, where N is its length in bytes."""
 import enum
 import re
-from typing import Iterator
+from typing import Iterable, Iterator
 
 from office_tools.faults import Fault
 
@@ -62,3 +62,8 @@ def header_fault(data: bytes, place: int) -> BagFault:
 def framed(text: bytes) -> bytes:
     """A message as it is in a bag."""
     return b"mail %d\n%s" % (len(text), text)
+
+
+def bag_of(texts: Iterable[bytes]) -> bytes:
+    """The bag of these messages."""
+    return b"".join(map(framed, texts))

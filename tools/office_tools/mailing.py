@@ -1,6 +1,7 @@
 """Mail to a running office."""
-from typing import Optional
+from typing import Callable, Optional, Sequence
 
+from office_tools.faults import Exit, Fault
 from office_tools.messages import label_of
 from office_tools.service import NO_ROUTE, Service
 
@@ -17,6 +18,18 @@ def mailed(service: Service, text: bytes, sender: Optional[str] = None) -> str:
     if sender is None and label is not None and label.sender == service.user:
         sender = label.sender
     return replied(service, "/mail" if sender is None else f"/mail/{sender}", text)
+
+
+def mail_all(service: Service, texts: Sequence[bytes], why: Callable[[str], str]) -> None:
+    """Posts messages one after the other. The first one that isn't held ends it, with what `why` says of its reply.
+
+    If this process ends in between, the next call finds what is held in the office's mail, and sends the rest.
+    """
+    for text in texts:
+        reply = mailed(service, text)
+        if not is_held(reply):
+            sender, number = label_of(text) or ("?", 0)
+            raise Fault(f"{service.url}: {sender} {number}: {reply}{why(reply)}", Exit.REFUSED)
 
 
 def verdict(service: Service, text: bytes) -> str:

@@ -66,5 +66,5 @@ def main(words: Sequence[str]) -> int:
     if stated != label:
         told = f"{stated.sender} {stated.number}" if stated else "no message"
         raise Fault(f"{path}: it is {told}, and not {label.sender} {label.number}", Exit.REFUSED)
-    sys.stdout.buffer.write(b"".join(map(bags.framed, mended(sys.stdin.buffer.read(), label, text))))
+    sys.stdout.buffer.write(bags.bag_of(mended(sys.stdin.buffer.read(), label, text)))
     return 0

@@ -36,7 +36,7 @@ def testing_in(told: str) -> reports.Testing:
 
 def replies(setup: str, texts: Sequence[bytes]) -> Sequence[str]:
     """What an office in memory answers to these messages, one after the other: `held ..` or `refused ..`."""
-    told = output(["replay", "--conf", setup], b"".join(map(bags.framed, texts)))
+    told = output(["replay", "--conf", setup], bags.bag_of(texts))
     found = processes.text(told).split("\n")[:len(texts)]
     for reply in found:
         if not reply.startswith(("held ", "refused ")) or reply in ("refused NoMemory", "refused Store"):

@@ -119,7 +119,10 @@ class Service:
 
     def good(self, path: str) -> bytes:
         """The body of a GET that is answered with 200; another answer is a `Fault`."""
-        reply = self.get(path)
+        return self.body(path, self.get(path))
+
+    def body(self, path: str, reply: Reply) -> bytes:
+        """The body of an answer of 200; another answer is a `Fault`."""
         if not reply.is_good:
             raise self.bad(path, reply)
         return reply.body
@@ -160,9 +163,7 @@ class Service:
         reply = self.get(path)
         if reply.status == http.client.NOT_FOUND and reply.text == "refused NoMessage":
             return None
-        if not reply.is_good:
-            raise self.bad(path, reply)
-        return reply.body
+        return self.body(path, reply)
 
     def bag(self, sender: str, first: int) -> bytes:
         """The kept messages of a sender from a number on, as a bag: what fits into 65,536 bytes, and one at least."""
@@ -189,9 +190,7 @@ class Service:
         reply = self.get(path)
         if reply.status == http.client.NOT_FOUND and reply.text == "refused NoRun":
             return None
-        if not reply.is_good:
-            raise self.bad(path, reply)
-        return reply.body.decode()
+        return self.body(path, reply).decode()
 
     def new_proposals(self, day: datetime.date) -> Sequence[str]:
         """The hints for groups that the office proposes for the run of a day, without those in force."""

@@ -50,9 +50,7 @@ def trial(service: Service, hints: Sequence[str], day: datetime.date) -> Trial:
     reply = service.post(path, lines_of(hints))
     if reply.status == http.client.BAD_REQUEST and reply.text.startswith("'"):
         raise Fault(reply.text, Exit.REFUSED)
-    if not reply.is_good:
-        raise service.bad(path, reply)
-    lines = reply.body.decode(errors="backslashreplace").splitlines()
+    lines = service.body(path, reply).decode(errors="backslashreplace").splitlines()
     head = HEAD.fullmatch(lines[0]) if lines else None
     if head is None:
         raise service.strange(path)

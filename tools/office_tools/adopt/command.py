@@ -116,7 +116,7 @@ def main(words: Sequence[str]) -> int:
     if asked.dry_run:
         return 0
     setup = mail.write_setup(asked.folder, index.architectures, asked.spare)
-    bag = b"".join(map(bags.framed, letters(setup, index, asked.day)))
+    bag = bags.bag_of(letters(setup, index, asked.day))
     write_whole(os.path.join(asked.folder, "bag"), bag)
     return 0 if asked.no_check else checked(setup, bag, read_indexes([("", path) for path in asked.packages],
                                                                      asked.sources))

@@ -86,8 +86,9 @@ def answer(asked: argparse.Namespace) -> Answer:
         "report": lambda: questions.report(path_of(asked.words)),
         "unstable": lambda: questions.report("/unstable"),
         "mail": lambda: questions.mail(asked.list),
-        "order": lambda: questions.order(asked.day.isoformat()),
-        "hints": questions.hints, "runs": questions.runs, "waiting": questions.waiting}
+        "order": lambda: Answer(service.order(asked.day)),
+        "hints": lambda: questions.plain("/hints", ["hints"]), "runs": lambda: questions.plain("/runs", ["runs"]),
+        "waiting": questions.waiting}
     return answers[asked.question]()
 
 

@@ -47,31 +47,14 @@ class Questions:
         self.service = service
         self.copy = copy
 
-    def whole(self, path: str) -> Optional[bytes]:
-        """The body of a GET, or None if the service cuts it."""
-        body = self.service.good(path)
-        return None if is_cut(body) else body
-
     def plain(self, path: str, words: Sequence[str]) -> Answer:
         """What a command prints that a route answers; a text that is cut comes from the copy, over a store."""
-        body = self.whole(path)
-        return self.copy.ask_store(words) if body is None else Answer(body)
-
-    def runs(self) -> Answer:
-        """Each finished run in a line."""
-        return self.plain("/runs", ["runs"])
-
-    def hints(self) -> Answer:
-        """The hints in force."""
-        return self.plain("/hints", ["hints"])
+        body = self.service.good(path)
+        return self.copy.ask_store(words) if is_cut(body) else Answer(body)
 
     def mail(self, is_list: bool) -> Answer:
         """How much mail is kept of each sender, or each message in a line."""
         return self.copy.ask_store(["mail", "--list"]) if is_list else self.plain("/kept", ["mail"])
-
-    def order(self, day: str) -> Answer:
-        """The next order on a day."""
-        return Answer(self.service.good(f"/order/{day}"))
 
     def waiting(self) -> Answer:
         """What the first run that isn't ready waits for: status 1 if an ordered run waits for mail."""
@@ -83,7 +66,7 @@ class Questions:
         reply = self.service.get(path)
         if is_refused(reply, "NoRun"):
             return Answer(b"", Exit.NEGATIVE, self.unfinished(path.rpartition("/")[2]))
-        return Answer(self.good(path, reply))
+        return Answer(self.service.body(path, reply))
 
     def unfinished(self, run: str) -> str:
         """The sentence on a run that isn't finished."""
@@ -107,7 +90,7 @@ class Questions:
         if not SOURCE.fullmatch(source):
             return unknown
         reply = self.service.get(f"/why/{source}")
-        return unknown if is_refused(reply, "NoSource") else Answer(self.good(f"/why/{source}", reply))
+        return unknown if is_refused(reply, "NoSource") else Answer(self.service.body(f"/why/{source}", reply))
 
     def why_hints(self, numbers: Sequence[str], run: Optional[int]) -> Answer:
         """What a run made of the hints of these numbers, by the copy: no route answers it."""
@@ -142,7 +125,7 @@ class Questions:
             return None
         if reply.status == http.client.BAD_REQUEST and HINT_REFUSED.match(reply.text):
             return Answer(b"", Exit.REFUSED, f"office-ask: {reply.text}\n")
-        told = self.good("/breaks", reply)
+        told = self.service.body("/breaks", reply)
         return Answer(told, Exit.NEGATIVE if UNKNOWN.search(told) else Exit.DONE)
 
     def trial(self, hints: Sequence[str], on: Next) -> Answer:
@@ -159,7 +142,7 @@ class Questions:
             return Answer(b"", Exit.REFUSED, f"office-ask: {reply.text}\n")
         if is_refused(reply, "TooManyHints"):
             return self.copy.ask(["try", *on.words, *hints])
-        told = self.good(path, reply)
+        told = self.service.body(path, reply)
         if is_cut(told):
             return self.copy.ask(["try", *on.words, *hints])
         return Answer(told, Exit.DONE if CHANGE.search(told) else Exit.NEGATIVE)
@@ -177,15 +160,9 @@ class Questions:
         reply = self.service.get(path)
         if is_refused(reply, "NoRun"):
             return Answer(b"", Exit.REFUSED, UNDATED)
-        body = self.good(path, reply)
+        body = self.service.body(path, reply)
         status = proposal_status(body, sources)
         return self.copy.ask(words) if is_cut(body) or status is None else Answer(body, status)
-
-    def good(self, path: str, reply: Reply) -> bytes:
-        """The body of an answer that is good; another one is a `Fault` of status 4."""
-        if not reply.is_good:
-            raise self.service.bad(path, reply)
-        return reply.body
 
 
 def is_refused(reply: Reply, name: str) -> bool:

@@ -7,11 +7,11 @@ import sys
 from dataclasses import dataclass, field
 from typing import Optional, Protocol, Sequence, TypeVar
 
-from office_tools import messages, versions
-from office_tools.bags import framed
+from office_tools import versions
+from office_tools.bags import bag_of
 from office_tools.faults import Exit, Fault, tell
 from office_tools.letters import letters
-from office_tools.mailing import is_held, mailed
+from office_tools.mailing import mail_all
 from office_tools.messages import Kind, Label, Paragraph, Range, Role, Severity, kind_of, paragraphs
 from office_tools.roles import sender_of
 from office_tools.service import Service
@@ -138,25 +138,12 @@ def mail_changes(service: Service, book: Book, found: Sequence[Changed], name: s
     """Sends what changed, and prints it; or prints the mail as a bag: the status."""
     texts = [change.text(book.label(place)) for place, change in enumerate(found)]
     if is_dry:
-        sys.stdout.buffer.write(b"".join(map(framed, texts)))
+        sys.stdout.buffer.write(bag_of(texts))
         tell(name, summary)
         return int(bool(texts))
-    send(service, texts)
+    mail_all(service, texts, lambda reply: ": another process sends as this sender: run it again"
+             if reply == "refused OtherText" else "")
     for change in found:
         print(change.line())
     print(summary)
     return Exit.DONE
-
-
-def send(service: Service, texts: Sequence[bytes]) -> None:
-    """Posts messages one after the other. The first one that isn't held ends it.
-
-    If this process ends in between, the next call finds what is held in the office's mail, and sends the rest.
-    """
-    for text in texts:
-        reply = mailed(service, text)
-        if not is_held(reply):
-            label = messages.label_of(text)
-            cause = ": another process sends as this sender: run it again" if reply == "refused OtherText" else ""
-            raise Fault(f"{service.url}: {label.sender if label else '?'} {label.number if label else 0}: "
-                        f"{reply}{cause}", Exit.REFUSED)

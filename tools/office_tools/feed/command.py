@@ -8,7 +8,7 @@ from typing import Mapping, Optional, Sequence
 
 from office_tools import days
 from office_tools.accounts import service_at
-from office_tools.bags import framed
+from office_tools.bags import bag_of
 from office_tools.faults import Exit, Fault
 from office_tools.feed import archive, brakes, mailbox, restoring
 from office_tools.feed.back import Archive
@@ -102,7 +102,7 @@ class Feed:
     def write_proposals(self, day: datetime.date, path: str) -> None:
         """Writes hints for the groups that the office proposes into a bag."""
         hints = self.proposals(day)
-        write_whole(path, b"".join(map(framed, hints)))
+        write_whole(path, bag_of(hints))
         print(f"proposed {len(hints)}, in {path}")
 
 

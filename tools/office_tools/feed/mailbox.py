@@ -60,7 +60,7 @@ class Outgoing:
     def write(self, texts: Sequence[bytes]) -> None:
         """Writes it down."""
         if texts:
-            write_whole(self.path, b"".join(map(bags.framed, texts)))
+            write_whole(self.path, bags.bag_of(texts))
 
     def clear(self) -> None:
         """All of it was sent."""

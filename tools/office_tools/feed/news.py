@@ -8,7 +8,7 @@ from typing import Iterator, Mapping, Optional, Sequence
 
 from office_tools import days, messages, reports, versions
 from office_tools.apply import marks
-from office_tools.bags import framed
+from office_tools.bags import bag_of
 from office_tools.deciding import SOURCE
 from office_tools.faults import Exit, Fault
 from office_tools.feed.back import Archive, Retold, came_back, without_strange
@@ -61,7 +61,7 @@ class News:
 
     def bag(self) -> bytes:
         """All of them as a bag."""
-        return b"".join(map(framed, self.texts))
+        return bag_of(self.texts)
 
 
 @dataclass(frozen=True)

@@ -7,7 +7,7 @@ from office_tools import days
 from office_tools.accounts import service_at
 from office_tools.adopt.command import letters
 from office_tools.adopt.rows import adoptable
-from office_tools.bags import framed
+from office_tools.bags import bag_of
 from office_tools.faults import Exit, Fault, some
 from office_tools.files import write_whole
 from office_tools.from_britney.compare import compared, read_heidi, reason
@@ -53,11 +53,11 @@ def make(asked: argparse.Namespace) -> int:
     setup, bag = write_setup(asked.folder, testing.architectures, asked.spare), os.path.join(asked.folder, "bag")
     first: bytes = b""
     if asked.after is None:
-        first = b"".join(map(framed, letters(setup, adoptable(testing)[0], asked.day)))
+        first = bag_of(letters(setup, adoptable(testing)[0], asked.day))
         write_whole(bag, first)
     office = office_of(setup, asked.after or bag)
     texts = news(folder, unstable, testing, office, asked.day.isoformat())
-    write_whole(bag, first + b"".join(map(framed, texts)))
+    write_whole(bag, first + bag_of(texts))
     return 0
 
 

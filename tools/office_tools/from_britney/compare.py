@@ -143,8 +143,7 @@ def reason(service: Service, source: str) -> Sequence[str]:
     reply = service.get(path)
     if reply.text in ("refused NoSource", "refused NoRoute", "refused NoRun"):
         return [" the office's last run saw no such source in unstable"]
-    if not reply.is_good:
-        raise service.bad(path, reply)
+    service.body(path, reply)
     lines = reply.text.split("\n")[1:]
     more = [f" and {len(lines) - MOST_LINES} more lines"] if len(lines) > MOST_LINES else []
     return [f" {line.lstrip(' ')}" for line in lines[:MOST_LINES]] + more

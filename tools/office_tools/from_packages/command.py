@@ -63,7 +63,7 @@ def main(given: Sequence[str]) -> int:
     setup = mail.write_setup(asked.folder, index.architectures, asked.spare)
     hints = [] if asked.no_hints else mail.hints(setup, bag, sent, news.texts, str(asked.run))
     order = mail.order(str(asked.run), sent, {**news.counts, HINTS: len(hints)})
-    write_whole(os.path.join(asked.folder, "bag"), b"".join(map(bags.framed, [*news.texts, *hints, order])))
+    write_whole(os.path.join(asked.folder, "bag"), bags.bag_of([*news.texts, *hints, order]))
     print(f"uploads {len(news.uploads)}, drops {len(news.drops)}, builds {len(news.builds)}, hints {len(hints)}, "
           "orders 1")
     return 0

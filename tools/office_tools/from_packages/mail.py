@@ -7,7 +7,7 @@ from typing import Collection, Iterable, Iterator, Mapping, Optional, Sequence
 
 from office_tools import messages, program, setups, versions
 from office_tools.apply import marks
-from office_tools.bags import LONGEST, framed
+from office_tools.bags import LONGEST, bag_of
 from office_tools.counts import count
 from office_tools.deciding import SOURCE
 from office_tools.feed.known import Known
@@ -190,7 +190,7 @@ def hints(setup: str, bag: bytes, sent: Known, texts: Sequence[bytes], day: str)
     those sent before.
     """
     before = {first.value("Hint") for _, first in sent.letters() if kind_of(first) is Kind.HINT}
-    wishes, told = program.proposed(setup, bag + b"".join(map(framed, texts)), day)
+    wishes, told = program.proposed(setup, bag + bag_of(texts), day)
     for line in told:
         tell(line.removeprefix("office: "))
     return numbered(HINTS, sent.taken.get(HINTS, 0), (proposal(wish, day) for wish in wishes if wish not in before))

@@ -8,7 +8,7 @@ from typing import Iterator, Optional, Sequence
 from office_tools import days, faults
 from office_tools.accounts import service_at
 from office_tools.apply.published import packages_of
-from office_tools.bags import framed
+from office_tools.bags import bag_of
 from office_tools.faults import Exit, Fault
 from office_tools.folders import cache_of, locked, made
 from office_tools.look import looking
@@ -102,7 +102,7 @@ def step(look: Look, asked: argparse.Namespace, told: set[str], hints: Sequence[
     found = look.look(hints)
     status = shown(found, told)
     if asked.dry_run:
-        sys.stdout.buffer.write(b"".join(map(framed, [*found.texts, *([found.order] if asked.order else [])])))
+        sys.stdout.buffer.write(bag_of([*found.texts, *([found.order] if asked.order else [])]))
         return Exit.NEGATIVE if found.texts or asked.order else status
     looking.send(look.service, found.texts)
     if asked.order:

@@ -103,7 +103,7 @@ class Copy:
             for part in PARTS:
                 if os.path.exists(self.store + part):
                     shutil.copyfile(self.store + part, store + part)
-            told = program.output(["replay", *self.words(store)], b"".join(map(bags.framed, texts))).decode()
+            told = program.output(["replay", *self.words(store)], bags.bag_of(texts)).decode()
         refused = next((line for line in told.splitlines()[:len(texts)] if not line.startswith("held ")), None)
         if refused is not None:
             raise Fault(f"the copy of the office's store answers {refused}: somebody else sends mail: run it again",

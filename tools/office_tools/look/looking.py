@@ -11,7 +11,7 @@ from office_tools.from_packages.mail import proposal
 from office_tools.letters import letters
 from office_tools.look.blame import Eye, Step
 from office_tools.look.copy import Copy
-from office_tools.mailing import is_held, mailed
+from office_tools.mailing import mail_all
 from office_tools.messages import Made, label_of, numbered, paragraphs
 from office_tools.orders import Orders, stated_covers
 from office_tools.service import Service
@@ -124,12 +124,7 @@ def blocks(service: Service, sender: str, numbers: Sequence[int]) -> Iterator[Bl
 
 def send(service: Service, texts: Sequence[bytes]) -> None:
     """Posts messages one after the other; the first that isn't held ends it."""
-    for text in texts:
-        reply = mailed(service, text)
-        if not is_held(reply):
-            label = label_of(text)
-            raise Fault(f"{service.url}: {label.sender if label else '?'} {label.number if label else '?'}: {reply}: "
-                        "somebody else sends too: run it again", Exit.REFUSED)
+    mail_all(service, texts, lambda _: ": somebody else sends too: run it again")
 
 
 def is_due(service: Service, order: bytes, day: datetime.date) -> bool:

@@ -84,11 +84,6 @@ def first_copies(copies: Sequence[Copy]) -> Sequence[Copy]:
     return [copy for copy, size in zip(copies, sizes) if size <= MOST_COPIED]
 
 
-def bag_of(copies: Sequence[Copy]) -> bytes:
-    """The messages as a bag, which tools mail."""
-    return b"".join(b"mail %d\n%s" % (len(text), text) for text in (copy.text.encode() for copy in copies))
-
-
 def refused_in(update: Update) -> Mapping[int, Change]:
     """The hints that a run refused."""
     return {change.hint: change for change in update.changes

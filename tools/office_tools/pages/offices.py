@@ -106,9 +106,7 @@ class ServiceOffice(Office):
             reply = self.service.get(path)
             if reply.status == http.client.NOT_FOUND and reply.text == NO_ROUTE:
                 return
-            if not reply.is_good:
-                raise self.service.bad(path, reply)
-            texts = list(bags.messages_in(reply.body))
+            texts = list(bags.messages_in(self.service.body(path, reply)))
             if not texts:
                 return
             yield from ((first + place, text) for place, text in enumerate(texts) if first + place <= last)

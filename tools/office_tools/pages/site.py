@@ -17,6 +17,7 @@ from typing import Any, Callable, Collection, Iterable, Iterator, Mapping, Optio
 import jinja2
 from markupsafe import Markup
 
+from office_tools.bags import bag_of
 from office_tools.pages import hints, mending, names, rows, verdicts, views
 from office_tools.pages.excuses_json import excuses_json
 from office_tools.pages.fetching import Newest
@@ -360,7 +361,7 @@ class Site:
             first = hints.first_copies(some)
             values |= {word: first, f"{word}_in_all": len(some)}
             if label and some:
-                self.put(f"hints-{word}.txt", hints.bag_of(some))
+                self.put(f"hints-{word}.txt", bag_of(copy.text.encode() for copy in some))
         values["lines"] = (lines or ())[:len(values["proposed"])]
         for link, parts, some_hints in paged(shown, facts.hint_pages):
             self.put(link, self.page("hints.html", {

@@ -5,7 +5,7 @@ from dataclasses import dataclass, field
 from typing import Iterator, Mapping, Sequence
 
 from office_tools import program
-from office_tools.bags import framed
+from office_tools.bags import bag_of
 from office_tools.faults import Exit, Fault
 
 
@@ -29,7 +29,7 @@ class Outcome:
 
 def replayed(words: Sequence[str], texts: Sequence[bytes]) -> Outcome:
     """What the program makes of these messages; `words` name the setup and maybe a store."""
-    told = program.output(["replay", *words], b"".join(map(framed, texts))).decode(errors="backslashreplace")
+    told = program.output(["replay", *words], bag_of(texts)).decode(errors="backslashreplace")
     lines = told.split("\n")
     outcome = Outcome([line for line in lines[:len(texts)] if not line.startswith("held ")])
     take(outcome, lines[len(texts) + 1:])
