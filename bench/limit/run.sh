@@ -11,6 +11,7 @@ office=$1
 shift
 work=$(mktemp -d)
 trap 'rm -rf "$work"' EXIT
+export OFFICE_SYNC="${OFFICE_SYNC:-$top/crates/office_sync/out/office_sync}"
 [ $# -gt 0 ] || set -- runs:34000 both:34000
 rustc -O --edition 2024 -o "$work/plain" "$here/plain/main.rs"
 for name in "$@"; do

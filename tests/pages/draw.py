@@ -19,6 +19,7 @@ import sys
 from dataclasses import dataclass, field
 
 TOP = os.path.join(os.path.dirname(os.path.realpath(__file__)), "..", "..")
+os.environ.setdefault("OFFICE_SYNC", os.path.join(TOP, "crates/office_sync/out/office_sync"))
 LISTS = "/var/lib/apt/lists"
 HELPER = "/usr/lib/apt/apt-helper"
 ARCHS = ("amd64", "arm64")

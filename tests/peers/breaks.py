@@ -19,6 +19,7 @@ import tempfile
 from typing import Iterator, Sequence
 
 TOP = os.path.join(os.path.dirname(os.path.realpath(__file__)), "..", "..")
+os.environ.setdefault("OFFICE_SYNC", os.path.join(TOP, "crates/office_sync/out/office_sync"))
 sys.path[:0] = [os.path.join(TOP, "tools")]
 sys.dont_write_bytecode = True
 

@@ -21,6 +21,7 @@ from world import ARCHITECTURES, TESTING, Binary, common, every, packages, sourc
 
 TOP = Path(__file__).resolve().parents[2]
 os.environ.setdefault("OFFICE_PLAN", str(TOP / "crates/office_plan/out/office_plan"))
+os.environ.setdefault("OFFICE_SYNC", str(TOP / "crates/office_sync/out/office_sync"))
 sys.path[:0] = [str(TOP / "tools"), str(TOP / "tests")]
 sys.dont_write_bytecode = True
 import serving  # noqa: E402

@@ -38,6 +38,7 @@ if OFFICE:
 import serving  # noqa: E402
 
 needs_office = unittest.skipUnless(OFFICE, "OFFICE names no built program")
+needs_due = unittest.skipUnless(SYNC, "OFFICE_SYNC names no built office-sync, and none is built")
 needs_plan = unittest.skipUnless(PLAN, "OFFICE_PLAN names no built office-plan, and none is built")
 needs_sync = unittest.skipUnless(OFFICE and SYNC, "OFFICE or OFFICE_SYNC names no built program, and none is built")
 

@@ -5,7 +5,7 @@ import tempfile
 import unittest
 import unittest.mock
 
-from helpers import needs_office, tool
+from helpers import needs_due, needs_sync, tool
 from office_tools import setups
 
 PACKAGES = """Package: one
@@ -73,7 +73,7 @@ class Adopt(unittest.TestCase):
         self.assertEqual(told.stdout, "sources 6, packages 7: under another version 1, clauses taken out 2\n")
         self.assertFalse(os.path.exists(self.path("week")))
 
-    @needs_office
+    @needs_sync
     def test_all_is_adopted(self):
         told = self.adopt()
         self.assertEqual(told.returncode, 0, told.stdout + told.stderr)
@@ -82,7 +82,7 @@ class Adopt(unittest.TestCase):
         self.assertIn("left alone: sources of which testing has no package, or packages that stay: idle 1",
                       told.stderr)
 
-    @needs_office
+    @needs_sync
     def test_setup(self):
         self.assertEqual(self.adopt("--no-check", "--spare", "3").returncode, 0)
         setup = setups.read_setup(self.path("week/setup.conf"))
@@ -91,7 +91,7 @@ class Adopt(unittest.TestCase):
         self.assertEqual([setup.senders[name].value for name in ("hand", "again3", "again1")],
                          ["upload", "build", "build"])
 
-    @needs_office
+    @needs_sync
     def test_older_versions(self):
         """The office has one version of a package: the others go with the first apply."""
         with open(self.path("Packages"), "a", encoding="utf-8") as file:
@@ -101,7 +101,7 @@ class Adopt(unittest.TestCase):
         self.assertIn("goes with the first apply, for testing has another version: binary amd64 only-amd64 0.9",
                       told.stdout.splitlines())
 
-    @needs_office
+    @needs_sync
     def test_older_packages_of_all(self):
         """They stay as long as what was built with them: here `three` of amd64."""
         with open(self.path("Packages"), "a", encoding="utf-8") as file:
@@ -113,7 +113,7 @@ class Adopt(unittest.TestCase):
         self.assertIn("left alone: older packages of all, with which packages that stay were built: three-doc 1-1",
                       told.stderr)
 
-    @needs_office
+    @needs_sync
     def test_a_package_without_its_source(self):
         """It is adopted, and that its source is missing is printed and no difference."""
         with open(self.path("Packages"), "a", encoding="utf-8") as file:
@@ -130,7 +130,7 @@ class Adopt(unittest.TestCase):
         with unittest.mock.patch.dict(os.environ, OFFICE=program):
             return self.adopt()
 
-    @needs_office
+    @needs_sync
     def test_ended_by_force(self):
         """Each file is written whole or not at all, and the next one makes both."""
         with open(self.path("office"), "w", encoding="utf-8") as file:
@@ -141,6 +141,7 @@ class Adopt(unittest.TestCase):
         self.assertEqual(self.adopt().returncode, 0)
         self.assertEqual(sorted(os.listdir(self.path("week"))), ["bag", "setup.conf"])
 
+    @needs_due
     def test_no_program(self):
         told = self.by(self.path("none"))
         self.assertEqual((told.returncode, told.stderr.splitlines()[-1]),

@@ -1,7 +1,7 @@
 """What of an office's unstable office-feed compares with an archive, and what it refuses."""
 import unittest
 
-from helpers import SYNC
+from helpers import needs_due
 from office_tools import reports
 from office_tools.faults import Fault
 from office_tools.from_packages.binaries import Binary
@@ -33,7 +33,7 @@ class Lists(unittest.TestCase):
         self.assertEqual(lists.dropped, {("lib", "amd64"): "3"})
 
 
-@unittest.skipUnless(SYNC, "OFFICE_SYNC names no built office-sync, and none is built")
+@needs_due
 class Due(unittest.TestCase):
 
     def test_what_is_due(self):

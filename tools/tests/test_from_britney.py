@@ -5,7 +5,7 @@ import tempfile
 import unittest
 from contextlib import redirect_stderr
 
-from helpers import Serving, needs_office, office, tool
+from helpers import Serving, needs_sync, office, tool
 from office_tools import bags, reports
 from office_tools.faults import Fault
 from office_tools.from_britney import compare, folder, hints
@@ -156,7 +156,7 @@ class Read(unittest.TestCase):
         self.assertEqual((found.idle, found.strange), (["doc"], [compare.Row("amd64", "odd", "1")]))
 
 
-@needs_office
+@needs_sync
 class Months(unittest.TestCase):
 
     def setUp(self):

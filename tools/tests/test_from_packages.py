@@ -8,7 +8,7 @@ import tempfile
 import unittest
 from unittest import mock
 
-from helpers import EXAMPLES, example, needs_office, office, tool
+from helpers import EXAMPLES, example, needs_due, needs_office, office, tool
 from office_tools import bags, messages, setups
 from office_tools.messages import Kind, Label, kind_of, paragraphs
 
@@ -25,6 +25,7 @@ def package(name, version, *, source="", depends="", provides="", architecture="
     return "".join(f"{field}: {value}\n" for field, value in fields if value) + "\n"
 
 
+@needs_due
 class Folder(unittest.TestCase):
     """A folder for the files of a test, and the command in it."""
 
