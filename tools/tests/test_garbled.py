@@ -8,6 +8,7 @@ import json
 import os
 import random
 import tempfile
+import time
 import unittest
 from contextlib import redirect_stderr, redirect_stdout
 
@@ -200,6 +201,12 @@ class Garbled(unittest.TestCase):
         self.assertTrue(openpgp.is_one_message(PACKETS))
         self.assertFalse(openpgp.is_one_message(PACKETS + PACKETS))
         self.assertFalse(openpgp.is_one_message(PACKETS[:-1]))
+
+    def test_many_packets(self):
+        """The longest letter, of packets that say nothing, costs no more than its length."""
+        began = time.process_time()
+        self.assertTrue(openpgp.is_one_message(PACKETS + b"\xca\0" * 500_000))
+        self.assertLess(time.process_time() - began, 10)
 
 
 if __name__ == "__main__":
