@@ -74,16 +74,18 @@ Reprepro.copy = lambda self, come: due(self, Contents(come.sources, frozenset(so
 from office_tools.apply import contents
 contents.older_of_all = lambda *words: []""", ("ways.py",), "lag-doc 1-2 in the index of arm64"),
     Fault("a feed that reuses a number", "feed", """
-from office_tools.feed import news
-due = news.read_sent
-def read_sent(path):
-    found = due(path)
-    found.last["ftp"] = max(0, found.last["ftp"] - 1)
-    return found
-news.read_sent = read_sent""", LOOP, "somebody else sends as ftp"),
+due = command.news
+def news(unstable, box, told, ways):
+    box.known.taken["ftp"] = max(0, box.known.taken.get("ftp", 0) - 1)
+    return due(unstable, box, told, ways)
+command.news = news""", LOOP, "somebody else sends as ftp"),
     Fault("a feed that tells no drops", "feed", """
-from office_tools.feed import news
-news.mail.drops = lambda *words: []""", LOOP, "update 12"),
+due = command.news
+def news(*words):
+    found, gone = due(*words)
+    found.drops = []
+    return found, gone
+command.news = news""", LOOP, "no run is ordered before it is dropped"),
     Fault("a feed that forgets what it was about to send", "feed", """
 from office_tools.feed.mailbox import Outgoing
 Outgoing.write = lambda self, texts: None""", ("kills.py", "feeds"), "numbers with two texts"))
