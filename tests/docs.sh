@@ -5,10 +5,9 @@
 # Usage: tests/docs.sh OFFICE
 #
 # OFFICE is the built program. What can't be run here is reported with its reason (tests/docs.py lists it). The services
-# that a document starts listen on 127.0.0.1:8080, which has to be free, and are ended. With APT=1 in the environment the
-# commands that fetch the lists of a Debian release by apt, and make a report of them, are run too; they need root, the
-# network and some minutes.
-# DOCUMENTS in the environment names some of them alone.
+# that a document starts listen on 127.0.0.1:8080, which has to be free, and are ended. With APT=1 in the environment
+# the commands that fetch the lists of a Debian release by apt, and make a report of them, are run too; they need root,
+# the network and some minutes. DOCUMENTS in the environment names some of the documents alone.
 # The last line is `N passed, N failed`; the exit status is 1 if one failed, and 2 if the words are wrong.
 set -eu
 if [ $# -ne 1 ] || [ ! -x "$1" ]; then

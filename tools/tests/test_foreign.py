@@ -188,10 +188,10 @@ class Garbled(Reading):
         self.each(text, read)
 
     def test_what_a_feed_knows_in_another_form(self):
-        for told in (b"", b"[]", b"{}", b'{"form": 1}', b'{"form": 2}', b'{"form": 2, "taken": {}}', b"[" * 5000,
+        for text in (b"", b"[]", b"{}", b'{"form": 1}', b'{"form": 2}', b'{"form": 2, "taken": {}}', b"[" * 5000,
                      b"\xff"):
-            with self.subTest(told=told[:20]):
-                self.assertRaises(Fault, known.read, sealed(told))
+            with self.subTest(text=text[:20]):
+                self.assertRaises(Fault, known.read, sealed(text))
 
     def test_what_a_feed_remembers(self):
         memory.Memory({"a line": "2025-03-01"}, {"x_Release": {"date": "2025-03-01"}}).write(self.folder)

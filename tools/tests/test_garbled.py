@@ -202,6 +202,13 @@ class Garbled(unittest.TestCase):
         self.assertFalse(openpgp.is_one_message(PACKETS + PACKETS))
         self.assertFalse(openpgp.is_one_message(PACKETS[:-1]))
 
+    def test_bugs_without_a_number(self):
+        """A bag may have one, though no office keeps it."""
+        for told in (b"", b"Bug:\n", b"Bug: x\n", b"Bug: " + b"9" * 5000 + b"\n"):
+            first = next(messages.paragraphs(b"From: bts\nNumber: 1\nKind: bug\nSource: app\n" + told))
+            with self.subTest(told=told[:20]):
+                self.assertRaises(Fault, kept.bug_of, first)
+
     def test_many_packets(self):
         """The longest letter, of packets that say nothing, costs no more than its length."""
         began = time.process_time()
