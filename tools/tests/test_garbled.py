@@ -22,6 +22,7 @@ from office_tools.from_britney import compare, folder, hints
 from office_tools.from_packages.sources import Arrival
 from office_tools.messages import Label, Severity, Urgency
 from office_tools.mirror import held
+from office_tools.pages.state import State
 from office_tools.undo import outcome, selection
 from test_autopkgtests import entry
 from test_from_britney import RELEASE, WORLD
@@ -208,6 +209,13 @@ class Garbled(unittest.TestCase):
             first = next(messages.paragraphs(b"From: bts\nNumber: 1\nKind: bug\nSource: app\n" + told))
             with self.subTest(told=told[:20]):
                 self.assertRaises(Fault, kept.bug_of, first)
+
+    def test_a_run_that_the_pages_lost(self):
+        """A damaged line of a run may name a number that no run has."""
+        state = State(self.path)
+        self.addCleanup(state.close)
+        for asked in (state.run, state.update):
+            self.assertRaises(Fault, asked, 5)
 
     def test_many_packets(self):
         """The longest letter, of packets that say nothing, costs no more than its length."""

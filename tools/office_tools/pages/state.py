@@ -173,6 +173,8 @@ class State:
         with self.faults():
             found = self.database.execute(
                 "SELECT line, fetched, excuses, updated FROM run WHERE number = ?", (number,)).fetchone()
+        if found is None:  # its line names another number
+            raise Fault(UNREADABLE)
         return KeptRun(run_in(found[0]), found[1], unpacked(found[2]), unpacked(found[3]))
 
     def drop_from(self, number: int) -> None:
@@ -210,6 +212,8 @@ class State:
         """The update of a kept run."""
         with self.faults():
             found = self.database.execute("SELECT updated FROM run WHERE number = ?", (number,)).fetchone()
+        if found is None:
+            raise Fault(UNREADABLE)
         return unpacked(found[0])
 
     def last_events(self) -> Mapping[str, Event]:
