@@ -3,11 +3,11 @@
 #
 # Usage: tests/all.sh OFFICE [STEP [PARTS]]
 #
-# OFFICE is the built program, crates/office/out/office. The environment's OFFICE_PLAN names the built office-plan, if it
-# isn't in crates/office_plan/out. With STEP only each STEPth growth, call and place is tried (1): 23 is a sample. PARTS
-# is the built program that judges itself, crates/cases_program/out/cases_program (see tests/memory/refused.py). What
-# each check prints goes to a file of a new folder, whose name is printed; if the check fails, the output is printed
-# too. The exit status is 1 if one failed.
+# OFFICE is the built program, crates/office/out/office. The environment's OFFICE_PLAN and OFFICE_SYNC name the built
+# office-plan and office-sync, if they aren't in crates/office_plan/out and crates/office_sync/out. With STEP only each
+# STEPth growth, call and place is tried (1): 23 is a sample. PARTS is the built program that judges itself,
+# crates/cases_program/out/cases_program (see tests/memory/refused.py). What each check prints goes to a file of a new
+# folder, whose name is printed; if the check fails, the output is printed too. The exit status is 1 if one failed.
 set -u
 if [ $# -lt 1 ] || [ ! -x "$1" ]; then
     echo "usage: $0 OFFICE [STEP [PARTS]]" >&2
@@ -59,14 +59,14 @@ sync=${OFFICE_SYNC:-$here/../crates/office_sync/out/office_sync}
 if [ -x "$sync" ]; then
     OFFICE_SYNC=$(realpath "$sync")
     export OFFICE_SYNC
-    try syncs /usr/bin/python3 "$here/archive/syncs.py" "$sync"
+    try syncs /usr/bin/python3 "$here/archive/syncs.py" "$sync" 100000
 else
     echo "not tried: syncs: office-sync isn't built"
 fi
 if [ -x "$plan" ]; then
     OFFICE_PLAN=$(realpath "$plan")
     export OFFICE_PLAN
-    try plans /usr/bin/python3 "$here/archive/plans.py" "$plan"
+    try plans /usr/bin/python3 "$here/archive/plans.py" "$plan" 10000
     try tenth_day /usr/bin/python3 "$here/tenth_day/run.py" "$office"
 else
     echo "not tried: plans, tenth_day: office-plan isn't built"

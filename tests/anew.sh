@@ -1,6 +1,6 @@
 #!/bin/sh
-# Runs the gate over the last commit in a clean clone, and takes nothing from earlier runs: each proof and each must-fail
-# edit is made again. The last line is the gate's, and so is the exit status. It takes an hour or two.
+# Runs the gate over the last commit in a clean clone, and takes nothing from earlier runs: each proof and each
+# must-fail edit is made again. The last line is the gate's, and so is the exit status. It takes an hour or two.
 set -eu
 top=$(cd "$(dirname "$0")/.." && pwd)
 work=$(mktemp -d)

@@ -32,6 +32,7 @@ from stage import TOP, Office, run
 sys.path.insert(0, os.path.join(TOP, "tools"))
 
 from office_tools import faults  # noqa: E402
+from office_tools.bags import framed  # noqa: E402
 from office_tools.mirror import held  # noqa: E402
 
 MODULES: Mapping[str, str] = {"bugs": "bugs.command", "mend": "mend", "tests": "autopkgtests.command"}
@@ -44,7 +45,7 @@ BRITNEY = {"packages": ("Packages_amd64",), "sources": ("Sources",), "bugs": ("B
 """The files of a suite in a data folder of britney's."""
 STATUSES = range(5)
 TRACED = 99  # what counts as the status of a tool that ended by a traceback
-SECONDS = 60
+SECONDS, LONGEST = 60, 1200  # of processor that a tool may take for a file, and of time, on a machine that does more
 BATCH = 100  # files that one process tries
 DAY = "2025-03-06"
 MAKE = ("from-packages", "--no-hints", "--uploaded", DAY, "--run", DAY)
@@ -103,6 +104,14 @@ Changes:
 Files:
  d41d8cd98f00b204e9800998ecf8427e 0 misc optional aa_1.0-1.dsc
 """
+MAIL = (
+    b"From: hand\nNumber: 1\nKind: drop\nPackage: zz\nArchitecture: amd64\nVersion: 1\n",
+    b"From: bts\nNumber: 1\nKind: bug\nBug: 1001\nSource: aa\nSeverity: grave\nFound: 1.0-1\nFixed: 1.0-2\n",
+    b"From: rt\nNumber: 1\nKind: hint\nHint: age-days 3 bb/1:2.0-1\n",
+    b"From: rt\nNumber: 2\nKind: hint\nHint: block aa\nComment: a person\n",
+    b"From: rt\nNumber: 3\nKind: unhint\nCancels: 2\n",
+    b"From: rt\nNumber: 4\nKind: delays\nLow: 10\nMedium: 5\nHigh: 2\nCritical: 0\n")
+"""Messages of the kinds that office-from-packages doesn't make."""
 BUGS = b"aa 1001,1002\nbb 1003\n"
 TESTS = b"""[{"package": "aa", "suite": "unstable", "arch": "amd64", "version": "1.0-1", "status": "fail",
   "trigger": "aa/1.0-1", "date": "2025-03-05T10:00:00.000Z"}, {"package": "bb", "suite": "testing", "arch": "amd64",
@@ -440,7 +449,8 @@ def ended(reading: Reading, given: str) -> tuple[int, str, str]:
     redirect(given)
     name, *words = reading.words
     sys.argv = ["office-" + name, *words]
-    signal.alarm(SECONDS)
+    signal.setitimer(signal.ITIMER_PROF, SECONDS)
+    signal.alarm(LONGEST)
     status = TRACED
     try:
         faults.run("office-" + name, called)
@@ -448,6 +458,7 @@ def ended(reading: Reading, given: str) -> tuple[int, str, str]:
         status = end.code if isinstance(end.code, int) else 0 if end.code is None else TRACED
     except BaseException:  # noqa: B902  # whatever it is, it is a traceback to the user
         traceback.print_exc()
+    signal.setitimer(signal.ITIMER_PROF, 0)
     signal.alarm(0)
     for stream in (sys.stdout, sys.stderr):
         flush(stream)
@@ -501,7 +512,7 @@ def good_files(program: str, folder: str) -> Mapping[str, bytes]:
     run(command, "--uploaded", "2025-02-01", "--run", DAY, "--no-hints", "--with-uninstallable", "--sources",
         os.path.join(out, "Sources"), out, os.path.join(out, "Packages"))
     with open(os.path.join(out, "bag"), "rb") as file:
-        bag = file.read()
+        bag = file.read() + b"".join(map(framed, MAIL))
     told = subprocess.run([program, "replay", "--conf", os.path.join(out, "setup.conf")], input=bag, check=True,
                           capture_output=True).stdout
     parts = {name: told[told.index(b"\n" + name.encode() + b" ") + 1:] for name in ("excuses", "update", "testing")}

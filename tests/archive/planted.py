@@ -78,8 +78,12 @@ from office_tools.feed import news
 due = news.numbered
 news.numbered = lambda sender, last, made: due(sender, max(0, last - (sender == "ftp")), made)""", LOOP, "somebody else sends as ftp"),
     Fault("a feed that tells no drops", "feed", """
-from office_tools.feed import news
-news.mail.drops = lambda *words: []""", LOOP, "update 12"),
+due = command.news
+def news(*words):
+    found, gone = due(*words)
+    found.drops = []
+    return found, gone
+command.news = news""", LOOP, "no run is ordered before it is dropped"),
     Fault("a feed that forgets what it was about to send", "feed", """
 from office_tools.feed.mailbox import Outgoing
 Outgoing.write = lambda self, texts: None""", ("kills.py", "feeds"), "numbers with two texts"))

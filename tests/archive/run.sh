@@ -4,12 +4,12 @@
 #
 # Usage: tests/archive/run.sh OFFICE [planted]
 #
-# OFFICE is the built program. The environment's OFFICE_PLAN and OFFICE_SYNC name the built office-plan and office-sync, if
-# they aren't in crates/office_plan/out and crates/office_sync/out. What lacks of Debian's packages is installed first,
-# where this is run by root. Four parts run at once: all days over reprepro and over aptly (loop.py), ends by force
-# (kills.py), and adoption, looks before orders and days of office-day (ways.py). With `planted` the tests are tested
-# instead, by commands that have a fault (planted.py). The exit status is 0 if all is as it is due, 1 if something isn't, 2
-# if the words or the tools are wrong.
+# OFFICE is the built program. The environment's OFFICE_PLAN and OFFICE_SYNC name the built office-plan and office-sync,
+# if they aren't in crates/office_plan/out and crates/office_sync/out. What lacks of Debian's packages is installed
+# first, where this is run by root. Four parts run at once: all days over reprepro and over aptly (loop.py), ends by
+# force (kills.py), and adoption, looks before orders and days of office-day (ways.py). With `planted` the tests are
+# tested instead, by commands that have a fault (planted.py). The exit status is 0 if all is as it is due, 1 if
+# something isn't, 2 if the words or the tools are wrong.
 set -u
 if [ $# -lt 1 ] || [ $# -gt 2 ] || [ ! -x "$1" ] || [ "${2:-planted}" != planted ]; then
     echo "usage: $0 OFFICE [planted]" >&2

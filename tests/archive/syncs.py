@@ -1,64 +1,93 @@
 #!/usr/bin/env python3
-"""What the program `office-sync` says is due to a random office, beside sets of lines that are worked out here.
+"""What the program `office-sync` says is due to random offices, beside sets of lines that are worked out here.
 
   syncs.py OFFICE_SYNC [OFFICES [SEED]]
 
 An office is what was built and dropped of each name and architecture; its unstable has the greatest build above all
-drops. What is due is mailed to it. Then each package that it has is in the index at that version, each item of the
-index is there or left, and a second decision has no line but the same `left` ones. Status 0: no fault.
+drops. A run of the program decides up to 300 of them, whose names end with a number of their own, since starting it
+takes longer than a decision. If it refuses what would be dropped, it is run again with that number allowed. What is
+due is mailed to the offices. Then each package that they have is in the index at that version, each item of the index
+is there or left, and a second decision has no line but the same `left` ones. Status 0: no fault.
 """
 import os
 import random
 import sys
 import tempfile
-from typing import Iterable, Sequence
+from dataclasses import dataclass
+from typing import Iterable, Mapping, Sequence
 
 import apt_pkg
 import plans
 from plans import Suite
 
+SIZES = (1, 1, 2, 10, 100, 300)
+"""How many offices a run may have."""
+LESS = (-1, 0, 0, 2)
+"""What a run allows to be dropped, beyond what is due to be."""
+
 Item = tuple[tuple[str, str], str]
 """A key, which is an architecture and a name, and a version."""
-Office = tuple[list[Item], list[Item]]
-"""What was built, and what was dropped."""
+Due = Mapping[str, Suite]
+"""What is due, by the word of its lines."""
 
 
-def unstable(built: Iterable[Item], dropped: Sequence[Item]) -> Suite:
-    """What an office has after these builds and drops, each a version of a key."""
+def is_above(version: str, part: Suite, key: tuple[str, str]) -> bool:
+    """Whether a version is above a part's version of a key, if it has one."""
+    return key not in part or apt_pkg.version_compare(version, part[key]) > 0
+
+
+def greatest(items: Iterable[Item]) -> Suite:
+    """The greatest version of each key."""
     found: Suite = {}
-    for key, version in built:
-        gone = [other for own, other in dropped if own == key]
-        above = all(apt_pkg.version_compare(version, other) > 0 for other in gone)
-        if above and (key not in found or apt_pkg.version_compare(version, found[key]) > 0):
+    for key, version in items:
+        if is_above(version, found, key):
             found[key] = version
     return found
 
 
-def greatest(dropped: Iterable[Item]) -> Suite:
-    """The greatest drop of each key."""
-    found: Suite = {}
-    for key, version in dropped:
-        if key not in found or apt_pkg.version_compare(version, found[key]) > 0:
-            found[key] = version
-    return found
+@dataclass
+class Offices:
+    """What was built and dropped in offices that are decided together, and the index."""
 
+    built: list[Item]
+    dropped: list[Item]
+    index: Suite
 
-def is_free(parts: Iterable[Suite], key: tuple[str, str], version: str) -> bool:
-    """Whether a version is above all that was built and dropped of a key, as far as it counts."""
-    return all(apt_pkg.version_compare(version, part[key]) > 0 for part in parts if key in part)
+    def unstable(self) -> Suite:
+        """What they have: of each key the greatest build above all its drops."""
+        dropped = greatest(self.dropped)
+        return greatest((key, version) for key, version in self.built if is_above(version, dropped, key))
 
+    def due(self) -> Due:
+        """What is due to them."""
+        told, dropped = self.unstable(), greatest(self.dropped)
+        missing = {key: version for key, version in self.index.items() if told.get(key) != version}
+        tells = {key: version for key, version in missing.items()
+                 if is_above(version, told, key) and is_above(version, dropped, key)}
+        drops = {key: version for key, version in told.items()
+                 if key[0] != "source" and self.index.get(key) != version and key not in tells}
+        return {"tell": tells, "drop": drops,
+                "left": {key: version for key, version in missing.items() if key not in tells}}
 
-def due(told: Suite, index: Suite, dropped: Suite, gone: int) -> tuple[int, list[str]]:
-    """The status and the lines that are due."""
-    missing = {key: version for key, version in index.items() if told.get(key) != version}
-    tells = {key: version for key, version in missing.items() if is_free((told, dropped), key, version)}
-    drops = {key: version for key, version in told.items()
-             if key[0] != "source" and index.get(key) != version and key not in tells}
-    left = {key: version for key, version in missing.items() if key not in tells}
-    if len(drops) > gone:
-        return 3, ["leaving %d" % len(drops)]
-    return 0, ["%s %s" % (word, line) for word, part in (("tell", tells), ("drop", drops), ("left", left))
-               for line in plans.lines(dict(sorted(part.items())))]
+    def answered(self, program: str, folder: str, seeds: random.Random, gone: int) -> tuple[int, list[str]]:
+        """What the program prints of them, in no order of the lines of its files."""
+        lists = [plans.lines(part) for part in (self.unstable(), self.index, greatest(self.dropped))]
+        return plans.answered(program, folder, [seeds.sample(it, len(it)) for it in lists], ["--gone", str(gone)])
+
+    def mail(self, told: Iterable[str]) -> None:
+        """Mails what the program says is due."""
+        for line in told:
+            if line.startswith("tell "):
+                self.built.append(item_of(line))
+            elif line.startswith("drop "):
+                self.dropped.append(item_of(line))
+
+    def faults_after(self, told: Iterable[str]) -> Sequence[tuple[str, str]]:
+        """What is wrong in their unstable after the mail of what is due."""
+        have, left = self.unstable(), {item_of(line) for line in told if line.startswith("left ")}
+        strange = [key for key, version in have.items() if key[0] != "source" and self.index.get(key) != version]
+        return [*strange, *(key for key, version in self.index.items()
+                            if have.get(key) != version and (key, version) not in left)]
 
 
 def item_of(line: str) -> Item:
@@ -67,51 +96,64 @@ def item_of(line: str) -> Item:
     return (architecture, name), version
 
 
-def answered(program: str, folder: str, seeds: random.Random, office: Office, index: Suite,
-             gone: int) -> tuple[int, list[str]]:
-    """What the program prints of an office's unstable, in no order of its lines."""
-    built, dropped = office
-    lists = [plans.lines(part) for part in (unstable(built, dropped), index, greatest(dropped))]
-    return plans.answered(program, folder, [seeds.sample(it, len(it)) for it in lists], ["--gone", str(gone)])
+def drawn(seeds: random.Random, numbers: Iterable[int]) -> Offices:
+    """Random offices of these numbers."""
+    found = Offices([], [], {})
+    for number in numbers:
+        before = plans.drawn(seeds, 0.6)
+        found.index.update(numbered(
+            plans.near(seeds, before, 0.3) | (plans.drawn(seeds, 0.1) if seeds.random() < 0.5 else {}), number))
+        for part in (before, plans.drawn(seeds, 0.2)):
+            found.built += numbered(part, number).items()
+        for part in (plans.drawn(seeds, 0.1), plans.drawn(seeds, 0.1)):
+            found.dropped += (item for item in numbered(part, number).items() if item[0][0] != "source")
+    return found
 
 
-def faults_after(office: Office, index: Suite, told: Iterable[str]) -> list[tuple[str, str]]:
-    """What is wrong in an office's unstable after the mail of what is due."""
-    have, left = unstable(*office), [line for line in told if line.startswith("left ")]
-    strange = [key for key, version in have.items() if key[0] != "source" and index.get(key) != version]
-    lacking = [key for key, version in index.items()
-               if have.get(key) != version and (key, version) not in map(item_of, left)]
-    return [*strange, *lacking]
+def numbered(part: Suite, number: int) -> Suite:
+    """A part of an office, whose names end with its number."""
+    return {(architecture, f"{name}.{number}"): version for (architecture, name), version in part.items()}
+
+
+def printed(due: Due, gone: int) -> tuple[int, list[str]]:
+    """The status and the lines that are due."""
+    if len(due["drop"]) > gone:
+        return 3, ["leaving %d" % len(due["drop"])]
+    return 0, [f"{word} {line}" for word, part in due.items() for line in plans.lines(dict(sorted(part.items())))]
+
+
+def faults_of(program: str, folder: str, seeds: random.Random, offices: Offices) -> Sequence[str]:
+    """What is wrong with the decisions over some offices: before the mail of what is due, and after it."""
+    due = offices.due()
+    enough = len(due["drop"])
+    gone = max(0, enough + seeds.choice(LESS))
+    told: list[str] = []
+    for allowed in dict.fromkeys((gone, max(gone, enough))):
+        status, told = offices.answered(program, folder, seeds, allowed)
+        if (status, told) != printed(due, allowed):
+            return [f"due {printed(due, allowed)!r}, got {(status, told)!r}"]
+    offices.mail(told)
+    wrong = offices.faults_after(told)
+    again = offices.answered(program, folder, seeds, 0)
+    if wrong or again != (0, [line for line in told if line.startswith("left ")]):
+        return [f"after the mail: {wrong!r}, then {again!r}"]
+    return []
 
 
 def main() -> None:
     """Tries offices of a seed."""
     program, count = os.path.abspath(sys.argv[1]), int(sys.argv[2]) if len(sys.argv) > 2 else 1000
-    seeds, faults, made = random.Random(int(sys.argv[3]) if len(sys.argv) > 3 else 1), 0, 0
+    seeds = random.Random(int(sys.argv[3]) if len(sys.argv) > 3 else 1)
+    first = runs = faults = 0
     apt_pkg.init_system()
     with tempfile.TemporaryDirectory() as folder:
-        for number in range(count):
-            before = plans.drawn(seeds, 0.6)
-            index = plans.near(seeds, before, 0.3) | (plans.drawn(seeds, 0.1) if seeds.random() < 0.5 else {})
-            built = [*before.items(), *plans.drawn(seeds, 0.2).items()]
-            dropped = [(key, version) for part in (0.1, 0.1) for key, version in plans.drawn(seeds, part).items()
-                       if key[0] != "source"]
-            gone = seeds.choice([0, 1, 2, 100])
-            want = due(unstable(built, dropped), index, greatest(dropped), gone)
-            status, told = answered(program, folder, seeds, (built, dropped), index, gone)
-            if (status, told) != want:
+        while first < count:
+            numbers = range(first, min(count, first + seeds.choice(SIZES)))
+            for fault in faults_of(program, folder, seeds, drawn(seeds, numbers)):
                 faults += 1
-                print("FAIL %d: due %r, got %r" % (number, want, (status, told)))
-            elif status == 0:
-                made += 1
-                built += [item_of(line) for line in told if line.startswith("tell ")]
-                dropped += [item_of(line) for line in told if line.startswith("drop ")]
-                wrong = faults_after((built, dropped), index, told)
-                again = answered(program, folder, seeds, (built, dropped), index, 0)
-                if wrong or again[0] or any(not line.startswith("left ") for line in again[1]):
-                    faults += 1
-                    print("FAIL %d: after the mail: %r, then %r" % (number, wrong, again))
-    print("%d offices, %d decisions, %d faults" % (count, made, faults))
+                print("FAIL %d to %d: %s" % (numbers[0], numbers[-1], fault))
+            first, runs = numbers[-1] + 1, runs + 1
+    print("%d offices, %d at once at most, %d decisions, %d faults" % (count, max(SIZES), runs, faults))
     sys.exit(1 if faults else 0)
 
 

@@ -1,5 +1,6 @@
 """Reading and writing whole files, with faults that name them."""
 import contextlib
+import hashlib
 import os
 import sys
 import tempfile
@@ -37,6 +38,19 @@ def write_whole(path: str, data: bytes) -> None:
             raise
     except OSError as fault:
         raise Fault(f"{path}: {cause_of(fault)}") from fault
+
+
+def sealed(data: bytes) -> bytes:
+    """Data after a line that has their digest, so that a damaged file is seen."""
+    return hashlib.sha256(data).hexdigest().encode() + b"\n" + data
+
+
+def unsealed(kept: bytes) -> bytes:
+    """The data of a sealed file; one that isn't as it was written is a `Fault`."""
+    digest, _, data = kept.partition(b"\n")
+    if hashlib.sha256(data).hexdigest().encode() != digest:
+        raise Fault("it isn't as it was written")
+    return data
 
 
 def umask() -> int:

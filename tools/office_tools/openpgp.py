@@ -45,15 +45,15 @@ class Packet:
     """A packet: its kind, its body, and what follows it."""
 
     tag: int
-    body: bytes
-    rest: bytes
+    body: memoryview
+    rest: memoryview
 
 
 def is_one_message(data: bytes) -> bool:
     """Whether an input is one signed message: in armour, clear-signed, or of bytes as they are."""
     try:
         if data[:1] >= b"\x80":
-            check(data, DEEPEST)
+            check(memoryview(data), DEEPEST)
         else:
             check_armour(data)
     except Bad:
@@ -69,7 +69,7 @@ def check_armour(data: bytes) -> None:
         raise Bad
     if kinds != CLEAR:
         begin = BEGIN.search(data)
-        check(dearmoured(data[begin.end() if begin else 0:ends[0].start()]), DEEPEST)
+        check(memoryview(dearmoured(data[begin.end() if begin else 0:ends[0].start()])), DEEPEST)
 
 
 def dearmoured(part: bytes) -> bytes:
@@ -83,12 +83,12 @@ def dearmoured(part: bytes) -> bytes:
         raise Bad from fault
 
 
-def check(data: bytes, depth: int) -> None:
+def check(data: memoryview, depth: int) -> None:
     """Looks at the packets of a message: one that is compressed, or a text with its signatures round it."""
     found: list[int] = []
     for packet in packets(data):
         if packet.tag == COMPRESSED and not found and depth:
-            check(decompressed(packet), depth - 1)
+            check(memoryview(decompressed(packet)), depth - 1)
         elif packet.tag not in (ONE_PASS, LITERAL, SIGNATURE):
             raise Bad
         found.append(packet.tag)
@@ -102,8 +102,8 @@ def check(data: bytes, depth: int) -> None:
         raise Bad
 
 
-def packets(data: bytes) -> Iterator[Packet]:
-    """The packets of an input, except those that say nothing."""
+def packets(data: memoryview) -> Iterator[Packet]:
+    """The packets of an input, except those that say nothing. The input isn't copied, as it may have many packets."""
     while data:
         packet = first(data)
         data = packet.rest
@@ -111,7 +111,7 @@ def packets(data: bytes) -> Iterator[Packet]:
             yield packet
 
 
-def first(data: bytes) -> Packet:
+def first(data: memoryview) -> Packet:
     """The first packet of an input."""
     head = data[0]
     if not head & 0x80:
@@ -121,7 +121,7 @@ def first(data: bytes) -> Packet:
         return Packet(head & 0x3F, body, rest)
     tag, size = (head >> 2) & 0x0F, head & 0x03
     if size == 3:  # it has no length, and takes all that follows
-        return Packet(tag, data[1:], b"")
+        return Packet(tag, data[1:], data[len(data):])
     octets = 1 << size
     end = 1 + octets + int.from_bytes(data[1:1 + octets], "big")
     if len(data) < max(end, 1 + octets):
@@ -129,9 +129,9 @@ def first(data: bytes) -> Packet:
     return Packet(tag, data[1 + octets:end], data[end:])
 
 
-def new_body(data: bytes) -> tuple[bytes, bytes]:
+def new_body(data: memoryview) -> tuple[memoryview, memoryview]:
     """The body of a packet in the newer form, which may come in parts, and what follows it."""
-    parts: list[bytes] = []
+    parts: list[memoryview] = []
     while data:
         head = data[0]
         is_part = 224 <= head < 255
@@ -148,7 +148,7 @@ def new_body(data: bytes) -> tuple[bytes, bytes]:
         parts.append(data[start:start + size])
         data = data[start + size:]
         if not is_part:
-            return b"".join(parts), data
+            return memoryview(b"".join(parts)), data
     raise Bad
 
 
@@ -156,7 +156,7 @@ def decompressed(packet: Packet) -> bytes:
     """What is compressed in a packet; bytes after the end of what is compressed are bad."""
     kind, data = packet.body[:1], packet.body[1:]
     if kind == b"\0":
-        return data
+        return bytes(data)
     stream: Stream
     if kind == b"\x03":
         stream = bz2.BZ2Decompressor()

@@ -15,7 +15,7 @@ from office_tools.bags import framed
 from office_tools.faults import Fault
 from office_tools.feed import archive, known, memory
 from office_tools.feed.mailbox import Folder, Outgoing
-from office_tools.files import read_bytes
+from office_tools.files import read_bytes, sealed
 from office_tools.from_packages import told
 from office_tools.from_packages.binaries import fitting, read_binaries
 from office_tools.from_packages.sources import Arrival, read_arrivals, read_sources
@@ -182,8 +182,16 @@ class Garbled(Reading):
 
         def read(path):
             with open(path, "rb") as file:
-                known.read(file.read())
+                data = file.read()
+            if data != text:
+                self.assertRaises(Fault, known.read, data)
         self.each(text, read)
+
+    def test_what_a_feed_knows_in_another_form(self):
+        for text in (b"", b"[]", b"{}", b'{"form": 1}', b'{"form": 2}', b'{"form": 2, "taken": {}}', b"[" * 5000,
+                     b"\xff"):
+            with self.subTest(text=text[:20]):
+                self.assertRaises(Fault, known.read, sealed(text))
 
     def test_what_a_feed_remembers(self):
         memory.Memory({"a line": "2025-03-01"}, {"x_Release": {"date": "2025-03-01"}}).write(self.folder)

@@ -8,6 +8,7 @@ import json
 import os
 import random
 import tempfile
+import time
 import unittest
 from contextlib import redirect_stderr, redirect_stdout
 
@@ -21,6 +22,7 @@ from office_tools.from_britney import compare, folder, hints
 from office_tools.from_packages.sources import Arrival
 from office_tools.messages import Label, Severity, Urgency
 from office_tools.mirror import held
+from office_tools.pages.state import State
 from office_tools.undo import outcome, selection
 from test_autopkgtests import entry
 from test_from_britney import RELEASE, WORLD
@@ -200,6 +202,26 @@ class Garbled(unittest.TestCase):
         self.assertTrue(openpgp.is_one_message(PACKETS))
         self.assertFalse(openpgp.is_one_message(PACKETS + PACKETS))
         self.assertFalse(openpgp.is_one_message(PACKETS[:-1]))
+
+    def test_bugs_without_a_number(self):
+        """A bag may have one, though no office keeps it."""
+        for told in (b"", b"Bug:\n", b"Bug: x\n", b"Bug: " + b"9" * 5000 + b"\n"):
+            first = next(messages.paragraphs(b"From: bts\nNumber: 1\nKind: bug\nSource: app\n" + told))
+            with self.subTest(told=told[:20]):
+                self.assertRaises(Fault, kept.bug_of, first)
+
+    def test_a_run_that_the_pages_lost(self):
+        """A damaged line of a run may name a number that no run has."""
+        state = State(self.path)
+        self.addCleanup(state.close)
+        for asked in (state.run, state.update):
+            self.assertRaises(Fault, asked, 5)
+
+    def test_many_packets(self):
+        """The longest letter, of packets that say nothing, costs no more than its length."""
+        began = time.process_time()
+        self.assertTrue(openpgp.is_one_message(PACKETS + b"\xca\0" * 500_000))
+        self.assertLess(time.process_time() - began, 10)
 
 
 if __name__ == "__main__":

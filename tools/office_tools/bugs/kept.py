@@ -96,8 +96,12 @@ def read_book(service: Service, mark: str) -> Book:
 
 
 def bug_of(first: Paragraph) -> Bug:
-    """The bug that a kept message states."""
-    number, source = int(first.value("Bug") or 0), first.value("Source") or ""
+    """The bug that a message states. One without a number, which no office keeps, is a `Fault`."""
+    told, source = first.value("Bug") or "", first.value("Source") or ""
+    try:
+        number = int(told)
+    except ValueError as fault:
+        raise Fault(f"{told[:20]!r} is no number of a bug", Exit.REFUSED) from fault
     return Bug(number, source, first.value("Severity") or "", Range(first.value("Found"), first.value("Fixed")), first)
 
 

@@ -13,7 +13,7 @@ from typing import Any, Iterator, Mapping, Optional, Sequence
 
 from office_tools.control import Fields, sections
 from office_tools.faults import Fault
-from office_tools.files import read_bytes, write_whole
+from office_tools.files import read_bytes, sealed, unsealed, write_whole
 
 INDEXES = "indexes.json"
 FORM = b"1"  # another one where paragraphs are read otherwise
@@ -66,17 +66,15 @@ class Indexes:
         if self.now.keys() != self.before.keys():
             data = json.dumps({key: [fields.is_good, fields] for key, fields in self.now.items()}).encode()
             with contextlib.suppress(Fault):
-                write_whole(self.path, hashlib.sha256(data).hexdigest().encode() + b"\n" + data)
+                write_whole(self.path, sealed(data))
 
 
 def indexes_in(folder: str) -> Indexes:
     """What a folder remembers."""
     found = Indexes(folder)
     with contextlib.suppress(Fault, ValueError, TypeError, AttributeError, RecursionError):
-        digest, _, data = read_bytes(found.path).partition(b"\n")
-        if hashlib.sha256(data).hexdigest().encode() == digest:
-            told: Any = json.loads(data)
-            found.before = {key: fields_of(is_good, fields) for key, (is_good, fields) in told.items()}
+        told: Any = json.loads(unsealed(read_bytes(found.path)))
+        found.before = {key: fields_of(is_good, fields) for key, (is_good, fields) in told.items()}
     return found
 
 

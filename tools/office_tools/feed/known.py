@@ -10,6 +10,7 @@ from office_tools import bags, days, versions
 from office_tools.apply import marks
 from office_tools.deciding import SOURCE
 from office_tools.faults import Fault
+from office_tools.files import sealed, unsealed
 from office_tools.from_packages.binaries import Key
 from office_tools.from_packages.sources import put_newer
 from office_tools.from_packages.told import tell
@@ -114,10 +115,10 @@ class Known:
         keyed = {name: {" ".join(key): version for key, version in getattr(self, name).items()}
                  for name in ("packages", "dropped", "staying")}
         retold = {" ".join((*key, version)): sorted(senders) for (key, version), senders in self.retold.items()}
-        return json.dumps({"form": FORM, "size": size, "digest": digest, "taken": self.taken, "ends": self.ends,
-                           "versions": self.versions, **keyed, "retold": retold, "hints": self.hints,
-                           "covers": self.covers, "last_day": self.last_day,
-                           "low_days": self.low_days}).encode()
+        return sealed(json.dumps({
+            "form": FORM, "size": size, "digest": digest, "taken": self.taken, "ends": self.ends,
+            "versions": self.versions, **keyed, "retold": retold, "hints": self.hints, "covers": self.covers,
+            "last_day": self.last_day, "low_days": self.low_days}).encode())
 
 
 @dataclass(frozen=True)
@@ -130,7 +131,8 @@ class Kept:
 
 
 def read(data: bytes) -> Kept:
-    """What such a text says. One of another form is a `Fault`."""
+    """What such a text says. One of another form, or one that isn't as it was written, is a `Fault`."""
+    data = unsealed(data)
     with contextlib.suppress(ValueError, KeyError, TypeError, AttributeError, RecursionError):
         found: Any = json.loads(data.decode())
         if found["form"] == FORM:

@@ -185,6 +185,8 @@ class State:
     def run(self, number: int) -> KeptRun:
         """A kept run."""
         found = self.one("SELECT line, fetched, excuses, updated FROM run WHERE number = ?", (number,))
+        if found is None:  # its line names another number
+            raise Fault(UNREADABLE)
         return KeptRun(run_in(found[0]), found[1], unpacked(found[2]), unpacked(found[3]))
 
     def drop_from(self, number: int) -> None:
