@@ -6,7 +6,8 @@
 #
 # Usage: share/check.sh [PROGRAM]
 # The environment's OFFICE_PLAN and OFFICE_SYNC name the built office-plan and office-sync, if they aren't in
-# crates/office_plan/out and crates/office_sync/out. What isn't installed is skipped, and told. Status 0: nothing failed, 1: something did, 2: the words are wrong.
+# crates/office_plan/out and crates/office_sync/out. What isn't installed is skipped, and told. Status 0: nothing failed,
+# 1: something did, 2: the words are wrong.
 set -u
 
 if [ $# -gt 1 ]; then
@@ -218,7 +219,8 @@ indexes_are_read() {
 }
 
 files_are_installed() {
-    make -s install PROGRAM="${program:-/bin/true}" PLAN="$plan" SYNC="$sync" PREFIX=/usr DESTDIR="$work/root" || return 1
+    make -s install PROGRAM="${program:-/bin/true}" PLAN="$plan" SYNC="$sync" PREFIX=/usr DESTDIR="$work/root" \
+        || return 1
     for file in bin/office bin/office-plan bin/office-sync share/man/man1/office.1 lib/systemd/system/office.service \
         lib/systemd/system/office-pages.timer share/bash-completion/completions/office-plan \
         share/office/office_tools/pages/templates/front.html share/bash-completion/completions/office \
