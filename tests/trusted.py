@@ -421,19 +421,31 @@ def claims(tree, users):
         found = set(tree.claimed(starts, added(tree) if (claim, starts) in FIRST else ()))
         yield claim, lines_of(found), lines_of(found - seen)
         seen |= found
-    laws = {i for crate in USERS for i in tree.surface(crate) if i.kind == 'fn' and not i.body[1:-1].strip()}
-    left = set(tree.reached(laws, sorted(laws, key=lambda i: i.name))) & set(users) - seen
+    left = of_laws(tree, users, seen)
     yield 'laws on which nothing else rests', None, lines_of(left)
     yield 'other calls', None, lines_of((set(users) | set(tree.claimed(PRIVATE, ()))) - seen - left)
 
+def of_laws(tree, users, claimed):
+    """The definitions that only laws need on which nothing else rests, beside those of the claims."""
+    laws = {i for crate in USERS for i in tree.surface(crate) if i.kind == 'fn' and not i.body[1:-1].strip()}
+    return set(tree.reached(laws, sorted(laws, key=lambda i: i.name))) & set(users) - claimed
+
+def of_claims(tree):
+    """The definitions that the claims need."""
+    return set().union(*(tree.claimed(starts, ()) for _, starts in FIRST + LATER))
+
 def of_all(tree, users):
     """The definitions that the contracts of users' calls and all claims need."""
-    return set(users).union(*(tree.claimed(starts, ()) for starts in [starts for _, starts in LATER] + [PRIVATE]))
+    return of_claims(tree).union(users, tree.claimed(PRIVATE, ()))
 
 def sums(tree, users):
-    """What the first commands and routes need, and what all claims need, each after its words in both pages."""
+    """What the first commands and routes need, what all calls and claims need, and what laws alone need beside, each
+    after its words in both pages.
+    """
+    laws = of_laws(tree, users, of_claims(tree))
     return [('the first commands and routes need', lines_of(of_first(tree))),
-            ('All claims together need', lines_of(of_all(tree, users)))]
+            ('All claims together need', lines_of(of_all(tree, users) - laws)),
+            ('laws on which nothing else rests need', lines_of(laws))]
 
 def clauses(tree):
     """How many clauses the calls have that users can name, how many such calls have one, and the bytes of all."""
