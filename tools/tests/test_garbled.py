@@ -214,8 +214,7 @@ class Garbled(unittest.TestCase):
         """A damaged line of a run may name a number that no run has."""
         state = State(self.path)
         self.addCleanup(state.close)
-        for asked in (state.run, state.update):
-            self.assertRaises(Fault, asked, 5)
+        self.assertRaises(Fault, state.run, 5)
 
     def test_many_packets(self):
         """The longest letter, of packets that say nothing, costs no more than its length."""
