@@ -242,7 +242,7 @@ files_are_installed() {
 
 # The documents that are installed cite no path of the repository, but for the part of README.md that is about it.
 documents_cite_what_is_installed() {
-    make -s install PROGRAM=/bin/true PLAN=/bin/true PREFIX=/usr DESTDIR="$work/cited" || return 1
+    make -s install PROGRAM=/bin/true PLAN=/bin/true SYNC=/bin/true PREFIX=/usr DESTDIR="$work/cited" || return 1
     for file in "$work"/cited/usr/share/doc/office/*.md; do
         sed '/^## In the repository/,$d' "$file" | grep -nE '(`|^    |\()(share|docs|bench|crates|tests|tools)/' |
             sed "s|^|${file##*/}:|"
