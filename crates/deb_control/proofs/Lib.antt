@@ -7,8 +7,6 @@ pub mod Each
 pub mod WellFormedLemmas
 pub mod Fronts
 pub mod VersionChars
-pub mod Signs
-pub mod Forms
 pub mod SpellingLemmas
 pub mod SourceLemmas
 pub mod RefusalLemmas

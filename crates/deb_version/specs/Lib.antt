@@ -1,6 +1,10 @@
 pub mod Characters
+pub mod Digits
 pub mod Key
+pub mod Front
 pub mod Text
 pub mod SmallString
+pub mod Split
 pub mod Order
-pub mod steps
+pub mod Laws
+pub mod Examples

@@ -3,4 +3,3 @@ pub mod Asked
 pub mod Compare
 pub mod Laws
 pub mod Program
-pub mod steps

@@ -1,5 +1,6 @@
 pub mod Asked
 pub mod Breaks
+pub mod Grounds
 pub mod Texts
 pub mod Told
-pub mod steps
+pub mod Worked

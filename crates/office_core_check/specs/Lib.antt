@@ -1,4 +1,6 @@
+pub mod Reading
+pub mod Comparing
 pub mod Telling
+pub mod Unread
 pub mod Whole
 pub mod Earlier
-pub mod steps

@@ -1,6 +1,8 @@
+pub mod Counting
 pub mod Known
 pub mod OfficeState
 pub mod Outcome
 pub mod Seen
 pub mod State
-pub mod steps
+pub mod Taking
+pub mod Walk

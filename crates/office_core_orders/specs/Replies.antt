@@ -56,7 +56,8 @@ mark_of _ = Taken
 -- the deliveries that aren't lost
 abbrev pub if_taken : Mark → List ℕ → List (List ℕ) → List (List ℕ)
 if_taken Taken text texts = text ∷ texts
-if_taken _ text texts = texts
+if_taken LostForMemory text texts = texts
+if_taken LostForStore text texts = texts
 
 abbrev pub not_lost : List Delivery → List (List ℕ)
 not_lost [] = []
@@ -64,7 +65,8 @@ not_lost (d ∷ ds) = if_taken d.mark d.text (not_lost ds)
 
 abbrev pub is_lost : Mark → Bool
 is_lost Taken = false
-is_lost _ = true
+is_lost LostForMemory = true
+is_lost LostForStore = true
 
 -- whether a delivery was lost
 abbrev pub any_lost : List Delivery → Bool

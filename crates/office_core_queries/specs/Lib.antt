@@ -4,5 +4,6 @@ pub mod Export
 pub mod Listing
 pub mod Mail
 pub mod NextOrder
+pub mod Numbers
 pub mod RunLines
-pub mod steps
+pub mod Walk

@@ -1,5 +1,6 @@
 pub mod Hints
 pub mod Later
+pub mod SeenText
+pub mod Telling
 pub mod UnstableText
 pub mod Why
-pub mod steps

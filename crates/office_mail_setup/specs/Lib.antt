@@ -4,6 +4,5 @@ pub mod Kinds
 pub mod Lists
 pub mod Setup
 pub mod SetupAnswers
-pub mod WholeText
+pub mod Steps
 pub mod Values
-pub mod steps

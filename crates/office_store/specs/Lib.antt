@@ -1,4 +1,5 @@
 pub mod Migrating
+pub mod MigratingSteps
 pub mod Opening
 pub mod TablesState
 pub use Rattle.office_store_keeper.specs.FactSet
@@ -19,4 +20,3 @@ pub use Rattle.office_store_tables.specs.Fresh
 pub use Rattle.office_store_tables.specs.Unchanged
 pub mod Conf
 pub mod Store
-pub mod steps

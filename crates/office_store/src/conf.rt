@@ -1,8 +1,7 @@
 //! The setup's file.
 
 ghost use Rattle.std.specs.Prelude.{◌≡◌, IfOk, IfSome};
-ghost use Rattle.office_store.specs.Conf.{status_of_conf, status_of_fault};
-ghost use Rattle.office_store.specs.steps.Conf.{front};
+ghost use Rattle.office_store.specs.Conf.{front, status_of_conf, status_of_fault};
 
 use office_mail::{Setup, SetupFault};
 use std::alloc::Global;

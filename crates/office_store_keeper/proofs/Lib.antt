@@ -3,4 +3,3 @@ pub mod KeyCounts
 pub mod LeftRows
 pub mod MemoryFacts
 pub mod PartFacts
-pub mod SaidItems

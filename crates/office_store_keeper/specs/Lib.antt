@@ -6,4 +6,3 @@ pub mod MemoryState
 pub mod LastDelays
 pub mod NewMail
 pub mod MailBytes
-pub mod steps

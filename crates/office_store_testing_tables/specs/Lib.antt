@@ -1,7 +1,15 @@
+pub mod Texts
+pub mod Nearby
 pub mod Layout
 pub mod Tables
+pub mod TableSteps
 pub mod Entries
+pub mod EntrySteps
 pub mod FactTables
 pub mod TableContent
 pub mod Legible
-pub mod steps
+pub mod FactSteps
+pub mod Differences
+pub mod Loaded
+pub mod StepsWithin
+pub mod ReadsOnly

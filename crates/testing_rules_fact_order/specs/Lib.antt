@@ -1,2 +1,4 @@
+pub mod Trimming
 pub mod Uploads
-pub mod steps
+pub mod Entries
+pub mod Net

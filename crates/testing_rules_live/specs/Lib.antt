@@ -1,1 +1,3 @@
-pub mod steps
+pub mod Held
+pub mod Lacks
+pub mod LiveSources

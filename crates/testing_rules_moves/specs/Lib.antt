@@ -1,1 +1,4 @@
-pub mod steps
+pub mod LentItems
+pub mod Refusals
+pub mod Runs
+pub mod Turns

@@ -6,4 +6,7 @@ pub mod Texts
 pub mod Alone
 pub mod ToldChange
 pub mod Stuck
-pub mod steps
+pub mod Standing
+pub mod Arrivals
+pub mod Shown
+pub mod LineNumbers
