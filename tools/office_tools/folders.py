@@ -18,7 +18,7 @@ def made(place: str) -> str:
     place = os.path.abspath(place)
     try:
         os.makedirs(place, exist_ok=True)
-    except OSError as fault:
+    except (OSError, ValueError) as fault:  # a name with a null byte is no name
         raise Fault(f"{place}: {cause_of(fault)}", Exit.REFUSED) from fault
     return place
 

@@ -140,10 +140,10 @@ class State:
 
     @contextlib.contextmanager
     def faults(self) -> Iterator[None]:
-        """Within it a fault of SQLite is printed with the file's name."""
+        """Within it a fault of SQLite, or a text in the file that isn't one, is printed with the file's name."""
         try:
             yield
-        except sqlite3.Error as fault:
+        except (sqlite3.Error, UnicodeDecodeError) as fault:
             raise Fault(f"{self.path}: {fault}") from fault
 
     @contextlib.contextmanager
