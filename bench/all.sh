@@ -47,6 +47,7 @@ try replay_phases python3 "$bench/replay/phases.py" "$office" both:20
 try limit env ROUNDS=1 "$bench/limit/run.sh" "$office" runs:20 both:20 nine:20 sixteen:20 "$packages"
 try from_packages env ROUNDS=1 /usr/bin/python3 "$bench/tools/from_packages.py" 200
 try next_day env SOURCES=200 /usr/bin/python3 "$bench/tools/next_day.py" "$office"
+try lists env ROUNDS=1 python3 "$bench/tools/lists.py" "$office" both:200
 try start_to_end "$bench/versions/start_to_end.sh" "$office" 5
 if [ $# -eq 1 ]; then
     printf '%s\n' 1.0 1.1 1:2.0-1 2.0~rc1-1 > "$told/pairs"
