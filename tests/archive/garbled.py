@@ -373,7 +373,7 @@ class Bench:
     def laid_out(self) -> Folder:
         """A new folder for cases, which has a good file of each kind."""
         files = {path: text for kind, text in self.good.items() for path in (kind, *places(kind))}
-        files |= {os.path.join(name, "Release"): self.good["release"] for name in ("dists", "root/public/dists/testing")}
+        files |= {f"{name}/Release": self.good["release"] for name in ("dists", "root/public/dists/testing")}
         files |= {path: self.good[kind] for kind, path in CACHED.items() if kind in self.good}
         files |= {"dists/main/binary-amd64/Packages": PACKAGES, "aptly.conf": self.good["aptly"],
                   ".netrc": self.good["netrc"], **self.compiled}
