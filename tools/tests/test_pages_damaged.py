@@ -109,9 +109,13 @@ class Damaged(unittest.TestCase):
                                 reader(self.state)
                             self.assertEqual(found.exception.cause, UNREADABLE)
 
-    def test_events_of_no_source_and_of_no_run(self):
+    def test_names_and_numbers_of_nothing(self):
+        """No source has such a name, no run such a number, and no page such a path."""
         for table, column, value in (("last", "source", ""), ("last", "source", "a b"), ("last", "source", "../app"),
-                                     ("last", "run", 9), ("event", "run", 9)):
+                                     ("last", "run", 9), ("event", "run", 9), ("page", "path", ""),
+                                     ("page", "path", "../app.html"), ("page", "path", "source/../../app.html"),
+                                     ("page", "path", "/app.html"), ("page", "path", "app\0.html"),
+                                     ("page", "path", "source/app"), ("page", "path", "run/x.html")):
             with self.subTest(table=table, value=value), self.changed(table, column, value):
                 self.assertRaises(Fault, READERS[table], self.state)
 

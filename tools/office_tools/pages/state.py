@@ -19,6 +19,8 @@ SCHEMA = 4
 UNREADABLE = "what the pages remember can't be read: remove the folder .state, and it is fetched again"
 MOST_WORDS = 500  # words in one question to the database
 SOURCE = re.compile(NAME)
+PAGE = re.compile(r"(?!run/(?![0-9]{1,9}[.-]))(?:[^/.\0][^/\0]*/)*[^/.\0][^/\0]*\.[a-z]+")
+"""The path of a page: within the folder, and of a run by its number."""
 
 TABLES = """
 CREATE TABLE run (number INTEGER PRIMARY KEY, line TEXT NOT NULL, fetched TEXT NOT NULL, excuses BLOB NOT NULL,
@@ -353,8 +355,11 @@ class State:
             self.keep("hint", [(number, hint.text, hint.by, hint.comment) for number, hint in hints.items()])
 
     def digests(self) -> Mapping[str, str]:
-        """Of each page that was written a digest of what it was made of."""
-        return dict(self.all("SELECT path, digest FROM page"))
+        """Of each page that was written a digest of what it was made of. Any other path is a `Fault`."""
+        found = dict(self.all("SELECT path, digest FROM page"))
+        if not all(map(PAGE.fullmatch, found)):
+            raise Fault(UNREADABLE)
+        return found
 
     def keep_digests(self, digests: Mapping[str, str], gone: Sequence[str] = ()) -> None:
         """Keeps digests of pages that were written, and forgets those of pages that are gone."""
