@@ -1,6 +1,5 @@
 """What programs and an office answer, asked once: for tests that call tools often with nearly the same files."""
 import contextlib
-import hashlib
 import os
 from typing import Any, Callable, Iterator, Mapping, Optional, Sequence
 from unittest import mock
@@ -45,7 +44,7 @@ class Programs:
 
     def __init__(self, run: Callable[..., Any]) -> None:
         self.run = run
-        self.known: dict[bytes, tuple[Any, Sequence[Optional[bytes]]]] = {}
+        self.known: dict[tuple[object, ...], tuple[Any, Sequence[Optional[bytes]]]] = {}
 
     def __call__(self, words: Sequence[str], given: bytes = b"", **more: Any) -> Any:
         """What the program prints."""
@@ -54,8 +53,8 @@ class Programs:
         before = store_of(words)
         # A temporary file has another name at each call, but a program's sentence names an open one by its number.
         named = [data if data is not None and not word.startswith("/proc/") else (word, data)
-                 for word, data in zip(words, map(content, words))]
-        key = hashlib.blake2b(repr((named, given, list(before.values()))).encode()).digest()
+                 for word, data in zip(words[1:], map(content, words[1:]))]
+        key = words[0], *named, given, *before.values()
         if key not in self.known:
             self.known[key] = self.run(words, given, **more), list(store_of(words).values())
         told, after = self.known[key]
