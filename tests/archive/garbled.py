@@ -4,13 +4,16 @@
 Usage: garbled.py OFFICE [--jobs N] [--first NUMBER] [--minutes N] [COUNT [KIND..]]
 
 COUNT files of each kind are drawn, 100 if nothing is stated, from a seed that is the kind and a NUMBER (from 0 on). A
-tool reads each by its own `main`, up to a hundred files in a process that is forked from this one. All kinds come by
+tool reads each by its own `main`, up to a hundred files in a process that is forked from this one, in a folder that is
+put right after each. What a program or the office answered is answered again to the same question. All kinds come by
 turns, N parts at once (1), until the MINUTES are over. A file that ends a tool wrongly is kept, and named with the
 command. The exit status is 1 if there is one. Set TMPDIR to a folder in memory, since the tools wait until a disk has
 what they write.
 """
 import argparse
 import contextlib
+import fcntl
+import glob
 import importlib
 import multiprocessing
 import os
@@ -18,6 +21,7 @@ import random
 import re
 import shutil
 import signal
+import sqlite3
 import subprocess
 import sys
 import tempfile
@@ -25,20 +29,23 @@ import time
 import traceback
 from collections import Counter
 from dataclasses import dataclass, field
-from typing import Callable, Iterator, Mapping, Optional, Sequence
+from typing import Callable, Iterator, Mapping, Optional, Sequence, TextIO
 
 from stage import TOP, Office, run
 
 sys.path.insert(0, os.path.join(TOP, "tools"))
 
+from answers import asked_once, content  # noqa: E402
+from restored import Folder, write  # noqa: E402
 from office_tools import faults  # noqa: E402
 from office_tools.bags import framed  # noqa: E402
 from office_tools.mirror import held  # noqa: E402
 
 MODULES: Mapping[str, str] = {"bugs": "bugs.command", "mend": "mend", "tests": "autopkgtests.command"}
 """Where a tool's words are read, if it isn't in the module `command` of its own folder."""
+PAGES = "out/.state/state.db"
 CACHED = {"bag": "cache/bag", "known": "cache/known.json", "memory": "cache/memory.json",
-          "indexes": "cache/indexes.json", "ends": "look/ends", "copy": "look/store.db", "pages": "out/.state/state.db"}
+          "indexes": "cache/indexes.json", "ends": "look/ends", "copy": "look/store.db", "pages": PAGES}
 """The files in which office-feed, office-look and office-pages remember something."""
 BRITNEY = {"packages": ("Packages_amd64",), "sources": ("Sources",), "bugs": ("BugsV",), "dates": ("Dates",),
            "urgencies": ("Urgency",), "hints": ("Hints/me",)}
@@ -47,6 +54,10 @@ STATUSES = range(5)
 TRACED = 99  # what counts as the status of a tool that ended by a traceback
 SECONDS, LONGEST = 60, 1200  # of processor that a tool may take for a file, and of time, on a machine that does more
 BATCH = 100  # files that one process tries
+WRITTEN = os.O_WRONLY | os.O_CREAT | os.O_TRUNC
+FOLDERS = ("out/.state", "ch", "cache", "states", "look", "dists/main/binary-amd64", "root/public/dists/testing",
+           "data/testing", "data/unstable/Hints")
+"""The folders of a case."""
 DAY = "2025-03-06"
 MAKE = ("from-packages", "--no-hints", "--uploaded", DAY, "--run", DAY)
 TAKE = ("apply", "--testing", "testing")
@@ -241,6 +252,15 @@ class Reading:
 
 
 @dataclass(frozen=True)
+class Case:
+    """A file, by its kind and number, and how a tool reads it."""
+
+    kind: str
+    number: int
+    reading: Reading
+
+
+@dataclass(frozen=True)
 class Part:
     """Some files of a kind, by their numbers."""
 
@@ -270,6 +290,7 @@ class Bench:
     url: str
     folder: str
     good: Mapping[str, bytes] = field(default_factory=dict)
+    compiled: Mapping[str, bytes] = field(default_factory=dict)  # the templates that office-pages keeps, by the paths
     last: float = float("inf")  # the end of the time, by the monotonic clock
 
     def readings(self, kind: str) -> Sequence[Reading]:
@@ -343,81 +364,90 @@ class Bench:
             "standing": [Reading("states/memory.json", ("day", "--conf", "settings", "--day", DAY))],
             "notified": [Reading(kind, ("notify", "--url", self.url, "--state", kind))],
             **{name: [Reading(CACHED[name], (*self.looks, "packages"))] for name in ("ends", "copy")},
-            "pages": [Reading("out/.state/state.db", PAGE)]}
+            "pages": [Reading(PAGES, PAGE)], "compiled": [Reading(path, PAGE) for path in list(self.compiled)[:1]]}
 
     def kinds(self) -> Sequence[str]:
         """The kinds of files that some tool reads."""
         return [kind for kind in self.good if self.readings(kind)]
 
-    def lay_out(self, place: str) -> None:
-        """Makes a folder with a good file of each kind, and goes there."""
-        for name in ("out/.state", "ch", "cache", "states", "look", "dists/main/binary-amd64",
-                     "root/public/dists/testing", "data/testing", "data/unstable/Hints"):
-            os.makedirs(os.path.join(place, name))
-        os.chdir(place)
-        os.environ["HOME"] = place
-        for kind, text in self.good.items():
-            for path in (kind, *places(kind)):
-                write(path, text)
-        write("dists/main/binary-amd64/Packages", PACKAGES)
-        for folder in ("dists", "root/public/dists/testing"):
-            write(os.path.join(folder, "Release"), self.good["release"])
-        write("aptly.conf", self.good["aptly"])
-        write(".netrc", self.good["netrc"])
-        os.chmod(".netrc", 0o600)
-        for kind, path in CACHED.items():
-            if kind in self.good:
-                write(path, self.good[kind])
+    def laid_out(self) -> Folder:
+        """A new folder for cases, which has a good file of each kind."""
+        files = {path: text for kind, text in self.good.items() for path in (kind, *places(kind))}
+        files |= {f"{name}/Release": self.good["release"] for name in ("dists", "root/public/dists/testing")}
+        files |= {path: self.good[kind] for kind, path in CACHED.items() if kind in self.good}
+        files |= {"dists/main/binary-amd64/Packages": PACKAGES, "aptly.conf": self.good["aptly"],
+                  ".netrc": self.good["netrc"], **self.compiled}
+        return Folder(self.cases(os.getpid()), FOLDERS, files, (".netrc",))
 
-    def place(self, kind: str, number: int) -> str:
-        """The folder of a case."""
-        return os.path.join(self.folder, f"{kind}-{number}")
+    def cases(self, process: int) -> str:
+        """The folder in which a process tries cases."""
+        return os.path.join(self.folder, f"cases-{process}")
+
+    def place(self, case: Case) -> str:
+        """Where the folder of a case stays that ended wrongly."""
+        return os.path.join(self.folder, f"{case.kind}-{case.number}")
 
     def try_part(self, part: Part) -> Tried:
-        """Tries files of a kind, those of one reading after those of another, if there is time."""
+        """Tries files of a kind, if there is time. The tools that read it take turns."""
         readings = self.readings(part.kind)
         found = Tried(part.kind)
-        for turn, reading in enumerate(readings if time.monotonic() < self.last else ()):
-            numbers = [number for number in part.numbers if number % len(readings) == turn]
-            start = 0
-            while start < len(numbers):
-                start += self.try_some(found, numbers[start:], reading)
-            found.count += len(numbers)
+        cases = [Case(part.kind, number, readings[number % len(readings)]) for number in part.numbers]
+        while found.count < len(cases) and time.monotonic() < self.last:
+            self.try_some(found, cases[found.count:])
         return found
 
-    def try_some(self, found: Tried, numbers: Sequence[int], reading: Reading) -> int:
-        """Tries some files in a process of its own: how many it tried. One that ended by a signal is its last."""
-        kind = found.kind
+    def try_some(self, found: Tried, cases: Sequence[Case]) -> None:
+        """Tries cases in a process of its own. One that ended by a signal is its last."""
         report = os.path.join(self.folder, f"report-{os.getpid()}")
         child = os.fork()
         if child == 0:
             try:
                 with open(report, "w", encoding="utf-8") as file:
-                    for number in numbers:
-                        print(number, file=file, flush=True)
-                        print(self.try_one(kind, number, reading) or "", file=file, flush=True)
+                    self.try_here(cases, file)
             finally:
                 os._exit(0)
         _, status = os.waitpid(child, 0)
-        lines = read(report).splitlines()
-        if len(lines) % 2:
-            lines.append(f"ended by signal {os.WTERMSIG(status)}" if os.WIFSIGNALED(status) else "the test failed")
-        for name, fault in zip(lines[::2], lines[1::2]):
-            if fault:
-                found.faults.append(f"{kind} {name}: office-{' '.join(reading.words)}: {fault}\n  in "
-                                    f"{self.place(kind, int(name))}")
-        return max(1, len(lines) // 2)
+        told = read(report).split("\n")[:-1]
+        if len(told) < len(cases):
+            os.rename(self.cases(child), self.place(cases[len(told)]))
+            told.append(f"ended by signal {os.WTERMSIG(status)}" if os.WIFSIGNALED(status) else "the test failed")
+        found.count += len(told)
+        found.faults += [f"{case.kind} {case.number}: office-{' '.join(case.reading.words)}: {fault}\n  in "
+                         f"{self.place(case)}" for case, fault in zip(cases, told) if fault]
 
-    def try_one(self, kind: str, number: int, reading: Reading) -> Optional[str]:
-        """Tries one file: what is wrong. Its folder is kept then."""
-        random_ = random.Random(f"{kind} {number}")
-        place = self.place(kind, number)
-        self.lay_out(place)
-        write(reading.place, garbled(random_, self.good[kind]))
+    def try_here(self, cases: Sequence[Case], report: TextIO) -> None:
+        """Tries cases, and writes a line for each: what is wrong."""
+        folder = self.laid_out()
+        for case in cases:
+            text = garbled(random.Random(f"{case.kind} {case.number}"), self.good[case.kind])
+            fault = self.fault_of(case.reading, text)
+            if fault is None:
+                folder.restore()
+            else:
+                folder.keep(self.place(case))
+            print(fault or "", file=report, flush=True)
+        folder.remove()
+
+    def fault_of(self, reading: Reading, text: bytes) -> Optional[str]:
+        """What is wrong with how a tool ends that reads this text."""
+        write(reading.place, text)
         fault = judged(*ended(reading, reading.place if reading.is_input else os.devnull))
-        if fault is None:
-            shutil.rmtree(place)
+        unlock()
         return fault
+
+    def warm_up(self, kinds: Sequence[str]) -> None:
+        """Lets the tools read good files here, so that all later processes have their modules and the answers."""
+        streams, outputs = (sys.stdin, sys.stdout, sys.stderr), [os.dup(number) for number in range(3)]
+        folder = self.laid_out()
+        for kind in kinds:
+            for reading in self.readings(kind):
+                self.fault_of(reading, self.good[kind])
+                folder.restore()
+        folder.remove()
+        sys.stdin, sys.stdout, sys.stderr = streams
+        for number, output in enumerate(outputs):
+            os.dup2(output, number)
+            os.close(output)
 
 
 def places(kind: str) -> Sequence[str]:
@@ -434,12 +464,6 @@ def main_of(name: str) -> Optional[faults.Main]:
         return None
     found: faults.Main = module.main
     return found
-
-
-def write(path: str, text: bytes) -> None:
-    """Writes a file."""
-    with open(path, "wb") as file:
-        file.write(text)
 
 
 def ended(reading: Reading, given: str) -> tuple[int, str, str]:
@@ -465,10 +489,16 @@ def ended(reading: Reading, given: str) -> tuple[int, str, str]:
     return status, read("stdout"), read("stderr")
 
 
+def unlock() -> None:
+    """Ends the locks that a tool holds until its process ends, which is this one: the next tool needs them."""
+    for number in map(int, os.listdir("/proc/self/fd")):
+        with contextlib.suppress(OSError):
+            fcntl.flock(number, fcntl.LOCK_UN)
+
+
 def redirect(given: str) -> None:
     """Lets this process read a file, and write both outputs into files here."""
-    for number, (path, mode) in enumerate(((given, os.O_RDONLY), ("stdout", os.O_WRONLY | os.O_CREAT),
-                                           ("stderr", os.O_WRONLY | os.O_CREAT))):
+    for number, (path, mode) in enumerate(((given, os.O_RDONLY), ("stdout", WRITTEN), ("stderr", WRITTEN))):
         opened = os.open(path, mode, 0o644)
         os.dup2(opened, number)
         os.close(opened)
@@ -531,19 +561,22 @@ def good_files(program: str, folder: str) -> Mapping[str, bytes]:
             "dates": DATES, "urgencies": URGENCIES, "hints": HINTS, "aptly": APTLY, "netrc": NETRC}
 
 
-def remembered(bench: Bench) -> Mapping[str, bytes]:
-    """What office-feed, office-look and office-pages remember, by the kinds of its files."""
-    bench.lay_out(os.path.join(bench.folder, "first"))
-    found = {}
+def remember(bench: Bench) -> None:
+    """Lets office-feed, office-look and office-pages remember something, and takes over their files."""
+    folder = bench.laid_out()
     for words in ((*bench.feeds, "packages"), (*bench.looks, "packages"), PAGE):
         name, *more = (word for word in words if word != "--dry-run" or words[0] != "feed")
         run(os.path.join(TOP, f"tools/bin/office-{name}"), *more, *(["--no-order"] if name == "feed" else []),
             may_fail=True)
-    for kind, place in CACHED.items():
-        if os.path.exists(place):
-            with open(place, "rb") as file:
-                found[kind] = file.read()
-    return found
+    with contextlib.closing(sqlite3.connect(PAGES, isolation_level=None)) as database:
+        # In smaller pages more of the bytes say something.
+        for statement in ("PRAGMA journal_mode = DELETE", "PRAGMA page_size = 512", "VACUUM"):
+            database.execute(statement)
+    templates = sorted(glob.glob("out/.state/*.compiled"), key=os.path.getsize, reverse=True)
+    bench.compiled = {path: content(path) or b"" for path in templates}
+    found = {kind: content(path) for kind, path in (*CACHED.items(), ("compiled", templates[0]))}
+    bench.good = {**bench.good, **{kind: text for kind, text in found.items() if text is not None}}
+    folder.remove()
 
 
 @contextlib.contextmanager
@@ -559,8 +592,9 @@ def laid_out(program: str) -> Iterator[Bench]:
     office.start(setup)
     bench.url = office.url
     try:
-        bench.good = {**bench.good, **remembered(bench)}
-        yield bench
+        remember(bench)
+        with asked_once():
+            yield bench
     finally:
         office.stop()
         os.chdir("/")
@@ -569,6 +603,7 @@ def laid_out(program: str) -> Iterator[Bench]:
 def try_all(bench: Bench, asked: argparse.Namespace) -> tuple[Counter[str], int]:
     """Tries the files of the kinds: how many of each, and how many of all ended a tool wrongly."""
     kinds = asked.kinds or bench.kinds()
+    bench.warm_up(kinds)
     numbers = range(asked.first, asked.first + asked.count)
     count: Counter[str] = Counter({kind: 0 for kind in kinds})
     wrong = 0

@@ -1,6 +1,7 @@
 """The kept messages of a sender of a service, asked for in parts and handed out in order."""
+import re
 from dataclasses import dataclass, field
-from typing import Iterator
+from typing import Iterator, Optional
 
 from office_tools import bags
 from office_tools.faults import Exit, Fault
@@ -8,6 +9,8 @@ from office_tools.messages import Label, label_of
 from office_tools.service import Service
 
 GREATEST = 999_999_999  # the greatest number of a message
+USUAL = re.compile(rb"From: ([!-~]+)\nNumber: ([1-9][0-9]{0,8})\n")
+"""How nearly all messages begin."""
 
 
 @dataclass
@@ -51,7 +54,7 @@ def letters(service: Service, sender: str, first: int = 1,
             return
         last = first
         for text in bags.messages_in(service.bag(sender, first)):
-            label = label_of(text)
+            label = kept_label(text)
             if label is None or label.sender != sender or label.number < last:
                 raise Fault(f"{service.url}/bag/{sender}/{first}: no office answers there", Exit.FAILED)
             last = label.number + 1
@@ -60,3 +63,9 @@ def letters(service: Service, sender: str, first: int = 1,
         if last == first:
             return
         first = last
+
+
+def kept_label(text: bytes) -> Optional[Label]:
+    """The label of a message that an office keeps: none has a field twice, so the two may be read without the rest."""
+    found = USUAL.match(text)
+    return Label(found[1].decode(), int(found[2])) if found else label_of(text)

@@ -219,16 +219,17 @@ REASON_FORMS: Sequence[tuple[re.Pattern[str], ReasonKind]] = (
     (re.compile("blocked"), ReasonKind.BLOCKED),
     (re.compile("removal asked"), ReasonKind.REMOVAL))
 
-ITEMS = r"(?P<items>\S+ \S+(?: \S+ \S+)*)"
+ITEM = rf"(?P<items>{NAME} \S+)"
+ITEMS = rf"(?P<items>{NAME} \S+(?: {NAME} \S+)*)"
 LEFT = r"uninstallable (?P<architecture>\S+) (?P<package>\S+)"
 
 CHANGE_FORMS: Sequence[tuple[re.Pattern[str], Word, Outcome]] = (
-    (re.compile(r"accept (?P<items>\S+ \S+)"), Word.ACCEPT, Outcome.ACCEPTED),
-    (re.compile(r"wait (?P<items>\S+ \S+) " + LEFT), Word.WAIT, Outcome.WAITS),
-    (re.compile(r"remove (?P<hint>\d{1,9}) accept (?P<items>\S+ \S+)"), Word.REMOVE, Outcome.ACCEPTED),
-    (re.compile(r"remove (?P<hint>\d{1,9}) refuse (?P<items>\S+ \S+) " + LEFT), Word.REMOVE, Outcome.UNINSTALLABLE),
+    (re.compile("accept " + ITEM), Word.ACCEPT, Outcome.ACCEPTED),
+    (re.compile(f"wait {ITEM} {LEFT}"), Word.WAIT, Outcome.WAITS),
+    (re.compile(r"remove (?P<hint>\d{1,9}) accept " + ITEM), Word.REMOVE, Outcome.ACCEPTED),
+    (re.compile(rf"remove (?P<hint>\d{{1,9}}) refuse {ITEM} {LEFT}"), Word.REMOVE, Outcome.UNINSTALLABLE),
     (re.compile(r"easy (?P<hint>\d{1,9}) accept " + ITEMS), Word.EASY, Outcome.ACCEPTED),
-    (re.compile(r"easy (?P<hint>\d{1,9}) refuse (?P<item>[^ /]+/\S+) not a candidate"), Word.EASY,
+    (re.compile(r"easy (?P<hint>\d{1,9}) refuse (?P<item>" + NAME + r"/\S+) not a candidate"), Word.EASY,
      Outcome.NO_CANDIDATE),
     (re.compile(r"easy (?P<hint>\d{1,9}) refuse " + LEFT), Word.EASY, Outcome.UNINSTALLABLE))
 

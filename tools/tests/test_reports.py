@@ -113,6 +113,8 @@ class Reports(unittest.TestCase):
                 (reports.read_excuses, EXCUSES.removesuffix(" candidate\n"),
                  "x:13: a reason, or whether it is a candidate is due here"),
                 (reports.read_update, UPDATE + "accepted a 1\n", "x:9: the office has no such line in an update"),
+                *((reports.read_update, UPDATE + line, "x:9: the office has no such line in an update") for line in (
+                    "accept ../../etc/x 1\n", "easy 8 accept one 1.0 a/b 1\n", "easy 5 refuse ../x not a candidate\n")),
                 (reports.read_testing, TESTING + "source late 1\n", "x:6: a source or a binary is due here"),
                 (reports.read_testing, TESTING + "binary all a 1 b\n", "x:6: the source b isn't in testing"),
                 (reports.read_runs, "run 1\n", "x:1: the line of a run is due here")]:

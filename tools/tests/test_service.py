@@ -112,6 +112,19 @@ class Offices(unittest.TestCase):
             self.assertEqual(mailing.verdict(service, texts[0] + b"X: y\n"), "refused OtherText")
             self.assertEqual(mailing.verdict(service, b""), "refused MissingField From")
 
+    @needs_office
+    def test_labels_of_kept_mail(self):
+        """A label is read wherever a message has it."""
+        begins = (b"From: rt\nNumber: 1\n", b"from:rt\nNUMBER: 2\n", b"Number: 3\nFrom: rt\n",
+                  b"From: rt\nBy: me\nNumber: 4\n", b"\nFrom:\n rt\nNumber: 5 \n", b"From: rt\nNumber: 6\r\n")
+        with Serving() as serving:
+            service = Service(serving.url)
+            for number, begin in enumerate(begins, 1):
+                reply = mailing.replied(service, "/mail", begin + b"Kind: hint\nHint: block app\n")
+                self.assertEqual(reply, f"held rt {number}")
+            self.assertEqual([label for label, _ in letters(service, "rt")],
+                             [("rt", number) for number in range(1, len(begins) + 1)])
+
     def test_older_office(self):
         """An office that hasn't a page says so, and the tools say why."""
         with Serving() as serving:

@@ -1,4 +1,6 @@
 """Which sources a run must not move, since a package couldn't be installed in the testing that it would leave."""
+import functools
+import itertools
 from dataclasses import dataclass, field
 from typing import Iterator, Mapping, Sequence
 
@@ -16,18 +18,27 @@ class Step:
     before: reports.Testing
     after: reports.Testing
 
-    @property
+    @functools.cached_property
     def moved(self) -> frozenset[str]:
         """The sources that it moved."""
         return frozenset(name for name, version in self.after.sources.items()
                          if self.before.sources.get(name) != version)
 
-    @property
+    @functools.cached_property
     def removed(self) -> frozenset[str]:
         """The sources that it took out."""
         return frozenset(self.before.sources) - frozenset(self.after.sources)
 
-    @property
+    @functools.cached_property
+    def changing(self) -> Mapping[str, frozenset[Package]]:
+        """The packages of each source that it moved or took out, old and new."""
+        found: dict[str, set[Package]] = {name: set() for name in self.moved | self.removed}
+        for row in itertools.chain(self.before.rows, self.after.rows):
+            if row.source in found:
+                found[row.source].add(package_of(row))
+        return {name: frozenset(packages) for name, packages in found.items()}
+
+    @functools.cached_property
     def architectures(self) -> list[str]:
         """The architectures of testing in listed order, without `all`."""
         return list(dict.fromkeys(row.architecture for row in self.after.rows if row.architecture != ALL))
@@ -88,10 +99,9 @@ class Eye:
 
     def blamed(self, broken: Broken, step: Step) -> frozenset[str]:
         """The changing sources with packages, old or new, that the causes mention; without any, all that changes."""
-        changing = step.moved | step.removed
-        rows = [row for testing in (step.before, step.after) for row in testing.rows if row.source in changing]
-        found = frozenset(row.source for row in rows if names_of(package_of(row), self.known) & broken.named)
-        return found or changing
+        found = frozenset(name for name, packages in step.changing.items()
+                          if any(names_of(package, self.known) & broken.named for package in packages))
+        return found or frozenset(step.changing)
 
 
 def package_of(row: reports.Row) -> Package:

@@ -36,8 +36,9 @@ class Copy:
         """The options that name the setup and a store."""
         return ["--conf", self.setup, "--db", store]
 
-    def follow(self) -> None:
-        """Brings over the mail that the office keeps. A copy that isn't the office's is made from nothing.
+    def follow(self) -> reports.Testing:
+        """Brings over the mail that the office keeps, and returns the copy's testing. A copy that isn't the office's is
+        made from nothing.
 
         What a trial left that was ended by force is removed.
         """
@@ -46,12 +47,13 @@ class Copy:
                 shutil.rmtree(os.path.join(self.folder, name), ignore_errors=True)
         if not self.is_same():
             self.clear()
-        self.bring()
-        if self.differs():
+        testing = self.brought()
+        if testing is None:
             self.clear()
-            self.bring()
-            if self.differs():
-                raise Fault(f"{self.service.url}: its testing isn't what its mail gives for {self.setup}", Exit.FAILED)
+            testing = self.brought()
+        if testing is None:
+            raise Fault(f"{self.service.url}: its testing isn't what its mail gives for {self.setup}", Exit.FAILED)
+        return testing
 
     def clear(self) -> None:
         """Removes the copy."""
@@ -83,10 +85,11 @@ class Copy:
         known = json.loads(read_bytes(path)) if os.path.exists(path) else {}
         write_whole(path, json.dumps({**known, **ends}).encode())
 
-    def differs(self) -> bool:
-        """Whether the copy has another testing than the office after the same runs."""
+    def brought(self) -> Optional[reports.Testing]:
+        """The copy's testing with the office's mail; None if the office has another one after the same runs."""
+        self.bring()
         theirs, own = self.service.testing(), self.testing()
-        return theirs.finished == own.finished and theirs != own
+        return None if theirs.finished == own.finished and theirs != own else own
 
     def testing(self) -> reports.Testing:
         """What is in testing in the copy."""

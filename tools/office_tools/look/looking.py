@@ -47,19 +47,20 @@ class Found:
 
 @dataclass
 class Look:
-    """A running office, a copy of it, a judge, and how a line is printed."""
+    """A running office, a copy of it, a judge, and the day of the run. `begin` reads which testing is `before` it."""
 
     service: Service
     copy: Copy
     eye: Optional[Eye]
     day: datetime.date
+    before: reports.Testing = reports.Testing(0, {}, ())
     hints: str = "rt"
     last: int = 0
     standing: Sequence[Block] = ()
 
     def begin(self) -> None:
         """Brings the copy up to date, and reads which blocks of this command are in force."""
-        self.copy.follow()
+        self.before = self.copy.follow()
         hints = self.service.hints()
         self.hints = hints.sender or self.hints
         self.last = self.copy.own()[self.hints].unbroken
@@ -68,14 +69,13 @@ class Look:
 
     def look(self, more: Sequence[str] = ()) -> Found:
         """What the next run does with these hints, and what has to be blocked first."""
-        before = self.copy.testing()
         order = self.copy.order(self.day.isoformat())
         proposed = numbered(self.hints, self.last, (proposal(hint, self.day.isoformat()) for hint in more))
         blocked: dict[str, str] = {}
         for _ in range(TURNS):
             texts = [*proposed, *self.letters(blocked, len(proposed))]
             covered = self.covering(order, len(texts))
-            step = Step(before, self.tried(texts, covered))
+            step = Step(self.before, self.tried(texts, covered))
             parts = self.eye.culprits(step) if self.eye is not None else []
             fixed = frozenset(blocked) | step.removed
             fresh: Mapping[str, str] = next((part for part in parts if not fixed.issuperset(part)), {})

@@ -67,10 +67,12 @@ def outcome_in(told: str) -> SourceOutcome:
     """The outcome that `as_json` wrote, from its text."""
     try:
         part = json.loads(told)
+        if any(type(value) is not (int if name == "hint" else str) for name, value in part.items()):
+            raise ValueError(told)
         offender = Offender(part["arch"], part["package"]) if "package" in part else None
         kind = Word(part["kind"]) if "kind" in part else None
         return SourceOutcome(What(part["what"]), part.get("hint"), kind, offender)
-    except (AttributeError, KeyError, TypeError, ValueError) as fault:
+    except (AttributeError, KeyError, TypeError, ValueError, RecursionError) as fault:
         raise Fault(UNREADABLE) from fault
 
 

@@ -22,6 +22,7 @@ from office_tools.pages import hints, mending, names, rows, verdicts, views
 from office_tools.pages.excuses_json import excuses_json
 from office_tools.pages.fetching import Newest
 from office_tools.pages.change_pages import Feeds
+from office_tools.pages.compiled import Compiled
 from office_tools.pages.day_pages import glance
 from office_tools.pages.kept_mail import KeptMail
 from office_tools.pages.look import digest_of, FIRST_PAGE, HERE, Look
@@ -84,7 +85,7 @@ class Site:
     def templates(self) -> jinja2.Environment:
         """The templates, which the folder of what is kept has compiled."""
         found = jinja2.Environment(
-            bytecode_cache=jinja2.FileSystemBytecodeCache(os.path.dirname(os.path.abspath(self.state.path))),
+            bytecode_cache=Compiled(os.path.dirname(os.path.abspath(self.state.path))),
             loader=jinja2.FileSystemLoader(os.path.join(HERE, "templates")), autoescape=True, trim_blocks=True,
             lstrip_blocks=True, auto_reload=False, keep_trailing_newline=True, undefined=jinja2.StrictUndefined)
         made: Mapping[str, Callable[..., str]] = {

@@ -6,17 +6,21 @@ file of another schema is made again.
 import contextlib
 import datetime
 import json
+import re
 import sqlite3
 import zlib
 from dataclasses import dataclass
 from typing import Any, Collection, Iterable, Iterator, Mapping, NamedTuple, Optional, Sequence
 
 from office_tools.faults import Fault
-from office_tools.reports import Run
+from office_tools.reports import NAME, Run
 
 SCHEMA = 4
 UNREADABLE = "what the pages remember can't be read: remove the folder .state, and it is fetched again"
 MOST_WORDS = 500  # words in one question to the database
+SOURCE = re.compile(NAME)
+PAGE = re.compile(r"(?!run/(?![0-9]{1,9}[.-]))(?:[^/.\0][^/\0]*/)*[^/.\0][^/\0]*\.[a-z]+")
+"""The path of a page: within the folder, and of a run by its number."""
 
 TABLES = """
 CREATE TABLE run (number INTEGER PRIMARY KEY, line TEXT NOT NULL, fetched TEXT NOT NULL, excuses BLOB NOT NULL,
@@ -45,6 +49,10 @@ CREATE TABLE basis (told TEXT NOT NULL) STRICT;
 CREATE TABLE page (path TEXT PRIMARY KEY, digest TEXT NOT NULL) STRICT;
 CREATE TABLE built (made_by TEXT NOT NULL, has_mail INTEGER NOT NULL) STRICT;
 """
+
+TYPES: Mapping[str, type] = {name: {"INTEGER": int, "TEXT": str, "BLOB": bytes}[word]
+                             for name, word in re.findall(r"(\w+) (INTEGER|TEXT|BLOB)", TABLES)} | {"packed": bytes}
+"""The type of a column's values by its name. `told` is a text: that of a suite, which isn't, is read as `packed`."""
 
 MAIL_TABLES = ("mail_read", "build", "need", "person")
 """What is read of the kept mail."""
@@ -159,9 +167,15 @@ class State:
                 raise
 
     def all(self, question: str, words: Sequence[object] = ()) -> Sequence[Any]:
-        """The rows by which the database answers a question."""
+        """The rows by which the database answers a question. A value of another type than its column's is a `Fault`:
+        SQLite checks the type when it writes, and a damaged file can have any."""
         with self.faults():
-            return self.database.execute(question, words).fetchall()
+            asked = self.database.execute(question, words)
+            found = asked.fetchall()
+        for column, values in zip(asked.description, zip(*found)):
+            if set(map(type, values)) != {TYPES[column[0]]}:
+                raise Fault(UNREADABLE)
+        return found
 
     def one(self, question: str, words: Sequence[object] = ()) -> Any:
         """The first of these rows, or None."""
@@ -223,25 +237,33 @@ class State:
     def last_events(self) -> Mapping[str, Event]:
         """The last event of each source."""
         if self.last is None:
-            self.last = {source: Event._make(parts) for source, *parts in self.all("SELECT * FROM last")}
+            self.last = dict(self.told_events("SELECT * FROM last"))
         return self.last
+
+    def told_events(self, question: str, words: Sequence[object] = ()) -> Iterator[tuple[str, Event]]:
+        """Events with their sources. The name of no source is a `Fault`, and so is the number of no kept run."""
+        kept = {number for number, in self.all("SELECT number FROM run")}
+        for source, *parts in self.all(question, words):
+            event = Event._make(parts)
+            if event.run not in kept or not SOURCE.fullmatch(source):
+                raise Fault(UNREADABLE)
+            yield source, event
 
     def events(self, sources: Sequence[str]) -> Iterator[tuple[str, Sequence[Event]]]:
         """The events of each of these sources, the last one first."""
         for some in parts(sources):
             found: dict[str, list[Event]] = {source: [] for source in some}
-            for source, *event in self.all("SELECT source, run, testing, unstable, reasons, outcome FROM event "
-                                           f"WHERE source IN ({marks(some)}) ORDER BY source, run DESC", some):
-                found[source].append(Event._make(event))
+            for source, event in self.told_events("SELECT * FROM event WHERE source IN "
+                                                  f"({marks(some)}) ORDER BY source, run DESC", some):
+                found[source].append(event)
             yield from found.items()
 
     def events_from(self, run: int) -> Mapping[str, Sequence[Event]]:
         """The events of each source that has one from this run on, in the order of runs."""
         found: dict[str, list[Event]] = {}
-        for source, *parts in self.all(
-                "SELECT source, run, testing, unstable, reasons, outcome FROM event WHERE source IN "
-                "(SELECT source FROM last WHERE run >= ?) ORDER BY source, run", (run,)):
-            found.setdefault(source, []).append(Event(*parts))
+        for source, event in self.told_events("SELECT * FROM event WHERE source IN (SELECT source FROM last "
+                                              "WHERE run >= ?) ORDER BY source, run", (run,)):
+            found.setdefault(source, []).append(event)
         return found
 
     def keep_testing(self, run: int, told: str) -> None:
@@ -254,7 +276,7 @@ class State:
     def suite(self, table: str) -> Optional[tuple[int, str]]:
         """What is in testing after a run, or what the office said of unstable when it was the newest one; and the run.
         """
-        found = self.one(f"SELECT run, told FROM {table}")
+        found = self.one(f"SELECT run, told AS packed FROM {table}")
         return (found[0], unpacked(found[1])) if found else None
 
     def keep_suite(self, table: str, run: int, told: str, touched: Iterable[str] = ()) -> None:
@@ -333,8 +355,11 @@ class State:
             self.keep("hint", [(number, hint.text, hint.by, hint.comment) for number, hint in hints.items()])
 
     def digests(self) -> Mapping[str, str]:
-        """Of each page that was written a digest of what it was made of."""
-        return dict(self.all("SELECT path, digest FROM page"))
+        """Of each page that was written a digest of what it was made of. Any other path is a `Fault`."""
+        found = dict(self.all("SELECT path, digest FROM page"))
+        if not all(map(PAGE.fullmatch, found)):
+            raise Fault(UNREADABLE)
+        return found
 
     def keep_digests(self, digests: Mapping[str, str], gone: Sequence[str] = ()) -> None:
         """Keeps digests of pages that were written, and forgets those of pages that are gone."""
@@ -406,6 +431,8 @@ def run_in(line: str) -> Run:
     """The line of a run that was kept."""
     try:
         number, date, *counts = json.loads(line)
+        if {type(number), *map(type, counts)} != {int}:
+            raise ValueError(line)
         return Run(number, datetime.date.fromisoformat(date), *counts)
-    except (TypeError, ValueError) as fault:
+    except (TypeError, ValueError, RecursionError) as fault:
         raise Fault(UNREADABLE) from fault
