@@ -5,24 +5,30 @@ import os
 import sys
 import tempfile
 
-from office_tools.faults import Fault, cause_of
+from office_tools.faults import Fault, naming
 
 
 def read_bytes(path: str) -> bytes:
     """What a file holds; `-` is standard input."""
-    try:
+    with naming(path):
         if path == "-":
             return sys.stdin.buffer.read()
         with open(path, "rb") as file:
             return file.read()
-    except OSError as fault:
-        raise Fault(f"{path}: {cause_of(fault)}") from fault
+
+
+def decoded(path: str, data: bytes) -> str:
+    """The characters of what a file holds."""
+    try:
+        return data.decode()
+    except UnicodeDecodeError as fault:
+        raise Fault(f"{path}: it is no text in UTF-8") from fault
 
 
 def write_whole(path: str, data: bytes) -> None:
     """Writes a file whole, or leaves it as it was: to a temporary file next to it, which is then renamed."""
     folder = os.path.dirname(path) or "."
-    try:
+    with naming(path):
         os.makedirs(folder, exist_ok=True)
         number, beside = tempfile.mkstemp(prefix="." + os.path.basename(path) + ".", dir=folder)
         try:
@@ -36,8 +42,6 @@ def write_whole(path: str, data: bytes) -> None:
             with contextlib.suppress(OSError):
                 os.unlink(beside)
             raise
-    except OSError as fault:
-        raise Fault(f"{path}: {cause_of(fault)}") from fault
 
 
 def sealed(data: bytes) -> bytes:

@@ -3,7 +3,7 @@ import fcntl
 import os
 import urllib.parse
 
-from office_tools.faults import Exit, Fault, cause_of
+from office_tools.faults import Exit, Fault, naming
 
 
 def cache_of(name: str, url: str) -> str:
@@ -16,20 +16,17 @@ def made(place: str) -> str:
     """A folder, which is made if there is none."""
     # apt takes a name that doesn't begin at the root as one below its own folder.
     place = os.path.abspath(place)
-    try:
+    with naming(place, Exit.REFUSED, ValueError):  # a name with a null byte is no name
         os.makedirs(place, exist_ok=True)
-    except (OSError, ValueError) as fault:  # a name with a null byte is no name
-        raise Fault(f"{place}: {cause_of(fault)}", Exit.REFUSED) from fault
     return place
 
 
 def locked(path: str, name: str, where: str = "") -> int:
     """Locks a file or a folder against another command of this name, until this process ends."""
-    try:
+    with naming(path, Exit.REFUSED):
         number = os.open(path, os.O_RDONLY)
-        fcntl.flock(number, fcntl.LOCK_EX | fcntl.LOCK_NB)
+        try:
+            fcntl.flock(number, fcntl.LOCK_EX | fcntl.LOCK_NB)
+        except BlockingIOError as fault:
+            raise Fault(f"{path}: another {name} works{where}", Exit.REFUSED) from fault
         return number
-    except BlockingIOError as fault:
-        raise Fault(f"{path}: another {name} works{where}", Exit.REFUSED) from fault
-    except OSError as fault:
-        raise Fault(f"{path}: {cause_of(fault)}", Exit.REFUSED) from fault

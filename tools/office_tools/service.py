@@ -1,5 +1,6 @@
 """A client of the service `office serve`: one request a connection, as the service has it."""
 import base64
+import contextlib
 import datetime
 import http.client
 import re
@@ -9,7 +10,7 @@ from dataclasses import dataclass
 from typing import Mapping, Optional, Sequence
 
 from office_tools import reports
-from office_tools.faults import Exit, Fault, cause_of
+from office_tools.faults import Exit, Fault, naming
 
 DEFAULT_URL = "http://127.0.0.1:8080"  # where a service answers if none is named
 SECONDS = 60.0  # how long a connection waits for its peer
@@ -92,15 +93,11 @@ class Service:
 
     def ask(self, method: str, path: str, body: Optional[bytes] = None) -> Reply:
         """The answer to one request on a connection of its own. A `Fault` of status 4 says that none came."""
-        connection = self.connection()
-        try:
+        named = naming(self.url + path, Exit.FAILED, http.client.HTTPException, ValueError)
+        with contextlib.closing(self.connection()) as connection, named:
             connection.request(method, self.folder + path, body, self.head())
             answer = connection.getresponse()
             return Reply(answer.status, answer.read())
-        except (OSError, http.client.HTTPException, ValueError) as fault:
-            raise Fault(f"{self.url}{path}: {cause_of(fault)}", Exit.FAILED) from fault
-        finally:
-            connection.close()
 
     def connection(self) -> http.client.HTTPConnection:
         """A connection that isn't made yet."""

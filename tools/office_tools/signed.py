@@ -13,10 +13,10 @@ from typing import Sequence
 
 from office_tools import bags, processes
 from office_tools.accounts import service_at
-from office_tools.faults import Exit, Fault
+from office_tools.faults import Exit, Fault, ending
 from office_tools.files import read_bytes, write_whole
 from office_tools.mailing import is_held, mailed
-from office_tools.messages import ParagraphFault, label_of, paragraphs
+from office_tools.messages import label_of, paragraphs
 from office_tools.openpgp import is_one_message
 
 LONGEST = 1048576  # bytes of a signed message that are read
@@ -83,10 +83,8 @@ def limited() -> None:
 
 def look_at(found: Opened, office: str) -> None:
     """A text that is for another office is a `Fault`. Whether it is its key's sender's is for the office to say."""
-    try:
+    with ending(Exit.REFUSED):
         first = next(paragraphs(found.text), None)
-    except ParagraphFault as fault:
-        raise Fault(fault.cause, Exit.REFUSED) from fault
     named = first.value("Office") if first else None
     if named != office:
         raise Fault(f"it is for {named or 'no named office'}, and not for {office}", Exit.REFUSED)
@@ -127,8 +125,6 @@ def main(words: Sequence[str]) -> int:
         return Exit.REFUSED
     keep = asked.keep or asked.keys.resolve().parent / "signed"
     kept = os.path.join(keep, f"{found.sender}-{hashlib.sha256(found.text).hexdigest()}")
-    try:
+    with ending(Exit.FAILED):
         write_whole(kept, signed)
-    except Fault as fault:
-        raise Fault(fault.cause, Exit.FAILED) from fault
     return 0

@@ -19,7 +19,7 @@ from office_tools.apply.turn import Turn, counts, tell_alone
 from office_tools.control import raw_sections
 from office_tools.counts import count
 from office_tools.faults import Exit, Fault
-from office_tools.files import read_bytes, write_whole
+from office_tools.files import decoded, read_bytes, write_whole
 from office_tools.folders import locked
 from office_tools.look.judge import judge, read_known
 from office_tools.reports import Outcome
@@ -84,10 +84,7 @@ def testing_of(url: Optional[str], path: Optional[str]) -> reports.Testing:
     """What is in the office's testing."""
     if path is None:
         return service_at(url or DEFAULT_URL).testing()
-    try:
-        return reports.read_testing(read_bytes(path).decode(), path)
-    except UnicodeDecodeError as fault:
-        raise Fault(f"{path}: it is no text in UTF-8") from fault
+    return reports.read_testing(decoded(path, read_bytes(path)), path)
 
 
 def groups_of(service: Optional[Service], finished: int) -> Groups:

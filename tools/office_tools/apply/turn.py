@@ -8,7 +8,7 @@ from office_tools.apply.contents import Contents, Item, Target, check_taken, tar
 from office_tools.apply.holding import Evidence, Held, Holding, incomplete, without_source
 from office_tools.apply.managers import Manager
 from office_tools.apply.plans import Plan, lacking, plan_to
-from office_tools.faults import Exit, Fault
+from office_tools.faults import Exit, Fault, ending
 
 
 @dataclass(frozen=True)
@@ -84,10 +84,8 @@ class Turn:
     def again(self, work: Work) -> tuple[Work, Plan]:
         """The plan over what testing has now. What is refused now wasn't before: something else changed testing."""
         found = work.over(self.manager.testing())
-        try:
+        with ending(Exit.FAILED, "testing isn't published: "):
             return found, self.terms.plan(found.goal, found.have, found.origin)
-        except Fault as fault:
-            raise Fault(f"testing isn't published: {fault.cause}", Exit.FAILED) from fault
 
     def publish(self, have: Contents) -> None:
         """Publishes testing, if clients see something else."""

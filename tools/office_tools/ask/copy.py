@@ -5,7 +5,7 @@ from typing import Optional, Sequence
 
 from office_tools import bags, program, setups
 from office_tools.ask.answer import Answer
-from office_tools.faults import Exit, Fault
+from office_tools.faults import Exit, Fault, ending
 from office_tools.letters import letters
 from office_tools.senders import in_turn
 from office_tools.service import Service
@@ -29,11 +29,8 @@ class Copy:
 
     def check_setup(self) -> None:
         """A setup that can't be read, or that has other senders than the office, is a `Fault` of status 4."""
-        try:
+        with ending(Exit.FAILED, "no route answers this: it needs the program and the office's setup (--conf): "):
             setup = setups.read_setup(self.conf)
-        except Fault as fault:
-            raise Fault(f"no route answers this: it needs the program and the office's setup (--conf): {fault.cause}",
-                        Exit.FAILED) from fault
         if list(setup.senders) != list(self.service.kept()):
             raise Fault(f"{self.conf}: the office has other senders: {' '.join(self.service.kept())}", Exit.FAILED)
 

@@ -9,10 +9,10 @@ from office_tools.apply.command import manager_of, parser
 from office_tools.autopkgtests import command as autopkgtests
 from office_tools.bugs import command as bugs
 from office_tools.counts import count
-from office_tools.faults import Exit, Fault
+from office_tools.faults import Exit, Fault, ending
 from office_tools.files import read_bytes
 from office_tools.folders import cache_of
-from office_tools.messages import ParagraphFault, paragraphs
+from office_tools.messages import paragraphs
 from office_tools.service import DEFAULT_URL
 
 FIELDS = ("Url", "Setup", "State", "Pull", "Feed", "Bugs", "Tests", "Apply", "Look", "Propose", "Patience")
@@ -42,12 +42,10 @@ class Settings:
 
 def read_settings(path: str, more: dict[str, Sequence[str]], left_out: Sequence[str] = ()) -> Settings:
     """The settings that a file states; `more` has further words of steps, and `left_out` steps of this day."""
-    try:
-        found = list(paragraphs(read_bytes(path)))
-    except ParagraphFault as fault:
-        raise Fault(f"{path}: {fault.cause}", Exit.USAGE) from fault
-    except Fault as fault:
-        raise Fault(fault.cause, Exit.USAGE) from fault
+    with ending(Exit.USAGE):
+        text = read_bytes(path)
+    with ending(Exit.USAGE, f"{path}: "):
+        found = list(paragraphs(text))
     if len(found) != 1:
         raise Fault(f"{path}: it has {len(found)} paragraphs, and has to have one", Exit.USAGE)
     for entry in found[0].fields:

@@ -9,7 +9,7 @@ from dataclasses import dataclass, field
 from typing import Iterator, Mapping, Optional, Sequence
 
 from office_tools import bags
-from office_tools.faults import Exit, Fault, cause_of
+from office_tools.faults import Exit, Fault, naming
 from office_tools.feed import known
 from office_tools.feed.known import Known
 from office_tools.feed.told import NAME
@@ -137,14 +137,11 @@ class Folder:
 
     def add(self, texts: Sequence[bytes]) -> None:
         """Appends messages to those of the bag."""
-        try:
-            with open(self.bag, "ab") as file:
-                for text in texts:
-                    file.write(bags.framed(text))
-                file.flush()
-                os.fsync(file.fileno())
-        except OSError as fault:
-            raise Fault(f"{self.bag}: {cause_of(fault)}", Exit.FAILED) from fault
+        with naming(self.bag, Exit.FAILED), open(self.bag, "ab") as file:
+            for text in texts:
+                file.write(bags.framed(text))
+            file.flush()
+            os.fsync(file.fileno())
 
     def write(self, found: Known) -> None:
         """Writes down what is known of the bag."""

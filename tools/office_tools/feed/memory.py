@@ -7,7 +7,7 @@ from typing import Any
 
 from office_tools import days
 from office_tools.control import Changes, read_changes
-from office_tools.faults import Fault, cause_of
+from office_tools.faults import naming
 from office_tools.files import write_whole
 
 MEMORY = "memory.json"
@@ -55,10 +55,8 @@ class ChangesRead:
 
     def read(self, path: str) -> Changes:
         """What a file says. One that can't be read is read again the next time."""
-        try:
+        with naming(path):
             kept = os.stat(path)
-        except OSError as fault:
-            raise Fault(f"{path}: {cause_of(fault)}") from fault
         state = f"{kept.st_mtime_ns} {kept.st_size} {kept.st_ino}"
         part = self.before.get(path, {})
         if part.get("state") != state or "distribution" not in part:

@@ -6,7 +6,7 @@ from office_tools import bags, program
 from office_tools.bugs.changes import LISTED, changes, read_pairs
 from office_tools.bugs.kept import Book, bug_of
 from office_tools.bugs.lists import Names
-from office_tools.faults import Exit, Fault
+from office_tools.faults import Exit, ending
 from office_tools.feed.known import sent_in
 from office_tools.files import read_bytes
 from office_tools.from_britney import hints
@@ -63,10 +63,8 @@ class Office:
 def office_of(setup: str, path: str) -> Office:
     """The office that a bag makes."""
     bag = read_bytes(path)
-    try:
+    with ending(Exit.REFUSED, f"{path}: "):
         letters = hints.firsts(list(bags.messages_in(bag)))
-    except bags.BagFault as fault:
-        raise Fault(f"{path}: {fault.cause}", Exit.REFUSED) from fault
     return Office(path, bag, letters, testing_of(setup, bag))
 
 

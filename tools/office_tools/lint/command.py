@@ -7,7 +7,7 @@ from office_tools import bags
 from office_tools.accounts import service_at
 from office_tools.counts import count
 from office_tools.days import day, today
-from office_tools.faults import Exit, Fault
+from office_tools.faults import Exit, Fault, ending
 from office_tools.files import read_bytes
 from office_tools.lint.office import Office, ServiceOffice, StoreOffice
 from office_tools.lint.places import place_of
@@ -91,11 +91,9 @@ def texts_of(path: str) -> Iterator[Text]:
     if not bags.is_bag(data):
         yield Text(path, data, True)
         return
-    try:
+    with ending(Exit.REFUSED, f"{path}: "):
         for place, text in enumerate(bags.messages_in(data), 1):
             yield Text(f"{path}#{place}", text, False)
-    except bags.BagFault as fault:
-        raise Fault(f"{path}: {fault.cause}", Exit.REFUSED) from fault
 
 
 def parser() -> argparse.ArgumentParser:

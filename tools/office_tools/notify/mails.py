@@ -10,7 +10,7 @@ from email.headerregistry import Address
 from email.message import EmailMessage
 from typing import Callable, Optional, Sequence
 
-from office_tools.faults import Exit, Fault, cause_of
+from office_tools.faults import Exit, Fault, naming
 from office_tools.notify.moves import Move, Moves
 
 SECONDS = 300  # how long a mailer may take for one mail
@@ -63,7 +63,7 @@ def to_output(message: EmailMessage) -> None:
 def to_mbox(path: str) -> Way:
     """Adds mails to a file of the form mbox, which is locked meanwhile."""
     def add(message: EmailMessage) -> None:
-        try:
+        with naming(path, Exit.REFUSED, mailbox.Error):
             box = mailbox.mbox(path)
             box.lock()
             try:
@@ -72,8 +72,6 @@ def to_mbox(path: str) -> Way:
             finally:
                 box.unlock()
                 box.close()
-        except (OSError, mailbox.Error) as fault:
-            raise Fault(f"{path}: {cause_of(fault)}", Exit.REFUSED) from fault
     return add
 
 
@@ -81,10 +79,8 @@ def to_command(command: str) -> Way:
     """Hands mails to a command such as sendmail, on its standard input."""
     def send(message: EmailMessage) -> None:
         words = shlex.split(command)
-        try:
+        with naming(command, Exit.REFUSED, subprocess.TimeoutExpired):
             ran = subprocess.run(words, input=message.as_bytes(), timeout=SECONDS, check=False)
-        except (OSError, subprocess.TimeoutExpired) as fault:
-            raise Fault(f"{command}: {cause_of(fault)}", Exit.REFUSED) from fault
         if ran.returncode:
             raise Fault(f"{command}: status {ran.returncode}: the mail to {message['To']} isn't sent", Exit.REFUSED)
     return send
