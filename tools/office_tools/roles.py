@@ -3,7 +3,6 @@ from typing import Callable, Mapping
 
 from office_tools import messages
 from office_tools.letters import GREATEST
-from office_tools.mailing import verdict
 from office_tools.messages import Label, Role, Severity, Urgency
 from office_tools.service import Service
 from office_tools.setups import Setup
@@ -21,7 +20,7 @@ SENT_BY: Mapping[Role, Callable[[Label], bytes]] = {
 
 def has_role(service: Service, sender: str, role: Role) -> bool:
     """Whether a sender has a role: the office refuses what it may not send as `WrongRole`."""
-    return verdict(service, SENT_BY[role](Label(sender, GREATEST))) != "refused WrongRole"
+    return service.verdict(SENT_BY[role](Label(sender, GREATEST))) != "refused WrongRole"
 
 
 def sender_of(service: Service, role: Role) -> str:

@@ -12,12 +12,11 @@ from pathlib import Path
 from typing import Sequence
 
 from office_tools import bags, processes
-from office_tools.accounts import service_at
 from office_tools.faults import Exit, Fault, ending
 from office_tools.files import read_bytes, write_whole
-from office_tools.mailing import is_held, mailed
 from office_tools.messages import label_of, paragraphs
 from office_tools.openpgp import is_one_message
+from office_tools.service import is_held, service_at
 
 LONGEST = 1048576  # bytes of a signed message that are read
 
@@ -119,7 +118,7 @@ def main(words: Sequence[str]) -> int:
         raise Fault(f"it has more than {LONGEST} bytes", Exit.REFUSED)
     found = opened(signed, asked.keys)
     look_at(found, asked.office)
-    reply = mailed(service, found.text, found.sender)
+    reply = service.mailed(found.text, found.sender)
     print(reply)
     if not is_held(reply):
         return Exit.REFUSED

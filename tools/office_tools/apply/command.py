@@ -5,7 +5,6 @@ import os
 from typing import Optional, Sequence
 
 from office_tools import faults, reports
-from office_tools.accounts import service_at
 from office_tools.apply import heidi, marks
 from office_tools.apply.aptly import Aptly
 from office_tools.apply.brakes import Terms
@@ -23,7 +22,7 @@ from office_tools.files import decoded, read_bytes, write_whole
 from office_tools.folders import locked
 from office_tools.look.judge import judge, read_known
 from office_tools.reports import Outcome
-from office_tools.service import DEFAULT_URL, Service
+from office_tools.service import DEFAULT_URL, Service, service_at
 
 NAME = "office-apply"
 PUBLIC = "."

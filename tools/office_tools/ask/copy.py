@@ -41,9 +41,9 @@ class Copy:
     def ask_store(self, words: Sequence[str]) -> Answer:
         """What a command prints that needs a store: a temporary one, of all mail."""
         with tempfile.TemporaryDirectory() as folder:
-            over = ["--conf", self.conf, "--db", os.path.join(folder, "store.db")]
-            program.output(["replay", *over], self.bag())
-            return answer_of([*words, *over])
+            store = program.Store(self.conf, os.path.join(folder, "store.db"))
+            program.output(["replay", *store.words], self.bag())
+            return answer_of([*words, *store.words])
 
 
 def answer_of(words: Sequence[str], given: bytes = b"") -> Answer:

@@ -5,13 +5,12 @@ import functools
 from typing import Mapping, Optional, Sequence
 
 from office_tools import days, faults
-from office_tools.accounts import service_at
 from office_tools.day.settings import read_settings
 from office_tools.day.standing import Line, memory, standing, waiting
 from office_tools.day.steps import Ran, Steps
 from office_tools.faults import Exit, Fault
 from office_tools.folders import locked, made
-from office_tools.service import Service
+from office_tools.service import Service, service_at
 
 NAME = "office-day"
 CONF = "/etc/office/day.conf"

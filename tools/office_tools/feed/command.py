@@ -7,7 +7,6 @@ from dataclasses import dataclass, replace
 from typing import Mapping, Optional, Sequence
 
 from office_tools import days
-from office_tools.accounts import service_at
 from office_tools.bags import bag_of
 from office_tools.faults import Exit, Fault
 from office_tools.feed import archive, brakes, mailbox, restoring
@@ -28,7 +27,7 @@ from office_tools.from_packages.sources import Arrival, Arrivals, read_arrivals
 from office_tools.from_packages.told import Weight, tell
 from office_tools.messages import Urgency, numbered
 from office_tools.senders import BUILDS, HINTS, UPLOADS, runs_sender
-from office_tools.service import Kept, Service
+from office_tools.service import Kept, Service, service_at
 
 OWN = (UPLOADS, BUILDS, HINTS)
 

@@ -6,9 +6,8 @@ from office_tools.faults import Exit, Fault
 from office_tools.feed.mailbox import Folder
 from office_tools.files import read_bytes
 from office_tools.from_packages.told import tell
-from office_tools.mailing import is_held, mailed
 from office_tools.messages import label_of
-from office_tools.service import Service
+from office_tools.service import Service, is_held
 
 
 def restore(service: Service, folder: str) -> int:
@@ -38,7 +37,7 @@ def post(service: Service, texts: dict[str, dict[int, bytes]], last: dict[str, i
     count, refused = 0, 0
     for sender, own in texts.items():
         for number in sorted(number for number in own if number > last[sender]):
-            reply = mailed(service, own[number])
+            reply = service.mailed(own[number])
             if is_held(reply):
                 count += 1
             else:

@@ -8,9 +8,8 @@ from office_tools import messages
 from office_tools.faults import Exit, Fault
 from office_tools.feed.mailbox import Outgoing
 from office_tools.from_packages.told import Weight, tell
-from office_tools.mailing import is_held, mailed, verdict
 from office_tools.messages import Kind, Label, kind_of, label_of, paragraphs
-from office_tools.service import Kept, Service
+from office_tools.service import Kept, Service, is_held
 
 NUMBER = re.compile(rb"^Number: [0-9]+$", re.MULTILINE)
 OTHER_TEXT = "refused OtherText"
@@ -54,7 +53,7 @@ class Sending:
         held = 0
         while waiting:
             text = renumbered(waiting.pop(), less)
-            reply = mailed(self.service, text)
+            reply = self.service.mailed(text)
             if not is_held(reply):
                 self.check(text, reply)
                 mended = self.without_refused(text)
@@ -82,12 +81,12 @@ class Sending:
         first, *others = paragraphs(text)
         label = label_of(text)
         if kind_of(first) is not Kind.BUILD or label is None or len(others) == 1:
-            tell(f"{subject(text)}: left out: the office answers: {verdict(self.service, text)}", Weight.STANDS)
+            tell(f"{subject(text)}: left out: the office answers: {self.service.verdict(text)}", Weight.STANDS)
             return None
         good: list[bytes] = []
         for part in text.split(b"\n\n")[1:]:
             alone = messages.build(label, [part.rstrip(b"\n") + b"\n"])
-            reply = verdict(self.service, alone)
+            reply = self.service.verdict(alone)
             if is_held(reply):
                 good.append(part.rstrip(b"\n") + b"\n")
             else:
@@ -129,7 +128,7 @@ def subject(text: bytes) -> str:
 def check_architectures(service: Service, sender: str, kept: Mapping[str, Kept], names: Sequence[str]) -> None:
     """Refuses indexes of an architecture that isn't in the office's setup: the office is asked about a drop there."""
     for name in names:
-        reply = verdict(service, messages.drop(Label(sender, kept[sender].unbroken + 1), "aa", name, "0"))
+        reply = service.verdict(messages.drop(Label(sender, kept[sender].unbroken + 1), "aa", name, "0"))
         if reply == "refused UnknownArchitecture":
             raise Fault(f"the indexes have packages of {name}: the office has another setup than the archive",
                         Exit.REFUSED)

@@ -4,7 +4,6 @@ import os
 from typing import Sequence
 
 from office_tools import days
-from office_tools.accounts import service_at
 from office_tools.adopt.command import letters
 from office_tools.adopt.rows import adoptable
 from office_tools.bags import bag_of
@@ -15,7 +14,7 @@ from office_tools.from_britney.folder import NAME, Folder, tell
 from office_tools.from_britney.mailbag import news, office_of, read_suite
 from office_tools.from_packages import told
 from office_tools.from_packages.mail import MOST_SPARES, spares, write_setup
-from office_tools.service import DEFAULT_URL
+from office_tools.service import DEFAULT_URL, service_at
 
 SHOWN = 10
 

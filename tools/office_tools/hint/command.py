@@ -5,13 +5,12 @@ import re
 import sys
 from typing import Iterator, Optional, Sequence
 
-from office_tools.accounts import service_at
 from office_tools.days import day, today
 from office_tools.faults import Exit, Fault
 from office_tools.hint import back
 from office_tools.hint.letters import Letter, Signature, hint
 from office_tools.hint.team import TURNS, Team
-from office_tools.service import DEFAULT_URL
+from office_tools.service import DEFAULT_URL, service_at
 from office_tools.trials import Trial, trial
 
 SECONDS = 600.0

@@ -9,9 +9,8 @@ from office_tools.lint.office import ServiceOffice
 from office_tools.lint.places import place_of
 from office_tools.lint.slips import slips
 from office_tools.lint.state import State
-from office_tools.mailing import is_held, mailed, verdict
 from office_tools.messages import Label, Role, paragraphs
-from office_tools.service import Service
+from office_tools.service import Service, is_held
 
 TURNS = 20  # how often the next number is taken, if others mail at the same time
 FAR = 30  # days back from which an upload's day is odd; no hint has one
@@ -39,7 +38,7 @@ class Team:
         label = self.next_label()
         for letter in letters:
             text = letter.text(label)
-            told = verdict(self.service, text)
+            told = self.service.verdict(text)
             if not is_held(told):
                 return f"{told}: {place_of(self.office, text, told).cause}"
         return None
@@ -71,7 +70,7 @@ class Team:
         It isn't if another message was mailed under that number meanwhile. Any other refusal is a `Fault`.
         """
         label = self.next_label()
-        reply = mailed(self.service, letter.text(label))
+        reply = self.service.mailed(letter.text(label))
         if is_held(reply):
             self.tell(reply)
             return True

@@ -4,7 +4,6 @@ from dataclasses import dataclass
 from typing import Iterator, Optional, Sequence
 
 from office_tools import bags
-from office_tools.accounts import service_at
 from office_tools.counts import count
 from office_tools.days import day, today
 from office_tools.faults import Exit, Fault, ending
@@ -14,9 +13,8 @@ from office_tools.lint.places import place_of
 from office_tools.lint.look import Days, Look, Warned
 from office_tools.lint.slips import slips
 from office_tools.lint.state import State
-from office_tools.mailing import is_held, mailed
 from office_tools.messages import Kind, kind_of, label_of, paragraphs
-from office_tools.service import DEFAULT_URL, Service
+from office_tools.service import DEFAULT_URL, Service, is_held, service_at
 from office_tools.trials import trial
 
 NAME = "office-lint"
@@ -77,7 +75,7 @@ class Lint:
         if self.sender.service is not None:
             if warned and not self.sender.is_forced:
                 return status
-            reply = mailed(self.sender.service, text.text)
+            reply = self.sender.service.mailed(text.text)
             print(f"{text.name}: {reply}", flush=True)
             if not is_held(reply):
                 return Exit.REFUSED

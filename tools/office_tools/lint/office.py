@@ -10,7 +10,6 @@ from office_tools import program, setups
 from office_tools.faults import Exit, Fault
 from office_tools.letters import letters
 from office_tools.lint.state import Kept, State
-from office_tools.mailing import verdict
 from office_tools.messages import Label, label_of
 from office_tools.reports import Testing
 from office_tools.roles import setup_of
@@ -63,11 +62,11 @@ class ServiceOffice(Office):
 
     def verdicts(self, texts: Sequence[bytes]) -> Iterator[str]:
         """Each is looked at in its turn, so after what was mailed before."""
-        return (verdict(self.service, text) for text in texts)
+        return (self.service.verdict(text) for text in texts)
 
     def judged(self, texts: Sequence[bytes]) -> Sequence[str]:
         """A message whose number has another text is one."""
-        return [verdict(self.service, text) for text in texts]
+        return [self.service.verdict(text) for text in texts]
 
     def state(self) -> State:
         """The state, by what the office says of unstable, hints, testing and orders."""
@@ -96,9 +95,9 @@ class StoreOffice(Office):
 
     def __init__(self, conf: str, store: Optional[str]) -> None:
         self.conf = conf
-        self.store = store
+        self.store = program.Store(conf, store) if store else None
         self.setup = setups.read_setup(conf)
-        self.mail = StoreMail(program.exported(conf, store) if store else ())
+        self.mail = StoreMail(self.store.exported() if self.store else ())
 
     def verdicts(self, texts: Sequence[bytes]) -> Iterator[str]:
         """The replies of a replay of these texts, each after what is kept under its number."""
@@ -120,6 +119,5 @@ class StoreOffice(Office):
         """The state, by what the program says of the store."""
         if self.store is None:
             return State(self.setup, dict.fromkeys(self.setup.senders, Count(0, 0, 0)), Testing(0, {}, ()), self.mail)
-        counts = program.kept(self.conf, self.store)
-        return State(self.setup, counts, program.testing(self.conf, self.store), self.mail).told(
-            program.unstable(self.conf, self.store), program.hints(self.conf, self.store))
+        return State(self.setup, self.store.kept(), self.store.testing(), self.mail).told(
+            self.store.unstable(), self.store.hints())

@@ -12,6 +12,7 @@ from office_tools.faults import Exit, Fault
 from office_tools.files import read_bytes, write_whole
 from office_tools.letters import letters
 from office_tools.messages import Label
+from office_tools.program import Store
 from office_tools.service import Kept, Service
 
 STORE, ENDS = "store.db", "ends"
@@ -28,13 +29,9 @@ class Copy:
     folder: str
 
     @property
-    def store(self) -> str:
-        """The store's file."""
-        return os.path.join(self.folder, STORE)
-
-    def words(self, store: str) -> Sequence[str]:
-        """The options that name the setup and a store."""
-        return ["--conf", self.setup, "--db", store]
+    def store(self) -> Store:
+        """The store."""
+        return Store(self.setup, os.path.join(self.folder, STORE))
 
     def follow(self) -> None:
         """Brings over the mail that the office keeps. A copy that isn't the office's is made from nothing.
@@ -55,7 +52,7 @@ class Copy:
 
     def clear(self) -> None:
         """Removes the copy."""
-        for path in (*(self.store + part for part in PARTS), os.path.join(self.folder, ENDS)):
+        for path in (*(self.store.path + part for part in PARTS), os.path.join(self.folder, ENDS)):
             if os.path.exists(path):
                 os.unlink(path)
 
@@ -69,7 +66,7 @@ class Copy:
 
     def own(self) -> Mapping[str, Kept]:
         """What the copy keeps of each sender."""
-        return program.kept(self.setup, self.store) if os.path.exists(self.store) else {}
+        return self.store.kept() if os.path.exists(self.store.path) else {}
 
     def bring(self) -> None:
         """Brings over the mail after what the copy keeps without a gap, and writes down where it ends."""
@@ -78,32 +75,28 @@ class Copy:
             for label, text in letters(self.service, sender, own[sender].unbroken + 1 if sender in own else 1):
                 lacking.append(bags.framed(text))
                 ends[sender] = label.number, digest(text)
-        program.output(["replay", *self.words(self.store)], b"".join(lacking))
+        program.output(["replay", *self.store.words], b"".join(lacking))
         path = os.path.join(self.folder, ENDS)
         known = json.loads(read_bytes(path)) if os.path.exists(path) else {}
         write_whole(path, json.dumps({**known, **ends}).encode())
 
     def differs(self) -> bool:
         """Whether the copy has another testing than the office after the same runs."""
-        theirs, own = self.service.testing(), self.testing()
+        theirs, own = self.service.testing(), self.store.testing()
         return theirs.finished == own.finished and theirs != own
-
-    def testing(self) -> reports.Testing:
-        """What is in testing in the copy."""
-        return program.testing(self.setup, self.store)
 
     def order(self, day: str) -> bytes:
         """The text of the next order over the mail of the copy."""
-        return program.output(["order", "--day", day, *self.words(self.store)])
+        return program.output(["order", "--day", day, *self.store.words])
 
     def tried(self, texts: Sequence[bytes], run: Label) -> reports.Testing:
         """The testing that the run of this order leaves after these messages, the last one being the order."""
         with tempfile.TemporaryDirectory(dir=self.folder, prefix=TRIAL) as folder:
-            store = os.path.join(folder, STORE)
+            store = Store(self.setup, os.path.join(folder, STORE))
             for part in PARTS:
-                if os.path.exists(self.store + part):
-                    shutil.copyfile(self.store + part, store + part)
-            told = program.output(["replay", *self.words(store)], bags.bag_of(texts)).decode()
+                if os.path.exists(self.store.path + part):
+                    shutil.copyfile(self.store.path + part, store.path + part)
+            told = program.output(["replay", *store.words], bags.bag_of(texts)).decode()
         refused = next((line for line in told.splitlines()[:len(texts)] if not line.startswith("held ")), None)
         if refused is not None:
             raise Fault(f"the copy of the office's store answers {refused}: somebody else sends mail: run it again",

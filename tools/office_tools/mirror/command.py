@@ -3,11 +3,10 @@ import argparse
 import sys
 from typing import Optional, Sequence
 
-from office_tools.accounts import service_at
 from office_tools.faults import Exit, Fault, tell
 from office_tools.mirror import held as memory
 from office_tools.mirror.turn import Source, Turn
-from office_tools.service import Service
+from office_tools.service import Service, service_at
 
 NAME = "office-mirror"
 BAG = "-"

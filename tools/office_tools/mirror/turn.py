@@ -5,11 +5,10 @@ from typing import BinaryIO, Callable
 from office_tools import bags
 from office_tools.faults import Exit, Fault
 from office_tools.letters import Numbers, letters
-from office_tools.mailing import is_held, mailed
 from office_tools.messages import Label
 from office_tools.mirror.held import Held
 from office_tools.senders import in_turn
-from office_tools.service import Kept, Service
+from office_tools.service import Kept, Service, is_held
 
 SAVED_EACH = 100  # messages after which it is remembered what is held
 
@@ -58,7 +57,7 @@ class Turn:
 
     def post(self, source: Source, target: Service, label: Label, text: bytes) -> bool:
         """Posts one message: whether the other office holds it. If it doesn't, that is printed."""
-        reply = mailed(target, text)
+        reply = target.mailed(text)
         self.sent += 1
         if is_held(reply):
             return True

@@ -3,13 +3,12 @@ import argparse
 from email.headerregistry import Address
 from typing import Collection, Iterator, Optional, Sequence
 
-from office_tools.accounts import service_at
 from office_tools.counts import number
 from office_tools.faults import Exit, Fault, tell
 from office_tools.notify import mails, told
 from office_tools.notify.maintainers import Maintainers, address_of, read_sources
 from office_tools.notify.moves import Move, Moves, moves_of
-from office_tools.service import DEFAULT_URL, Service
+from office_tools.service import DEFAULT_URL, Service, service_at
 
 NAME = "office-notify"
 SENDMAIL = "/usr/sbin/sendmail -oi -t"

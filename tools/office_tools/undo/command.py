@@ -77,14 +77,14 @@ def main(asked: argparse.Namespace) -> int:
     if not os.path.exists(store):
         raise Fault(f"{asked.db}: there is no such store", Exit.USAGE)
     new = store + ".undone"
-    letters = read(program.exported(asked.conf, store))
+    letters = read(program.Store(asked.conf, store).exported())
     state = state_of(store)
     gone = list(chosen(letters, asked.undo))
     show(gone)
     try:
         discarded(new)
         before = replayed(["--conf", asked.conf], [letter.text for letter in letters])
-        after = replayed(["--conf", asked.conf, "--db", new], list(without(letters, gone)))
+        after = replayed(program.Store(asked.conf, new).words, list(without(letters, gone)))
         check(before, after)
         for line in differences(before, after):
             print(line)
