@@ -38,7 +38,7 @@ def lifted(binaries: Sequence[Binary], current: Mapping[str, str]) -> tuple[Sequ
     moved: list[Binary] = []
     for binary in binaries:
         version = current[binary.source]
-        if versions.compare(version, binary.source_version) != 0:
+        if not versions.same(version, binary.source_version):
             moved.append(binary)
             fields = {**binary.fields, "Source": f"{binary.source} ({version})"}
             binary = dataclasses.replace(binary, source_version=version, fields=fields)

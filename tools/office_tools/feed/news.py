@@ -147,7 +147,7 @@ def first_arrival(box: Mailbox, name: str, version: str) -> Optional[Arrival]:
     for text in box.texts(f"Source: {name}\n".encode()):
         first = first_of(text)
         if kind_of(first) is Kind.UPLOAD and first.value("Source") == name and \
-                is_same(marks.source_version(first.value("Version") or ""), version):
+                versions.same(marks.source_version(first.value("Version") or ""), version):
             word = (first.value("Urgency") or "").split(" ")[0].lower()
             if word in [urgency.value for urgency in Urgency]:
                 return Arrival(Urgency(word), first.value("Day") or "")
@@ -160,7 +160,7 @@ def packages(archive: Archive, retold: Retold, others: set[Key]) -> Iterator[Bin
     for binary in archive.binaries:
         key, source = binary.key, retold.sources.get(binary.source)
         last = known.versions.get(binary.source, "")
-        if source is None and marks.is_back(last) and is_same(marks.source_version(last), binary.source_version):
+        if source is None and marks.is_back(last) and versions.same(marks.source_version(last), binary.source_version):
             source = last
         is_new = key in archive.due.tells and known.is_above(key, binary.version)
         if key not in others and (key in retold.packages or is_new):
@@ -189,7 +189,7 @@ def removal_hints(sources: Sequence[str], testing: reports.Testing, removals: Se
     """A hint for each of these sources, in this order, unless one in force takes it out."""
     for source in sources:
         version = testing.sources[source]
-        if not any(removal.source == source and is_same(removal.version, version) for removal in removals):
+        if not any(removal.source == source and versions.same(removal.version, version) for removal in removals):
             yield removal_of(source, version)
 
 
@@ -237,7 +237,7 @@ def taken_back(archive: Archive, removals: Sequence[Removal]) -> Iterator[int]:
     """This command's hints for sources that have left testing, are back, or are sent without their needs first."""
     for removal in removals:
         held = archive.testing.sources.get(removal.source)
-        is_done = held is None or not is_same(held, removal.version)
+        is_done = not versions.same(held, removal.version)
         is_over = removal.source in archive.sources or leaves_later(archive.known, removal.source, removal.version)
         if removal.is_own and (is_done or is_over):
             yield removal.number
@@ -257,9 +257,4 @@ def spent(known: Known, hints: reports.Hints) -> Iterator[int]:
 def leaves_later(known: Known, source: str, version: str) -> bool:
     """Whether a source that is gone has to move to a made-up version before it leaves testing."""
     last = known.versions.get(source, "")
-    return last.endswith(marks.LEAVING) and not is_same(last, version)
-
-
-def is_same(left: str, right: str) -> bool:
-    """Whether two versions are the same."""
-    return versions.compare(left, right) == 0
+    return last.endswith(marks.LEAVING) and not versions.same(last, version)

@@ -130,7 +130,7 @@ def by_source(rows: Sequence[Row], sources_of: Mapping[str, str]) -> Mapping[str
 def differing(name: str, britney: Optional[str], office: Optional[str],
               only: tuple[Mapping[str, Sequence[Row]], Mapping[str, Sequence[Row]]]) -> Optional[Differing]:
     """How both differ on a source, if they do."""
-    is_same = britney is not None and office is not None and versions.compare(britney, office) == 0
+    is_same = versions.same(britney, office)
     left, right = only[0].get(name, ()), only[1].get(name, ())
     if is_same and not left and not right:
         return None

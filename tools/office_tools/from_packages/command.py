@@ -56,7 +56,7 @@ def main(given: Sequence[str]) -> int:
         known = {upload: replace(arrival, day=arrived.day) for upload, arrival in known.items()}
     if not asked.with_uninstallable:
         current = [binary for binary in index.binaries
-                   if versions.compare(binary.source_version, index.sources[binary.source]) == 0]
+                   if versions.same(binary.source_version, index.sources[binary.source])]
         gone = Suites(current, index.architectures).left_out(sent)
         index = replace(index, binaries=[binary for binary in index.binaries if binary.key not in gone])
     news = mail.news(index, sent, mail.Uploading(known, arrived, index.maintainers))

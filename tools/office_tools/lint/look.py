@@ -1,9 +1,8 @@
 """A message that the office would take, what it is judged by, and a warning of it."""
 import datetime
 from dataclasses import dataclass
-from typing import Callable, Iterator, Optional, Sequence
+from typing import Callable, Iterator, Sequence
 
-from office_tools import versions
 from office_tools.lint.state import State
 from office_tools.messages import Field, Kind, Label, Paragraph
 
@@ -59,8 +58,3 @@ class Look:
 
 
 Check = Callable[[Look], Iterator[Warned]]
-
-
-def same(version: str, other: Optional[str]) -> bool:
-    """Whether two versions are the same version; none is the same as no version."""
-    return other is not None and versions.compare(version, other) == 0
