@@ -9,11 +9,10 @@ import unittest.mock
 from helpers import needs_plan, tool
 from office_tools import reports
 from office_tools.apply import marks
-from office_tools.apply.brakes import Terms
 from office_tools.apply.command import groups_of
 from office_tools.apply.contents import Contents, Indexes, Row, Source, target, wanted
 from office_tools.apply.holding import Evidence
-from office_tools.apply.plans import ask, lacking, listed, plan_to
+from office_tools.apply.plans import Terms, ask, lacking, listed, plan_to
 from office_tools.apply.reprepro import Reprepro
 from office_tools.apply.turn import Turn
 from office_tools.faults import Fault

@@ -7,10 +7,9 @@ from typing import Sequence
 
 from office_tools import bags, days, faults, messages, program
 from office_tools.adopt.rows import adoptable
-from office_tools.apply.brakes import named
 from office_tools.apply.contents import Contents, Indexes, target, wanted
 from office_tools.apply.holding import without_source
-from office_tools.apply.plans import plan_to
+from office_tools.apply.plans import named, plan_to
 from office_tools.apply.published import read_indexes
 from office_tools.apply.turn import tell_alone
 from office_tools.faults import Fault

@@ -7,19 +7,17 @@ from typing import Optional, Sequence
 from office_tools import faults, reports
 from office_tools.apply import heidi, marks
 from office_tools.apply.aptly import Aptly
-from office_tools.apply.brakes import Terms
 from office_tools.apply.contents import ALL, Contents, Indexes, Target, check_taken, target, wanted
 from office_tools.apply.holding import Evidence, Groups
 from office_tools.apply.managers import Manager
-from office_tools.apply.plans import plan_to
+from office_tools.apply.plans import Terms, plan_to
 from office_tools.apply.published import is_whole, packages_of, read_folder, read_indexes, read_release
 from office_tools.apply.reprepro import Reprepro
 from office_tools.apply.turn import Turn, counts, tell_alone
 from office_tools.control import raw_sections
 from office_tools.counts import count
 from office_tools.faults import Exit, Fault
-from office_tools.files import decoded, read_bytes, write_whole
-from office_tools.folders import locked
+from office_tools.files import decoded, locked, read_bytes, write_whole
 from office_tools.look.judge import judge, read_known
 from office_tools.reports import Outcome
 from office_tools.service import DEFAULT_URL, Service, service_at

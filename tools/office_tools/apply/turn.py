@@ -3,11 +3,10 @@ from dataclasses import dataclass, field
 from typing import Callable, Iterator, Mapping, Sequence
 
 from office_tools import reports
-from office_tools.apply.brakes import Terms, named
 from office_tools.apply.contents import Contents, Item, Target, check_taken, target, wanted
 from office_tools.apply.holding import Evidence, Held, Holding, incomplete, without_source
 from office_tools.apply.managers import Manager
-from office_tools.apply.plans import Plan, lacking, plan_to
+from office_tools.apply.plans import Plan, Terms, lacking, named, plan_to
 from office_tools.faults import Exit, Fault, ending
 
 

@@ -4,8 +4,7 @@ import re
 import sys
 from typing import Callable, Mapping, Sequence
 
-from office_tools.ask.answer import Answer
-from office_tools.ask.copy import Copy
+from office_tools.ask.copy import Answer, Copy
 from office_tools.ask.questions import Next, Questions, path_of
 from office_tools.days import day
 from office_tools.service import DEFAULT_URL, service_at

@@ -1,14 +1,23 @@
 """A copy of a running office: the questions that no route answers are put to the program over all mail it keeps."""
 import os
 import tempfile
+from dataclasses import dataclass
 from typing import Optional, Sequence
 
 from office_tools import bags, program, setups
-from office_tools.ask.answer import Answer
 from office_tools.faults import Exit, Fault, ending
 from office_tools.letters import letters
 from office_tools.senders import in_turn
 from office_tools.service import Service
+
+
+@dataclass(frozen=True)
+class Answer:
+    """What a command prints, and its status: the bytes for standard output, and lines for standard error."""
+
+    text: bytes
+    status: int = 0
+    told: str = ""
 
 
 class Copy:

@@ -9,7 +9,7 @@ from office_tools.day.settings import read_settings
 from office_tools.day.standing import Line, memory, standing, waiting
 from office_tools.day.steps import Ran, Steps
 from office_tools.faults import Exit, Fault
-from office_tools.folders import locked, made
+from office_tools.files import locked, made
 from office_tools.service import Service, service_at
 
 NAME = "office-day"

@@ -10,8 +10,7 @@ from office_tools.autopkgtests import command as autopkgtests
 from office_tools.bugs import command as bugs
 from office_tools.counts import count
 from office_tools.faults import Exit, Fault, ending
-from office_tools.files import read_bytes
-from office_tools.folders import cache_of
+from office_tools.files import cache_of, read_bytes
 from office_tools.messages import paragraphs
 from office_tools.service import DEFAULT_URL
 

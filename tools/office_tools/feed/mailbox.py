@@ -13,8 +13,7 @@ from office_tools.faults import Exit, Fault, naming
 from office_tools.feed import known
 from office_tools.feed.known import Known
 from office_tools.feed.told import NAME
-from office_tools.files import read_bytes, write_whole
-from office_tools.folders import cache_of, locked, made
+from office_tools.files import cache_of, locked, made, read_bytes, write_whole
 from office_tools.from_packages.told import Weight, tell
 from office_tools.letters import letters
 from office_tools.messages import label_of

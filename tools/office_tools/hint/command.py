@@ -8,8 +8,7 @@ from typing import Iterator, Optional, Sequence
 from office_tools.days import day, today
 from office_tools.faults import Exit, Fault
 from office_tools.hint import back
-from office_tools.hint.letters import Letter, Signature, hint
-from office_tools.hint.team import TURNS, Team
+from office_tools.hint.team import TURNS, Letter, Signature, Team, hint
 from office_tools.service import DEFAULT_URL, service_at
 from office_tools.trials import Trial, trial
 

@@ -9,7 +9,7 @@ from office_tools import days, faults
 from office_tools.apply.published import packages_of
 from office_tools.bags import bag_of
 from office_tools.faults import Exit, Fault
-from office_tools.folders import cache_of, locked, made
+from office_tools.files import cache_of, locked, made
 from office_tools.look import looking
 from office_tools.look.blame import Eye
 from office_tools.look.copy import Copy

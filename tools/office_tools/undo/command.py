@@ -9,8 +9,7 @@ from typing import Iterator, Sequence
 from office_tools import bags, faults, program
 from office_tools.faults import Exit, Fault
 from office_tools.feed.mailbox import BAG
-from office_tools.files import read_bytes
-from office_tools.folders import cache_of
+from office_tools.files import cache_of, read_bytes
 from office_tools.service import DEFAULT_URL, Service
 from office_tools.undo.exchange import Locked, discarded, exchange, state_of
 from office_tools.undo.outcome import check, differences, replayed, summary
