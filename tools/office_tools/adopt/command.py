@@ -16,8 +16,7 @@ from office_tools.faults import Fault
 from office_tools.feed.known import LOW_DAYS, Known
 from office_tools.files import write_whole
 from office_tools.from_packages import mail, told
-from office_tools.from_packages.index import Index, read_index
-from office_tools.from_packages.sources import Arrival
+from office_tools.from_packages.sources import Arrival, Index, read_index
 from office_tools.messages import Urgency, numbered
 from office_tools.senders import HINTS
 

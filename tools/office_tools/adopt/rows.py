@@ -5,7 +5,7 @@ from typing import Mapping, Sequence
 
 from office_tools import relations, versions
 from office_tools.from_packages.binaries import Binary, Key
-from office_tools.from_packages.index import Index
+from office_tools.from_packages.sources import Index
 from office_tools.from_packages.suites import Suite, Suites
 from office_tools.from_packages.told import tell
 from office_tools.relations import Clause

@@ -10,7 +10,7 @@ from office_tools.apply.aptly import Aptly
 from office_tools.apply.contents import ALL, Contents, Indexes, Target, check_taken, target, wanted
 from office_tools.apply.holding import Evidence, Groups
 from office_tools.apply.managers import Manager
-from office_tools.apply.plans import Terms, plan_to
+from office_tools.apply.plans import Plan, Terms, plan_to
 from office_tools.apply.published import is_whole, packages_of, read_folder, read_indexes, read_release
 from office_tools.apply.reprepro import Reprepro
 from office_tools.apply.turn import Turn, counts, tell_alone
@@ -119,13 +119,13 @@ def to_heidi(testing: reports.Testing, path: str, published: Optional[Contents],
     if published is not None and not published.sources:
         raise Fault("there is no file Sources: what is left alone would leave the suite", Exit.REFUSED)
     due = goal.contents
-    come, go = due.without(before), before.without(due)
-    is_same = come.is_empty and go.is_empty and os.path.exists(path)
+    found = Plan(due.without(before), before.without(due))
+    is_same = found.is_empty and os.path.exists(path)
     if not is_dry and not is_same:
         write_whole(path, heidi.written(due))
-    for line in (*(f"came: {line}" for line in come.lines()), *(f"went: {line}" for line in go.lines())):
+    for line in found.lines("came", "went"):
         print(line)
-    print(f"testing {testing.finished}: {counts(due)}; came {counts(come)}; went {counts(go)}")
+    print(f"testing {testing.finished}: {counts(due)}; came {counts(found.come)}; went {counts(found.go)}")
     return int(is_dry and not is_same)
 
 

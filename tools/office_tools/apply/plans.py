@@ -36,10 +36,10 @@ class Plan:
         """Whether the suite is what it is to be."""
         return self.come.is_empty and self.go.is_empty
 
-    def lines(self) -> Iterator[str]:
+    def lines(self, come: str = "missing", go: str = "too much") -> Iterator[str]:
         """A line for each source and each row that differs."""
-        yield from ("missing: " + line for line in self.come.lines())
-        yield from ("too much: " + line for line in self.go.lines())
+        yield from (f"{come}: {line}" for line in self.come.lines())
+        yield from (f"{go}: {line}" for line in self.go.lines())
 
 
 @dataclass(frozen=True)

@@ -16,7 +16,7 @@ from office_tools.deciding import SOURCE
 from office_tools.feed.known import Known
 from office_tools.from_packages.binaries import Binary, Key
 from office_tools.from_packages.due import Due
-from office_tools.from_packages.index import Index
+from office_tools.from_packages.sources import Index
 from office_tools.from_packages.told import Weight, tell
 
 

@@ -21,9 +21,8 @@ from office_tools.feed.sending import Sending, check_architectures, restore
 from office_tools.feed.told import NAME, Lines
 from office_tools.files import write_whole
 from office_tools.from_packages.due import Lists, lists_of
-from office_tools.from_packages.index import Index, read_index
 from office_tools.from_packages.mail import proposal
-from office_tools.from_packages.sources import Arrival, Arrivals, read_arrivals
+from office_tools.from_packages.sources import Arrival, Arrivals, Index, read_arrivals, read_index
 from office_tools.from_packages.told import Weight, tell
 from office_tools.messages import Urgency, numbered
 from office_tools.senders import BUILDS, HINTS, UPLOADS, runs_sender
@@ -194,7 +193,7 @@ class Turn:
         found, gone = news(there, feed.box, self.service.hints(), ways)
         brakes.Gone(gone, there).check(feed.box, asked.gone)
         if asked.dry_run:
-            sys.stdout.buffer.write(found.bag())
+            sys.stdout.buffer.write(bag_of(found.texts))
             tell(found.summary(), Weight.NOTE)
             return int(bool(found.texts))
         self.send(feed, found, unstable)

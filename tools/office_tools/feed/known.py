@@ -77,6 +77,13 @@ class Known:
         """The first paragraphs of the release team's messages, by number."""
         return [(number, next(paragraphs(text.encode()))) for number, text in sorted(self.hints.items())]
 
+    def standing_hints(self) -> Sequence[tuple[int, Paragraph]]:
+        """The first paragraphs of the hints that no message takes back, by number."""
+        letters = self.letters()
+        cancelled = {int(first.value("Cancels") or 0) for _, first in letters if kind_of(first) is Kind.UNHINT}
+        return [(number, first) for number, first in letters
+                if kind_of(first) is Kind.HINT and number not in cancelled]
+
     def take(self, label: Label, text: bytes) -> None:
         """Takes the next message of a sender on. A text that no office keeps is a `Fault` or a `ValueError`."""
         first, *others = paragraphs(text)

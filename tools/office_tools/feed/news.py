@@ -8,7 +8,6 @@ from typing import Iterator, Mapping, Optional, Sequence
 
 from office_tools import days, messages, reports, versions
 from office_tools.apply import marks
-from office_tools.bags import bag_of
 from office_tools.deciding import SOURCE
 from office_tools.faults import Exit, Fault
 from office_tools.feed.back import Archive, Retold, came_back, without_strange
@@ -19,9 +18,8 @@ from office_tools.feed.rebuilds import Rebuilds, rebuilds
 from office_tools.feed.smooth import left_behind, stay
 from office_tools.from_packages import mail
 from office_tools.from_packages.binaries import Binary, Key
-from office_tools.from_packages.index import Index
 from office_tools.from_packages.mail import PROPOSED
-from office_tools.from_packages.sources import Arrival, Arrivals
+from office_tools.from_packages.sources import Arrival, Arrivals, Index
 from office_tools.messages import Kind, Made, Paragraph, Urgency, kind_of, numbered
 from office_tools.reports import ItemStanding
 from office_tools.senders import BUILDS, HINTS, UPLOADS
@@ -41,27 +39,15 @@ class Removal:
 
 
 @dataclass
-class News:
-    """The messages that are new, by what they say."""
+class News(mail.News):
+    """The messages that are new, also hints for sources that are gone, and hints that are taken back."""
 
-    uploads: list[bytes] = field(default_factory=list)
-    drops: list[bytes] = field(default_factory=list)
-    builds: list[bytes] = field(default_factory=list)
-    hints: list[bytes] = field(default_factory=list)
-    unhints: list[bytes] = field(default_factory=list)
-
-    @property
-    def texts(self) -> Sequence[bytes]:
-        """All of them, in the order in which they are sent: an upload before its builds."""
-        return [*self.uploads, *self.drops, *self.builds, *self.hints, *self.unhints]
+    hints: Sequence[bytes] = ()
+    unhints: Sequence[bytes] = ()
 
     def summary(self) -> str:
         """How many there are."""
         return ", ".join(f"{entry.name} {len(getattr(self, entry.name))}" for entry in dataclasses.fields(self))
-
-    def bag(self) -> bytes:
-        """All of them as a bag."""
-        return bag_of(self.texts)
 
 
 @dataclass(frozen=True)
@@ -169,11 +155,8 @@ def packages(archive: Archive, retold: Retold, others: set[Key]) -> Iterator[Bin
 
 def standing(known: Known) -> Iterator[Removal]:
     """The hints in force that take sources out of testing."""
-    letters = known.letters()
-    cancelled = {int(first.value("Cancels") or 0) for _, first in letters if kind_of(first) is Kind.UNHINT}
-    for number, first in letters:
-        if kind_of(first) is Kind.HINT and number not in cancelled:
-            yield from removals_of(number, first)
+    for number, first in known.standing_hints():
+        yield from removals_of(number, first)
 
 
 def removals_of(number: int, first: Paragraph) -> Iterator[Removal]:

@@ -9,8 +9,7 @@ from office_tools.days import day
 from office_tools.feed.known import sent_in
 from office_tools.files import read_bytes, write_whole
 from office_tools.from_packages import mail
-from office_tools.from_packages.index import read_index
-from office_tools.from_packages.sources import Arrival, read_arrivals
+from office_tools.from_packages.sources import Arrival, read_arrivals, read_index
 from office_tools.from_packages.suites import Suites
 from office_tools.from_packages.told import NAME
 from office_tools.messages import Urgency
