@@ -75,7 +75,7 @@ class Team:
             text = letter.text(label)
             told = self.service.verdict(text)
             if not is_held(told):
-                return f"{told}: {place_of(self.office, text, told).cause}"
+                return f"{told}: {place_of(self.office, text, told).words}"
         return None
 
     def slips(self, letters: Sequence[Letter], today: datetime.date) -> Sequence[str]:

@@ -10,7 +10,7 @@ from office_tools.faults import Exit, Fault, ending
 from office_tools.files import read_bytes
 from office_tools.lint.office import Office, ServiceOffice, StoreOffice
 from office_tools.lint.places import place_of
-from office_tools.lint.look import Days, Look, Warned
+from office_tools.lint.look import Days, Look, Place
 from office_tools.lint.slips import slips
 from office_tools.lint.state import State
 from office_tools.messages import Kind, kind_of, label_of, paragraphs
@@ -47,7 +47,7 @@ class Lint:
         self.trials = trials
         self.state: State = office.state()
 
-    def warned(self, look: Look) -> Sequence[Warned]:
+    def warned(self, look: Look) -> Sequence[Place]:
         """What is odd in a message; of a hint that is tried, also what the next run makes of it."""
         found = list(slips(look))
         if self.trials and look.kind is Kind.HINT:
@@ -62,7 +62,7 @@ class Lint:
             verdict = "refused OtherText"  # of a message before this one
         if label is None or not is_held(verdict):
             place = place_of(self.office, text.text, verdict)
-            print(f"{text.name}:{place.line}: {verdict}: {place.cause}", flush=True)
+            print(f"{text.name}:{place.line}: {verdict}: {place.words}", flush=True)
             return Exit.REFUSED
         first, *binaries = list(paragraphs(text.text))
         kind = kind_of(first)

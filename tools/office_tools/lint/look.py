@@ -8,8 +8,8 @@ from office_tools.messages import Field, Kind, Label, Paragraph
 
 
 @dataclass(frozen=True)
-class Warned:
-    """A line of a message, counted from 1, and what is odd there."""
+class Place:
+    """A line of a message, counted from 1, and what is wrong or odd there."""
 
     line: int
     words: str
@@ -35,9 +35,9 @@ class Look:
     days: Days
     is_alone: bool
 
-    def warned(self, name: str, words: str) -> Warned:
+    def warned(self, name: str, words: str) -> Place:
         """A warning at a field of the first paragraph."""
-        return Warned(self.field(name).line, words)
+        return Place(self.field(name).line, words)
 
     def field(self, name: str) -> Field:
         """A field of the first paragraph, which has it."""
@@ -57,4 +57,4 @@ class Look:
         return (sender for sender in self.state.unbroken if sender != self.state.runs)
 
 
-Check = Callable[[Look], Iterator[Warned]]
+Check = Callable[[Look], Iterator[Place]]

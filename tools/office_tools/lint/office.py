@@ -30,15 +30,16 @@ class Office(abc.ABC):
     def state(self) -> State:
         """What it keeps, has in testing, and will see in the next run."""
 
-    @abc.abstractmethod
     def judged(self, texts: Sequence[bytes]) -> Sequence[str]:
         """Whether texts are messages at all, whatever is kept: by these verdicts the place of a fault is found."""
+        return list(self.verdicts(texts))
 
 
 class ServiceMail(Kept):
     """The mail of a running office."""
 
     def __init__(self, service: Service) -> None:
+        super().__init__()
         self.service = service
 
     def text(self, label: Label) -> Optional[bytes]:
@@ -64,30 +65,10 @@ class ServiceOffice(Office):
         """Each is looked at in its turn, so after what was mailed before."""
         return (self.service.verdict(text) for text in texts)
 
-    def judged(self, texts: Sequence[bytes]) -> Sequence[str]:
-        """A message whose number has another text is one."""
-        return [self.service.verdict(text) for text in texts]
-
     def state(self) -> State:
         """The state, by what the office says of unstable, hints, testing and orders."""
         return State(self.setup, self.counts, self.service.testing(), ServiceMail(self.service)).told(
             self.service.unstable(), self.service.hints())
-
-
-class StoreMail(Kept):
-    """The mail of a store that no office has open."""
-
-    def __init__(self, texts: Sequence[bytes]) -> None:
-        self.kept = {label_of(text): text for text in texts}
-
-    def text(self, label: Label) -> Optional[bytes]:
-        """A message, or None."""
-        return self.kept.get(label)
-
-    def mail(self, sender: str) -> Iterator[bytes]:
-        """All messages of a sender, by number."""
-        numbers = sorted(label.number for label in self.kept if label and label.sender == sender)
-        return (self.kept[Label(sender, number)] for number in numbers)
 
 
 class StoreOffice(Office):
@@ -97,7 +78,7 @@ class StoreOffice(Office):
         self.conf = conf
         self.store = program.Store(conf, store) if store else None
         self.setup = setups.read_setup(conf)
-        self.mail = StoreMail(self.store.exported() if self.store else ())
+        self.mail = Kept(self.store.exported() if self.store else ())
 
     def verdicts(self, texts: Sequence[bytes]) -> Iterator[str]:
         """The replies of a replay of these texts, each after what is kept under its number."""

@@ -9,11 +9,11 @@ from typing import Iterator, Mapping, Optional, Sequence
 import Levenshtein
 
 from office_tools import versions
-from office_tools.lint.look import Check, Look, Warned
-from office_tools.lint.state import Seen, State, source_of, wish_of
+from office_tools.lint.look import Check, Look, Place
+from office_tools.lint.state import Seen, State, wish_of
 from office_tools.messages import BINARY_FIELDS, FIELDS_OF, HEAD_FIELDS, Field, Kind, Paragraph, Role
 from office_tools.orders import stated_covers
-from office_tools.relations import ALTERNATIVE
+from office_tools.relations import ALTERNATIVE, source_of
 
 FARTHEST = 2  # changed letters between a name that isn't read and the one that is most likely meant
 LEAST_LEAP = 20  # a first number below it is no date, and has no digits too many
@@ -22,7 +22,7 @@ DELAYS = ("Low", "Medium", "High", "Critical")
 FIRST_NUMBER = re.compile(r"(?:(\d+):)?\D*(\d*)")
 
 
-def number_behind_a_gap(look: Look) -> Iterator[Warned]:
+def number_behind_a_gap(look: Look) -> Iterator[Place]:
     """The number isn't the sender's next one."""
     sender, number = look.label.sender, look.label.number
     due = look.state.unbroken[sender] + 1
@@ -30,7 +30,7 @@ def number_behind_a_gap(look: Look) -> Iterator[Warned]:
         yield look.warned("Number", f"number {number} of {sender}: {due} is the next")
 
 
-def misspelt_fields(look: Look) -> Iterator[Warned]:
+def misspelt_fields(look: Look) -> Iterator[Place]:
     """A field that isn't read has nearly the name of one that is."""
     head = [rule.name for rule in (*HEAD_FIELDS, *FIELDS_OF[look.kind])]
     yield from misspelt(look.first, head)
@@ -38,7 +38,7 @@ def misspelt_fields(look: Look) -> Iterator[Warned]:
         yield from misspelt(binary, [rule.name for rule in BINARY_FIELDS])
 
 
-def misspelt(paragraph: Paragraph, read: Sequence[str]) -> Iterator[Warned]:
+def misspelt(paragraph: Paragraph, read: Sequence[str]) -> Iterator[Place]:
     """The same in one paragraph, given the names that are read of it."""
     missing = [name for name in read if paragraph.field(name) is None]
     known = {name.lower() for name in read}
@@ -46,22 +46,22 @@ def misspelt(paragraph: Paragraph, read: Sequence[str]) -> Iterator[Warned]:
         near = {name: int(Levenshtein.distance(field.name.lower(), name.lower())) for name in missing}
         meant = min(near, key=lambda name: near[name], default="")
         if field.name.lower() not in known and near.get(meant, FARTHEST + 1) <= FARTHEST:
-            yield Warned(field.line, f"the office reads no field {field.name} here: is {meant} meant?")
+            yield Place(field.line, f"the office reads no field {field.name} here: is {meant} meant?")
 
 
-def day_after_today(look: Look) -> Iterator[Warned]:
+def day_after_today(look: Look) -> Iterator[Place]:
     """The day is still to come."""
     if look.kind in (Kind.UPLOAD, Kind.RUN) and look.days.today < look.day():
         yield look.warned("Day", f"day {look.day()} is after today, {look.days.today}")
 
 
-def day_long_ago(look: Look) -> Iterator[Warned]:
+def day_long_ago(look: Look) -> Iterator[Place]:
     """The day of an upload lies far back, so the source seems old at once."""
     if look.kind is Kind.UPLOAD and (look.days.today - look.day()).days > look.days.most:
         yield look.warned("Day", f"day {look.day()} is more than {look.days.most} days before today")
 
 
-def upload_of_nothing_new(look: Look) -> Iterator[Warned]:
+def upload_of_nothing_new(look: Look) -> Iterator[Place]:
     """Unstable has that version of the source, or a greater one."""
     if look.kind is Kind.UPLOAD:
         has = look.state.seen.source(look.value("Source"))
@@ -69,26 +69,26 @@ def upload_of_nothing_new(look: Look) -> Iterator[Warned]:
             yield look.warned("Version", f"unstable has {look.value('Source')} {has}: this upload changes nothing")
 
 
-def build_of_another_source(look: Look) -> Iterator[Warned]:
+def build_of_another_source(look: Look) -> Iterator[Place]:
     """The source of a binary isn't in unstable, or has another version there and in testing."""
     for binary in look.binaries if look.kind is Kind.BUILD else ():
-        source = source_of(binary)
+        name, version = source_of(binary.value("Source"), binary.value("Package") or "", binary.value("Version") or "")
         stated = binary.field("Source") or binary.field("Package")
         line = stated.line if stated else binary.line
-        has = look.state.seen.source(source.name)
+        has = look.state.seen.source(name)
         if has is None:
-            yield Warned(line, f"no source {source.name}")
-        elif not any(versions.same(source.version, other) for other in (has, look.state.testing.get(source.name))):
-            yield Warned(line, f"unstable has {source.name} {has}")
+            yield Place(line, f"no source {name}")
+        elif not any(versions.same(version, other) for other in (has, look.state.testing.get(name))):
+            yield Place(line, f"unstable has {name} {has}")
 
 
-def bug_of_no_source(look: Look) -> Iterator[Warned]:
+def bug_of_no_source(look: Look) -> Iterator[Place]:
     """The bug is of a source that isn't in unstable."""
     if look.kind is Kind.BUG and look.state.seen.source(look.value("Source")) is None:
         yield look.warned("Source", f"no source {look.value('Source')}")
 
 
-def drop_of_nothing(look: Look) -> Iterator[Warned]:
+def drop_of_nothing(look: Look) -> Iterator[Place]:
     """Unstable has no such row, or one of a greater version."""
     if look.kind is Kind.DROP:
         architecture, package = look.value("Architecture"), look.value("Package")
@@ -98,7 +98,7 @@ def drop_of_nothing(look: Look) -> Iterator[Warned]:
             yield look.warned("Package", f"unstable has {row}: this drops nothing")
 
 
-def hint_of_another_source(look: Look) -> Iterator[Warned]:
+def hint_of_another_source(look: Look) -> Iterator[Place]:
     """An item of a hint isn't in force: unstable has no such source, another version, or it moved already."""
     if look.kind is Kind.HINT:
         word, *rest = look.value("Hint").split()
@@ -125,13 +125,13 @@ def standing(state: State, word: str, name: str, version: str) -> Optional[str]:
     return None if versions.same(version, has) else f"unstable has {name} {has}"
 
 
-def unhint_of_nothing(look: Look) -> Iterator[Warned]:
+def unhint_of_nothing(look: Look) -> Iterator[Place]:
     """No hint of that number is in force."""
     if look.kind is Kind.UNHINT and not look.state.seen.in_force(int(look.value("Cancels"))):
         yield look.warned("Cancels", f"no hint in force has the number {look.value('Cancels')}")
 
 
-def order_over_a_gap(look: Look) -> Iterator[Warned]:
+def order_over_a_gap(look: Look) -> Iterator[Place]:
     """The order covers missing mail."""
     if look.kind is Kind.RUN:
         stated = stated_covers(look.first)
@@ -141,7 +141,7 @@ def order_over_a_gap(look: Look) -> Iterator[Warned]:
                 yield look.warned("Covers", f"{sender} {reached + 1} isn't kept: this run and all later ones wait")
 
 
-def order_leaves_mail_out(look: Look) -> Iterator[Warned]:
+def order_leaves_mail_out(look: Look) -> Iterator[Place]:
     """Neither this order nor an earlier one covers some mail."""
     if look.kind is Kind.RUN:
         stated = stated_covers(look.first)
@@ -152,7 +152,7 @@ def order_leaves_mail_out(look: Look) -> Iterator[Warned]:
                 yield look.warned("Covers", f"{sender} {covered + 1} to {reached} isn't covered")
 
 
-def order_covers_less(look: Look) -> Iterator[Warned]:
+def order_covers_less(look: Look) -> Iterator[Place]:
     """An earlier order covers more of a sender."""
     if look.kind is Kind.RUN:
         stated = stated_covers(look.first)
@@ -162,13 +162,13 @@ def order_covers_less(look: Look) -> Iterator[Warned]:
                 yield look.warned("Covers", f"{sender}: an earlier order covers {covered}: this changes nothing")
 
 
-def order_of_an_earlier_day(look: Look) -> Iterator[Warned]:
+def order_of_an_earlier_day(look: Look) -> Iterator[Place]:
     """An earlier order has a later day."""
     if look.kind is Kind.RUN and look.value("Day") < look.state.orders.day:
         yield look.warned("Day", f"an earlier order has day {look.state.orders.day}: this one has no effect")
 
 
-def version_leaps(look: Look) -> Iterator[Warned]:
+def version_leaps(look: Look) -> Iterator[Place]:
     """An upload has a greater epoch than unstable's version, or a first number that is ten times as great."""
     has = look.state.seen.source(look.value("Source")) if look.kind is Kind.UPLOAD else None
     if has is None or versions.compare(look.value("Version"), has) <= 0:
@@ -188,7 +188,7 @@ def leading(version: str) -> tuple[int, int]:
     return (int(found[1] or 0), int(found[2] or 0)) if found else (0, 0)
 
 
-def drop_beyond(look: Look) -> Iterator[Warned]:
+def drop_beyond(look: Look) -> Iterator[Place]:
     """A drop reaches further than unstable's row."""
     if look.kind is Kind.DROP:
         architecture, package = look.value("Architecture"), look.value("Package")
@@ -198,7 +198,7 @@ def drop_beyond(look: Look) -> Iterator[Warned]:
                                          f"{look.value('Version')} will count")
 
 
-def block_of_all(look: Look) -> Iterator[Warned]:
+def block_of_all(look: Look) -> Iterator[Place]:
     """A hint keeps all sources out of testing."""
     if look.kind is Kind.HINT and look.value("Hint").split()[0] == "block-all":
         yield look.warned("Hint", f"this keeps all sources out: {newer(look.state)} are newer in unstable")
@@ -211,7 +211,7 @@ def newer(state: State) -> int:
                for name, given in state.seen.sources.items())
 
 
-def delays_leap(look: Look) -> Iterator[Warned]:
+def delays_leap(look: Look) -> Iterator[Place]:
     """A delay falls below half or rises above double by days; or a lesser urgency waits less than a greater one."""
     if look.kind is not Kind.DELAYS:
         return
@@ -226,7 +226,7 @@ def delays_leap(look: Look) -> Iterator[Warned]:
             yield look.warned(lesser, f"{lesser} is below {greater}")
 
 
-def build_of_nothing_new(look: Look) -> Iterator[Warned]:
+def build_of_nothing_new(look: Look) -> Iterator[Place]:
     """Unstable has the row of a binary in a greater version, or in this one from a sender that comes first."""
     if look.kind is not Kind.BUILD or look.state.is_kept(look.label):
         return
@@ -236,10 +236,10 @@ def build_of_nothing_new(look: Look) -> Iterator[Warned]:
         has = look.state.seen.row(architecture, package)
         order = -1 if has is None else versions.compare(has, binary.value("Version") or "")
         if order > 0 or (order == 0 and is_last):
-            yield Warned(binary.line, f"unstable has {package} {has} on {architecture}: this build changes nothing")
+            yield Place(binary.line, f"unstable has {package} {has} on {architecture}: this build changes nothing")
 
 
-def clause_of_nothing(look: Look) -> Iterator[Warned]:
+def clause_of_nothing(look: Look) -> Iterator[Place]:
     """No package and no provision is known that has a name of a clause. An archive has such rows, so a bag may, too."""
     for binary in look.binaries if look.kind is Kind.BUILD and look.is_alone else ():
         for name in ("Pre-Depends", "Depends"):
@@ -248,16 +248,16 @@ def clause_of_nothing(look: Look) -> Iterator[Warned]:
                 yield from unmet(look.state, field, binary.value("Package") or "")
 
 
-def unmet(state: State, field: Field, package: str) -> Iterator[Warned]:
+def unmet(state: State, field: Field, package: str) -> Iterator[Place]:
     """The same in one field."""
     for place in re.finditer(r"[^,]+", field.value):
         names = [found[1] for found in map(ALTERNATIVE.fullmatch, map(str.strip, place[0].split("|"))) if found]
         if names and not any(map(state.is_named, names)):
             line = field.line_at(place.start() + len(place[0]) - len(place[0].lstrip()))
-            yield Warned(line, f"{package}: nothing in unstable is {' or '.join(names)}")
+            yield Place(line, f"{package}: nothing in unstable is {' or '.join(names)}")
 
 
-def bug_of_no_version(look: Look) -> Iterator[Warned]:
+def bug_of_no_version(look: Look) -> Iterator[Place]:
     """A bug affects no version, or none up to unstable's."""
     if look.kind is not Kind.BUG:
         return
@@ -269,7 +269,7 @@ def bug_of_no_version(look: Look) -> Iterator[Warned]:
         yield look.warned("Found", f"unstable has {look.value('Source')} {has}: no version up to it has this bug")
 
 
-def bug_of_another_source(look: Look) -> Iterator[Warned]:
+def bug_of_another_source(look: Look) -> Iterator[Place]:
     """The last message on this bug is of another source, which so is free of it."""
     if look.kind is Kind.BUG:
         bug = int(look.value("Bug"))
@@ -278,7 +278,7 @@ def bug_of_another_source(look: Look) -> Iterator[Warned]:
             yield look.warned("Source", f"bug {bug} was of {source}, which no longer has it then")
 
 
-def hint_again(look: Look) -> Iterator[Warned]:
+def hint_again(look: Look) -> Iterator[Place]:
     """A hint in force asks the same."""
     if look.kind is Kind.HINT and not look.state.is_kept(look.label):
         words, items = wish_of(look.value("Hint"))
@@ -306,7 +306,7 @@ CHECKS: Sequence[Check] = (
     bug_of_another_source, hint_again)
 
 
-def slips(look: Look) -> Iterator[Warned]:
+def slips(look: Look) -> Iterator[Place]:
     """All warnings of a message."""
     for check in CHECKS:
         yield from check(look)

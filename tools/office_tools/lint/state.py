@@ -1,19 +1,17 @@
 """What an office keeps and will see in its next run, taken on by each message that is looked at."""
-import abc
 import re
 from dataclasses import dataclass, field
-from typing import Callable, Iterable, Iterator, Mapping, Optional, TypeVar
+from typing import Callable, Iterable, Iterator, Mapping, Optional, Sequence, TypeVar
 
 from office_tools import versions
-from office_tools.messages import (KINDS_OF, Kind, Label, Paragraph, ParagraphFault, Role, kind_of, label_of_first,
-                                   paragraphs)
+from office_tools.messages import (KINDS_OF, Kind, Label, Paragraph, ParagraphFault, Role, kind_of, label_of,
+                                   label_of_first, paragraphs)
 from office_tools.orders import Orders
 from office_tools.reports import Hints, Testing, Unstable, Wish
 from office_tools.service import Kept as Count
 from office_tools.setups import Setup
 
 NAME = re.compile(r"\s*([a-z0-9][a-z0-9+.-]+)")
-SOURCE = re.compile(r"([^\s(]+)\s*(?:\(\s*([^\s)]+)\s*\))?")
 
 Key = TypeVar("Key")
 Pair = tuple[str, str]
@@ -22,21 +20,6 @@ Delays = Mapping[str, int]
 """How many days an upload of each urgency waits, by the fields of a message on delays."""
 FIRST_DELAYS: Delays = {"Low": 10, "Medium": 5, "High": 2, "Critical": 0}
 """Those of an office to which none were mailed."""
-
-
-@dataclass(frozen=True)
-class Source:
-    """A source and its version, as the paragraph of a binary names them."""
-
-    name: str
-    version: str
-
-
-def source_of(binary: Paragraph) -> Source:
-    """The source of a binary's paragraph: without the field its own name, without a version there its own version."""
-    version = binary.value("Version") or ""
-    found = SOURCE.fullmatch(binary.value("Source") or binary.value("Package") or "")
-    return Source(found[1], found[2] or version) if found else Source("", version)
 
 
 def wish_of(hint: str) -> Wish:
@@ -69,16 +52,20 @@ EARLIER = (-1, 0, 0)
 """Means a message that was kept before, whose own place the office doesn't give."""
 
 
-class Kept(abc.ABC):
-    """The mail that an office keeps."""
+class Kept:
+    """The mail that an office keeps, all of it at hand."""
 
-    @abc.abstractmethod
+    def __init__(self, texts: Sequence[bytes] = ()) -> None:
+        self.kept = {label_of(text): text for text in texts}
+
     def text(self, label: Label) -> Optional[bytes]:
         """A message, or None if none is kept."""
+        return self.kept.get(label)
 
-    @abc.abstractmethod
     def mail(self, sender: str) -> Iterator[bytes]:
         """All messages of a sender, by number."""
+        numbers = sorted(label.number for label in self.kept if label and label.sender == sender)
+        return (self.kept[Label(sender, number)] for number in numbers)
 
 
 @dataclass
