@@ -371,7 +371,7 @@ class Rules:
     def __init__(self, **needs):
         self.needs = needs
 
-    def broken(self, architecture, packages):
+    def __call__(self, architecture, packages):
         there = {(package.name, package.version) for package in packages}
         return [Broken(package, "its needs", frozenset({other})) for package in packages
                 for other, versions in self.needs.get(f"{package.name}_{package.version}", [])
@@ -436,8 +436,8 @@ class HeldBack(unittest.TestCase):
         """app 1 stays and can't be installed with lone 2, which the judge names; if it names nothing, all stays."""
         class Silent(Rules):
 
-            def broken(self, architecture, packages):
-                return [broken._replace(named=frozenset()) for broken in super().broken(architecture, packages)]
+            def __call__(self, architecture, packages):
+                return [broken._replace(named=frozenset()) for broken in super().__call__(architecture, packages)]
 
         for judge, mta in ((Rules, "mta 2"), (Silent, "mta 1")):
             found = self.applied(("lone 2 lone", "mta 2 mta"), ("app 1 app", "lib 2 lib", "lone 2 lone", "mta 2 mta"),

@@ -25,12 +25,8 @@ class Office(abc.ABC):
         """The finished runs, in order."""
 
     @abc.abstractmethod
-    def excuses(self, run: int) -> str:
-        """The excuses of a run."""
-
-    @abc.abstractmethod
-    def update(self, run: int) -> str:
-        """The update of a run."""
+    def report(self, run: int, kind: str) -> str:
+        """The `excuses` or the `update` of a run."""
 
     @abc.abstractmethod
     def testing(self) -> Optional[str]:
@@ -85,11 +81,8 @@ class ServiceOffice(Office):
     def runs(self) -> Sequence[reports.Run]:
         return self.service.runs()
 
-    def excuses(self, run: int) -> str:
-        return self.service.good_text(f"/excuses/{run}")
-
-    def update(self, run: int) -> str:
-        return self.service.good_text(f"/update/{run}")
+    def report(self, run: int, kind: str) -> str:
+        return self.service.good_text(f"/{kind}/{run}")
 
     def testing(self) -> Optional[str]:
         return self.service.good_text("/testing")
@@ -169,11 +162,8 @@ class StoreOffice(Office):
     def runs(self) -> Sequence[reports.Run]:
         return reports.read_runs(self.store.told("runs"))
 
-    def excuses(self, run: int) -> str:
-        return self.store.told("report", str(run), "excuses")
-
-    def update(self, run: int) -> str:
-        return self.store.told("report", str(run), "update")
+    def report(self, run: int, kind: str) -> str:
+        return self.store.told("report", str(run), kind)
 
     def testing(self) -> Optional[str]:
         return self.store.told("report", "testing")
@@ -237,9 +227,10 @@ class FileOffice(Office):
     """The reports of one run, in files."""
 
     def __init__(self, excuses: str, update: str, testing: Optional[str]) -> None:
-        self.texts = [text_of(excuses), text_of(update)]
+        self.texts = {"excuses": text_of(excuses), "update": text_of(update)}
         self.in_testing = text_of(testing) if testing else None
-        told, done = reports.read_excuses(self.texts[0], excuses), reports.read_update(self.texts[1], update)
+        told = reports.read_excuses(self.texts["excuses"], excuses)
+        done = reports.read_update(self.texts["update"], update)
         if (told.run, told.date) != (done.run, done.date):
             raise Fault(f"the excuses are of run {told.run} of {told.date}, "
                         f"and the update is of run {done.run} of {done.date}")
@@ -252,11 +243,8 @@ class FileOffice(Office):
     def runs(self) -> Sequence[reports.Run]:
         return [self.run]
 
-    def excuses(self, run: int) -> str:
-        return self.texts[0]
-
-    def update(self, run: int) -> str:
-        return self.texts[1]
+    def report(self, run: int, kind: str) -> str:
+        return self.texts[kind]
 
     def testing(self) -> Optional[str]:
         return self.in_testing
