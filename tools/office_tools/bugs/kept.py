@@ -12,7 +12,7 @@ from office_tools.bags import bag_of
 from office_tools.faults import Exit, Fault, tell
 from office_tools.letters import letters
 from office_tools.messages import Kind, Label, Paragraph, Range, Role, Severity, kind_of, paragraphs
-from office_tools.roles import sender_of
+from office_tools.senders import sender_of
 from office_tools.service import Service
 
 CRITICAL = {Severity.CRITICAL.value, Severity.GRAVE.value, Severity.SERIOUS.value}

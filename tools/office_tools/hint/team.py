@@ -4,11 +4,10 @@ from dataclasses import dataclass
 from typing import Callable, Optional, Sequence
 
 from office_tools.faults import Exit, Fault
-from office_tools.lint.look import Days, Look
 from office_tools.lint.office import ServiceOffice
 from office_tools.lint.places import place_of
 from office_tools.lint.slips import slips
-from office_tools.lint.state import State
+from office_tools.lint.state import Days, Look, State
 from office_tools.messages import Kind, Label, Role, composed, message, paragraphs
 from office_tools.service import Service, is_held
 

@@ -10,9 +10,8 @@ from office_tools.faults import Exit, Fault, ending
 from office_tools.files import read_bytes
 from office_tools.lint.office import Office, ServiceOffice, StoreOffice
 from office_tools.lint.places import place_of
-from office_tools.lint.look import Days, Look, Place
 from office_tools.lint.slips import slips
-from office_tools.lint.state import State
+from office_tools.lint.state import Days, Look, Place, State
 from office_tools.messages import Kind, kind_of, label_of, paragraphs
 from office_tools.service import DEFAULT_URL, Service, is_held, service_at
 from office_tools.trials import trial

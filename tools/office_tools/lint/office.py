@@ -12,7 +12,7 @@ from office_tools.letters import letters
 from office_tools.lint.state import Kept, State
 from office_tools.messages import Label, label_of
 from office_tools.reports import Testing
-from office_tools.roles import setup_of
+from office_tools.senders import setup_of
 from office_tools.service import Kept as Count
 from office_tools.service import Service
 

@@ -10,8 +10,8 @@ from dataclasses import dataclass
 from typing import Mapping, Optional, Sequence
 
 from office_tools.bags import LONGEST
-from office_tools.lint.look import Place
 from office_tools.lint.office import Office
+from office_tools.lint.state import Place
 from office_tools.messages import (BINARY_FIELDS, KINDS_OF, MOST_BINARIES, WHITE, Field, Kind, Paragraph,
                                    ParagraphCause, ParagraphFault, Role, kind_of, paragraphs)
 from office_tools.setups import Setup

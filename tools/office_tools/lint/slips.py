@@ -9,8 +9,7 @@ from typing import Iterator, Mapping, Optional, Sequence
 import Levenshtein
 
 from office_tools import versions
-from office_tools.lint.look import Check, Look, Place
-from office_tools.lint.state import Seen, State, wish_of
+from office_tools.lint.state import Check, Look, Place, Seen, State, wish_of
 from office_tools.messages import BINARY_FIELDS, FIELDS_OF, HEAD_FIELDS, Field, Kind, Paragraph, Role
 from office_tools.orders import stated_covers
 from office_tools.relations import ALTERNATIVE, source_of

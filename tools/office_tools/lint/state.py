@@ -1,10 +1,11 @@
-"""What an office keeps and will see in its next run, taken on by each message that is looked at."""
+"""What an office keeps and will see in its next run, taken on by each message that is looked at, and such a look."""
+import datetime
 import re
 from dataclasses import dataclass, field
 from typing import Callable, Iterable, Iterator, Mapping, Optional, Sequence, TypeVar
 
 from office_tools import versions
-from office_tools.messages import (KINDS_OF, Kind, Label, Paragraph, ParagraphFault, Role, kind_of, label_of,
+from office_tools.messages import (KINDS_OF, Field, Kind, Label, Paragraph, ParagraphFault, Role, kind_of, label_of,
                                    label_of_first, paragraphs)
 from office_tools.orders import Orders
 from office_tools.reports import Hints, Testing, Unstable, Wish
@@ -276,3 +277,56 @@ class State:
             if text is None:
                 return
             yield number, text
+
+
+@dataclass(frozen=True)
+class Place:
+    """A line of a message, counted from 1, and what is wrong or odd there."""
+
+    line: int
+    words: str
+
+
+@dataclass(frozen=True)
+class Days:
+    """The day of the caller, and how many days back an upload's day may lie."""
+
+    today: datetime.date
+    most: int
+
+
+@dataclass(frozen=True)
+class Look:
+    """A message that the office would take, and what it is judged by. It `is_alone` if it isn't in a bag."""
+
+    label: Label
+    kind: Kind
+    first: Paragraph
+    binaries: Sequence[Paragraph]
+    state: State
+    days: Days
+    is_alone: bool
+
+    def warned(self, name: str, words: str) -> Place:
+        """A warning at a field of the first paragraph."""
+        return Place(self.field(name).line, words)
+
+    def field(self, name: str) -> Field:
+        """A field of the first paragraph, which has it."""
+        found = self.first.field(name)
+        return found or Field(name, self.first.line, "", self.first.line)
+
+    def value(self, name: str) -> str:
+        """Its value."""
+        return self.field(name).value
+
+    def day(self) -> datetime.date:
+        """The message's day."""
+        return datetime.date.fromisoformat(self.value("Day"))
+
+    def senders(self) -> Iterator[str]:
+        """Each sender whose mail an order covers."""
+        return (sender for sender in self.state.unbroken if sender != self.state.runs)
+
+
+Check = Callable[[Look], Iterator[Place]]
