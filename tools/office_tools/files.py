@@ -46,15 +46,20 @@ def write_whole(path: str, data: bytes) -> None:
             raise
 
 
+def digest_of(data: bytes) -> str:
+    """The digest by which data are known again."""
+    return hashlib.sha256(data).hexdigest()
+
+
 def sealed(data: bytes) -> bytes:
     """Data after a line that has their digest, so that a damaged file is seen."""
-    return hashlib.sha256(data).hexdigest().encode() + b"\n" + data
+    return digest_of(data).encode() + b"\n" + data
 
 
 def unsealed(kept: bytes) -> bytes:
     """The data of a sealed file; one that isn't as it was written is a `Fault`."""
     digest, _, data = kept.partition(b"\n")
-    if hashlib.sha256(data).hexdigest().encode() != digest:
+    if digest_of(data).encode() != digest:
         raise Fault("it isn't as it was written")
     return data
 

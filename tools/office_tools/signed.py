@@ -1,6 +1,5 @@
 """office-signed: posts a signed message as the sender whose key signed it."""
 import argparse
-import hashlib
 import os
 import resource
 import signal
@@ -13,7 +12,7 @@ from typing import Sequence
 
 from office_tools import bags, processes
 from office_tools.faults import Exit, Fault, ending
-from office_tools.files import read_bytes, write_whole
+from office_tools.files import digest_of, read_bytes, write_whole
 from office_tools.messages import label_of, paragraphs
 from office_tools.openpgp import is_one_message
 from office_tools.service import is_held, service_at
@@ -123,7 +122,7 @@ def main(words: Sequence[str]) -> int:
     if not is_held(reply):
         return Exit.REFUSED
     keep = asked.keep or asked.keys.resolve().parent / "signed"
-    kept = os.path.join(keep, f"{found.sender}-{hashlib.sha256(found.text).hexdigest()}")
+    kept = os.path.join(keep, f"{found.sender}-{digest_of(found.text)}")
     with ending(Exit.FAILED):
         write_whole(kept, signed)
     return 0

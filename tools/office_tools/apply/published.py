@@ -1,5 +1,4 @@
 """The indexes of a suite as they are published: what they have, and whether they are whole."""
-import hashlib
 import os
 from typing import Optional, Sequence
 
@@ -9,7 +8,7 @@ from office_tools import relations
 from office_tools.apply.contents import Contents, Indexes, Row, Source
 from office_tools.control import sections
 from office_tools.faults import Fault, cause_of
-from office_tools.files import read_bytes
+from office_tools.files import digest_of, read_bytes
 
 SUFFIXES = ("", ".gz", ".xz", ".bz2", ".zst", ".lz4", ".lzma")
 
@@ -68,7 +67,7 @@ def is_whole(folder: str, stated: Stated) -> bool:
         there = {name: os.path.join(folder, name) for name in files if os.path.exists(os.path.join(folder, name))}
         if not there:
             return False
-        if any(hashlib.sha256(read_bytes(path)).hexdigest() != files[name] for name, path in there.items()):
+        if any(digest_of(read_bytes(path)) != files[name] for name, path in there.items()):
             return False
     return True
 

@@ -1,15 +1,14 @@
 """A copy of a running office's store, which follows it by its mail, and in which runs are tried."""
-import hashlib
 import json
 import os
 import shutil
 import tempfile
 from dataclasses import dataclass
-from typing import Mapping, Optional, Sequence
+from typing import Mapping, Sequence
 
 from office_tools import bags, program, reports
 from office_tools.faults import Exit, Fault
-from office_tools.files import read_bytes, write_whole
+from office_tools.files import digest_of, read_bytes, write_whole
 from office_tools.letters import letters
 from office_tools.messages import Label
 from office_tools.program import Store
@@ -60,7 +59,8 @@ class Copy:
         """Whether the last message of each sender in the copy is one that the office keeps."""
         try:
             ends = json.loads(read_bytes(os.path.join(self.folder, ENDS)))
-            return all(digest(self.service.kept_text(sender, number)) == due for sender, (number, due) in ends.items())
+            return all(digest_of(self.service.kept_text(sender, number) or b"") == due
+                       for sender, (number, due) in ends.items())
         except (Fault, ValueError, TypeError, AttributeError, RecursionError):
             return False
 
@@ -74,7 +74,7 @@ class Copy:
         for sender in self.service.kept():
             for label, text in letters(self.service, sender, own[sender].unbroken + 1 if sender in own else 1):
                 lacking.append(bags.framed(text))
-                ends[sender] = label.number, digest(text)
+                ends[sender] = label.number, digest_of(text)
         program.output(["replay", *self.store.words], b"".join(lacking))
         path = os.path.join(self.folder, ENDS)
         known = json.loads(read_bytes(path)) if os.path.exists(path) else {}
@@ -109,8 +109,3 @@ def left_by(told: str, run: Label) -> reports.Testing:
     if f"\nupdate {run.number} " not in told:
         raise Fault(f"run {run.number} can't be tried: an ordered run waits for mail", Exit.REFUSED)
     return program.testing_in(told)
-
-
-def digest(text: Optional[bytes]) -> str:
-    """A digest of a message."""
-    return hashlib.sha256(text or b"").hexdigest()
