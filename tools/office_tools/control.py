@@ -105,17 +105,12 @@ def read_changes(path: str) -> Changes:
         raise
     except Exception as fault:  # the library has faults of many types, and no file may end the command
         raise Fault(f"{path}: {shown(cause_of(fault))}") from fault
-    words = {name: split_at_white(value) for name, value in found.items()}
+    words = {name: re.findall(f"[^{WHITE}]+", value) for name, value in found.items()}
     if not words["Source"] or not words["Version"]:
         raise Fault(f"{path}: it states no source and version")
     urgency = words["Urgency"]
     return Changes(words["Source"][0], found["Version"], "source" in words["Architecture"],
                    urgency[0].lower() if urgency else None, found["Date"] or None, " ".join(words["Distribution"]))
-
-
-def split_at_white(value: str) -> Sequence[str]:
-    """The words of a value, which the office's white separates."""
-    return [word for word in re.split(f"[{WHITE}]+", value) if word]
 
 
 def read_regular(path: str) -> bytes:

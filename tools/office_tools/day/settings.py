@@ -61,7 +61,9 @@ def read_settings(path: str, more: dict[str, Sequence[str]], left_out: Sequence[
     taken(path, "Bugs", bugs.parser(), words["Bugs"])
     taken(path, "Tests", autopkgtests.parser(), words["Tests"])
     url = values["Url"] or DEFAULT_URL
-    return Settings(url, values["Setup"] or SETUP, values["State"] or state_for(url), words["Pull"], words["Feed"],
+    # Without the field it is the unit's folder, or one in the user's cache.
+    state = values["State"] or os.environ.get("STATE_DIRECTORY") or cache_of("office-day", url)
+    return Settings(url, values["Setup"] or SETUP, state, words["Pull"], words["Feed"],
                     words["Apply"], words["Look"] or folders(path, words["Apply"]), words["Bugs"], words["Tests"],
                     is_yes(path, values["Propose"]), number(path, values["Patience"]), more, left_out)
 
@@ -109,8 +111,3 @@ def number(path: str, value: Optional[str]) -> int:
         return PATIENCE if value is None else count(value)
     except ValueError as fault:
         raise Fault(f"{path}: Patience: it is a number of days, of at most nine digits", Exit.USAGE) from fault
-
-
-def state_for(url: str) -> str:
-    """The folder of what is remembered: the unit's, or one in the user's cache."""
-    return os.environ.get("STATE_DIRECTORY") or cache_of("office-day", url)

@@ -59,19 +59,14 @@ def fetched(sources: Sequence[str], folder: str) -> Files:
             os.symlink(os.path.realpath(source),
                        os.path.join(part, f"{number}{'.sources' if suffix == '.sources' else '.list'}"))
     write_whole(os.path.join(part, "lines.list"), "".join(line + "\n" for line in lines).encode())
-    options = apt_options(folder)
+    options, lists = apt_options(folder), os.path.join(folder, "lists")
     apt([*options, "--error-on=any", "--quiet", "update"])
     told = apt([*options, "indextargets", "--format", "$(CREATED_BY) $(FILENAME)"])
     names = [line.split(" ", 1) for line in told.splitlines()]
     return Files(sorted(name for kind, name in names if kind == "Packages"),
                  sorted(name for kind, name in names if kind == "Sources"),
-                 releases_in(os.path.join(folder, "lists")))
-
-
-def releases_in(folder: str) -> Mapping[str, Release]:
-    """What the files Release say that apt fetched."""
-    return {name: release_of(os.path.join(folder, name)) for name in sorted(os.listdir(folder))
-            if name.endswith(RELEASES)}
+                 {name: release_of(os.path.join(lists, name)) for name in sorted(os.listdir(lists))
+                  if name.endswith(RELEASES)})
 
 
 def release_of(path: str) -> Release:

@@ -89,25 +89,17 @@ def checked(items: Sequence[str]) -> Sequence[str]:
     return items
 
 
-@dataclass(frozen=True)
-class Standing:
-    """A hint of this command in force: its number, and its words."""
-
-    number: int
-    hint: str
+def standing(sent: Known) -> Mapping[int, str]:
+    """The hints of this command that no message takes back, by number."""
+    return {number: first.value("Hint") or "" for number, first in sent.standing_hints()
+            if first.value(BRITNEY) is not None or first.value(GONE) is not None}
 
 
-def standing(sent: Known) -> Sequence[Standing]:
-    """The hints of this command that no message takes back."""
-    return [Standing(number, first.value("Hint") or "") for number, first in sent.standing_hints()
-            if first.value(BRITNEY) is not None or first.value(GONE) is not None]
-
-
-def changes(found: Sequence[Wish], gone: Mapping[str, str], stand: Sequence[Standing], last: int) -> Sequence[bytes]:
+def changes(found: Sequence[Wish], gone: Mapping[str, str], stand: Mapping[int, str], last: int) -> Sequence[bytes]:
     """Messages that put just these hints in force, with those for sources that britney takes out without a hint as they
     are gone from unstable; `last` is the last number.
     """
-    have = {entry.hint for entry in stand}
+    have = set(stand.values())
     want = {wish.hint for wish in found}
     new: list[Made] = [wish.text for wish in found if wish.hint not in have]
     for name, version in sorted(gone.items()):
@@ -115,5 +107,5 @@ def changes(found: Sequence[Wish], gone: Mapping[str, str], stand: Sequence[Stan
         if hint not in have | want:
             new.append(removal_of(name, version))
         want.add(hint)
-    new += [functools.partial(messages.unhint, cancels=entry.number) for entry in stand if entry.hint not in want]
+    new += [functools.partial(messages.unhint, cancels=number) for number, hint in stand.items() if hint not in want]
     return numbered(HINTS, last, new)

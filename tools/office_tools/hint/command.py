@@ -1,5 +1,6 @@
 """office-hint: mails hints of the release team to a running office, and takes them back."""
 import argparse
+import functools
 import getpass
 import re
 import sys
@@ -15,9 +16,8 @@ from office_tools.trials import Trial, trial
 SECONDS = 600.0
 
 
-def tell(line: str) -> None:
-    """Prints a line at once."""
-    print(line, flush=True)
+tell = functools.partial(print, flush=True)
+"""Prints a line at once."""
 
 
 def login() -> Optional[str]:

@@ -64,12 +64,6 @@ def is_wanted(is_asked: bool) -> bool:
     return sys.stdin.readline().strip().lower() in ("y", "yes")
 
 
-def show(gone: Sequence[Letter]) -> None:
-    """Prints what is taken back."""
-    for letter in gone:
-        print(f"undo {letter.label.sender} {letter.label.number} {letter.what}")
-
-
 def main(asked: argparse.Namespace) -> int:
     """Makes the office without these messages, shows how it differs, and exchanges the stores on a word."""
     store = os.path.realpath(asked.db)
@@ -79,7 +73,8 @@ def main(asked: argparse.Namespace) -> int:
     letters = read(program.Store(asked.conf, store).exported())
     state = state_of(store)
     gone = list(chosen(letters, asked.undo))
-    show(gone)
+    for letter in gone:
+        print(f"undo {letter.label.sender} {letter.label.number} {letter.what}")
     try:
         discarded(new)
         before = replayed(["--conf", asked.conf], [letter.text for letter in letters])
