@@ -5,13 +5,14 @@ import os
 from typing import Optional, Sequence
 
 from office_tools import faults, reports
-from office_tools.apply import heidi, marks
+from office_tools.apply import marks
 from office_tools.apply.aptly import Aptly
 from office_tools.apply.contents import ALL, Contents, Indexes, Target, check_taken, target, wanted
 from office_tools.apply.holding import Evidence, Groups
 from office_tools.apply.managers import Manager
 from office_tools.apply.plans import Plan, Terms, plan_to
-from office_tools.apply.published import is_whole, packages_of, read_folder, read_indexes, read_release
+from office_tools.apply.published import (heidi_of, is_whole, packages_of, read_folder, read_heidi, read_indexes,
+                                          read_release)
 from office_tools.apply.reprepro import Reprepro
 from office_tools.apply.turn import Turn, counts, tell_alone
 from office_tools.control import raw_sections
@@ -107,7 +108,7 @@ def to_heidi(testing: reports.Testing, path: str, published: Optional[Contents],
     `office-plan` gets as the target.
     """
     want = wanted(testing, sorted({row.architecture for row in testing.rows}), Indexes.ONCE)
-    before = heidi.read(path)
+    before = read_heidi(path)
     check_taken(want, before)
     if published is None:
         goal, have = Target(want, want), before
@@ -122,7 +123,7 @@ def to_heidi(testing: reports.Testing, path: str, published: Optional[Contents],
     found = Plan(due.without(before), before.without(due))
     is_same = found.is_empty and os.path.exists(path)
     if not is_dry and not is_same:
-        write_whole(path, heidi.written(due))
+        write_whole(path, heidi_of(due))
     for line in found.lines("came", "went"):
         print(line)
     print(f"testing {testing.finished}: {counts(due)}; came {counts(found.come)}; went {counts(found.go)}")

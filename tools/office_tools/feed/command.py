@@ -12,10 +12,9 @@ from office_tools.counts import count
 from office_tools.faults import Exit, Fault
 from office_tools.feed import archive, brakes, mailbox
 from office_tools.feed.back import Archive
-from office_tools.feed.indexes import indexes_in
 from office_tools.feed.known import Known
 from office_tools.feed.mailbox import Mailbox, Outgoing
-from office_tools.feed.memory import ChangesRead, Memory, remembered
+from office_tools.feed.memory import ChangesRead, Memory, indexes_in, remembered
 from office_tools.feed.news import News, Ways, news
 from office_tools.feed.sending import Sending, check_architectures, restore
 from office_tools.feed.told import NAME, Lines
