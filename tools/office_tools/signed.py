@@ -1,5 +1,6 @@
 """office-signed: posts a signed message as the sender whose key signed it."""
 import argparse
+import functools
 import os
 import resource
 import signal
@@ -71,12 +72,9 @@ def is_signed_by(letter: Path, ring: Path) -> bool:
 
 def gpgv(words: Sequence[str]) -> "subprocess.CompletedProcess[bytes]":
     """Runs gpgv with these words."""
+    # No file grows over what a message may have, so that a small letter can't fill the disk.
+    limited = functools.partial(resource.setrlimit, resource.RLIMIT_FSIZE, (bags.LONGEST, bags.LONGEST))
     return processes.ended(["gpgv", "-q", *words], preexec_fn=limited)
-
-
-def limited() -> None:
-    """Lets no file grow over what a message may have, so that a small letter can't fill the disk."""
-    resource.setrlimit(resource.RLIMIT_FSIZE, (bags.LONGEST, bags.LONGEST))
 
 
 def look_at(found: Opened, office: str) -> None:
