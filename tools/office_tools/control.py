@@ -13,7 +13,7 @@ from typing import Callable, Iterator, Mapping, Optional, Sequence, Union
 import apt_pkg
 from debian import deb822
 
-from office_tools.faults import Fault, cause_of
+from office_tools.faults import Fault, cause_of, naming
 from office_tools.messages import BLANKS, WHITE
 
 STRANGE_LINE = re.compile(r"^(?![ \t]|\r?$|[!-9;-~]+:).+", re.MULTILINE)
@@ -105,7 +105,7 @@ def read_changes(path: str) -> Changes:
         raise
     except Exception as fault:  # the library has faults of many types, and no file may end the command
         raise Fault(f"{path}: {shown(cause_of(fault))}") from fault
-    words = {name: split_at_white(value) for name, value in found.items()}
+    words = {name: re.findall(f"[^{WHITE}]+", value) for name, value in found.items()}
     if not words["Source"] or not words["Version"]:
         raise Fault(f"{path}: it states no source and version")
     urgency = words["Urgency"]
@@ -113,14 +113,9 @@ def read_changes(path: str) -> Changes:
                    urgency[0].lower() if urgency else None, found["Date"] or None, " ".join(words["Distribution"]))
 
 
-def split_at_white(value: str) -> Sequence[str]:
-    """The words of a value, which the office's white separates."""
-    return [word for word in re.split(f"[{WHITE}]+", value) if word]
-
-
 def read_regular(path: str) -> bytes:
     """What a plain file holds. A pipe, which might never end, a device and a very long file are refused."""
-    try:
+    with naming(path):
         number = os.open(path, os.O_RDONLY | os.O_NONBLOCK)
         with os.fdopen(number, "rb") as file:
             kept = os.fstat(number)
@@ -129,5 +124,3 @@ def read_regular(path: str) -> bytes:
             if kept.st_size > LONGEST_CHANGES:
                 raise Fault(f"{path}: it has {kept.st_size} bytes, and at most {LONGEST_CHANGES} are read")
             return file.read(LONGEST_CHANGES)
-    except OSError as fault:
-        raise Fault(f"{path}: {cause_of(fault)}") from fault

@@ -1,7 +1,6 @@
 """Numbers that people write: decimal digits, and no greater number than the office takes."""
 import re
 
-GREATEST = 999_999_999
 FORM = re.compile("[0-9]{1,9}")
 
 

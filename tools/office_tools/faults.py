@@ -1,9 +1,10 @@
 """How a command of this package ends: its messages on standard error, and its exit status."""
+import contextlib
 import enum
 import os
 import sys
 from types import TracebackType
-from typing import Callable, NoReturn, Optional, Sequence
+from typing import Callable, Iterator, NoReturn, Optional, Sequence
 
 Main = Callable[[Sequence[str]], int]
 
@@ -32,6 +33,25 @@ class Fault(Exception):
         super().__init__(cause)
         self.cause = cause
         self.status = status
+
+
+@contextlib.contextmanager
+def ending(status: int, before: str = "") -> Iterator[None]:
+    """Within it a `Fault` has this status, and these words before its cause."""
+    try:
+        yield
+    except Fault as fault:
+        raise Fault(before + fault.cause, status) from fault
+
+
+@contextlib.contextmanager
+def naming(name: str, status: int = Exit.NEGATIVE, *others: type[Exception]) -> Iterator[None]:
+    """Within it a fault of the system, or of one of the other types, is a `Fault` that names a file or a program."""
+    kinds: tuple[type[Exception], ...] = (OSError, *others)
+    try:
+        yield
+    except kinds as fault:
+        raise Fault(f"{name}: {cause_of(fault)}", status) from fault
 
 
 def tell(name: str, what: str) -> None:

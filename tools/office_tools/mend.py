@@ -4,7 +4,7 @@ import sys
 from typing import Iterator, Sequence
 
 from office_tools import bags, counts
-from office_tools.faults import Exit, Fault
+from office_tools.faults import Exit, Fault, ending
 from office_tools.files import read_bytes
 from office_tools.messages import Label, label_of
 from office_tools.undo import command as undo
@@ -17,13 +17,11 @@ USAGE = """office-mend SENDER NUMBER FILE < BAG > BAG
 def mended(bag: bytes, label: Label, text: bytes) -> Iterator[bytes]:
     """The messages of a bag, with this text in place of that message."""
     found = False
-    try:
+    with ending(Exit.REFUSED, "standard input: "):
         for message in bags.messages_in(bag):
             is_meant = label_of(message) == label
             found = found or is_meant
             yield text if is_meant else message
-    except bags.BagFault as fault:
-        raise Fault(f"standard input: {fault.cause}", Exit.REFUSED) from fault
     if not found:
         raise Fault(f"standard input: the bag has no message {label.sender} {label.number}", Exit.NEGATIVE)
 

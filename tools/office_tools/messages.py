@@ -336,21 +336,6 @@ def unhint(label: Label, cancels: int, more: Sequence[tuple[str, str]] = ()) -> 
     return message(label, Kind.UNHINT, (str(cancels),)) + composed(more)
 
 
-@dataclass(frozen=True)
-class Delays:
-    """How many days an upload of each urgency waits."""
-
-    low: int
-    medium: int
-    high: int
-    critical: int
-
-
-def delays(label: Label, days: Delays) -> bytes:
-    """How many days uploads wait."""
-    return message(label, Kind.DELAYS, tuple(map(str, (days.low, days.medium, days.high, days.critical))))
-
-
 def run(label: Label, day: str, covers: Mapping[str, int]) -> bytes:
     """An order to run over the mail of each sender up to a number; a sender with 0 isn't named."""
     told = ", ".join(f"{sender} {number}" for sender, number in covers.items() if number)

@@ -9,7 +9,7 @@ import bz2
 import re
 import zlib
 from dataclasses import dataclass
-from typing import Iterator, Protocol
+from typing import Iterator, Union
 
 MARKER, PADDING = 10, 21
 COMPRESSED, ONE_PASS, LITERAL, SIGNATURE = 8, 4, 11, 2
@@ -23,21 +23,6 @@ CLEAR = [b"SIGNED MESSAGE", b"SIGNATURE"]
 
 class Bad(Exception):
     """An input that isn't one message alone."""
-
-
-class Stream(Protocol):
-    """A reader of what is compressed."""
-
-    @property
-    def unused_data(self) -> bytes:
-        """What follows the end."""
-
-    @property
-    def eof(self) -> bool:
-        """Whether the end was read."""
-
-    def decompress(self, data: bytes, max_length: int) -> bytes:
-        """What this much is at most."""
 
 
 @dataclass(frozen=True)
@@ -157,7 +142,7 @@ def decompressed(packet: Packet) -> bytes:
     kind, data = packet.body[:1], packet.body[1:]
     if kind == b"\0":
         return bytes(data)
-    stream: Stream
+    stream: Union[bz2.BZ2Decompressor, "zlib._Decompress"]
     if kind == b"\x03":
         stream = bz2.BZ2Decompressor()
     elif kind in (b"\x01", b"\x02"):

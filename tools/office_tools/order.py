@@ -4,13 +4,10 @@ import datetime
 import sys
 from typing import Iterator, Mapping, Sequence
 
-from office_tools import reports
-from office_tools.accounts import service_at
 from office_tools.days import day, today
 from office_tools.faults import Exit, Fault
-from office_tools.mailing import is_held, mailed
 from office_tools.messages import label_of, paragraphs
-from office_tools.service import DEFAULT_URL, Kept, Service
+from office_tools.service import DEFAULT_URL, Kept, Service, is_held, service_at
 
 
 def parser() -> argparse.ArgumentParser:
@@ -42,7 +39,7 @@ def main(words: Sequence[str]) -> int:
     check_gaps(service.kept(), asked.gap)
     if not asked.force:
         check_day(service, text, asked.day)
-    reply = mailed(service, text)
+    reply = service.mailed(text)
     print(reply)
     return Exit.DONE if is_held(reply) else Exit.REFUSED
 
@@ -71,7 +68,7 @@ def check_day(service: Service, text: bytes, asked: datetime.date) -> None:
 
 def ordered(service: Service, text: bytes) -> Iterator[datetime.date]:
     """The date of the last finished run, and the days of the orders that wait."""
-    runs = reports.read_runs(service.good_text("/runs"), service.url + "/runs")
+    runs = service.runs()
     if runs:
         yield runs[-1].date
     label = label_of(text)

@@ -3,15 +3,13 @@ import os
 import subprocess
 from typing import Any, Sequence
 
-from office_tools.faults import Exit, Fault, cause_of
+from office_tools.faults import Exit, naming
 
 
 def ended(words: Sequence[str], given: bytes = b"", **more: Any) -> "subprocess.CompletedProcess[bytes]":
     """What a program printed, and its status. A `Fault` of status 4 says that it can't be run, or has no end."""
-    try:
+    with naming(words[0], Exit.FAILED, subprocess.TimeoutExpired):
         return subprocess.run(words, input=given, capture_output=True, check=False, **more)
-    except (OSError, subprocess.TimeoutExpired) as fault:
-        raise Fault(f"{words[0]}: {cause_of(fault)}", Exit.FAILED) from fault
 
 
 def english() -> dict[str, str]:

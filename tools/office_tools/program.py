@@ -1,11 +1,12 @@
 """The program `office` itself: its commands are run, and asked for each verdict."""
 import os
 import subprocess
-from typing import Mapping, Sequence
+from dataclasses import dataclass
+from typing import Callable, Mapping, Sequence
 
 from office_tools import bags, processes, reports
 from office_tools.faults import Exit, Fault
-from office_tools.service import Kept, kept_in
+from office_tools.service import Kept, Report, kept_in
 
 SECONDS = 3600
 
@@ -44,31 +45,45 @@ def replies(setup: str, texts: Sequence[bytes]) -> Sequence[str]:
     return found
 
 
-def exported(setup: str, store: str) -> Sequence[bytes]:
-    """All messages that a store keeps, which no office has open."""
-    return list(bags.messages_in(output(["export", "--conf", setup, "--db", store])))
+@dataclass(frozen=True)
+class Store:
+    """A store that no office has open, and the file of the office's setup."""
 
+    setup: str
+    path: str
 
-def kept(setup: str, store: str) -> Mapping[str, Kept]:
-    """What such a store keeps of each sender."""
-    return kept_in(output(["mail", "--conf", setup, "--db", store]).decode())
+    @property
+    def words(self) -> Sequence[str]:
+        """The options that name both."""
+        return ["--conf", self.setup, "--db", self.path]
 
+    def told(self, *words: str) -> str:
+        """What a command prints of it."""
+        return output([*words, *self.words]).decode()
 
-def testing(setup: str, store: str) -> reports.Testing:
-    """What is in testing in such a store."""
-    told = output(["report", "testing", "--conf", setup, "--db", store])
-    return reports.read_testing(told.decode(), f"{name()} report testing")
+    def report(self, read: Callable[[str, str], Report], *words: str) -> Report:
+        """What a command prints of it, by the reader of such texts."""
+        return read(self.told(*words), f"{name()} {' '.join(words)}")
 
+    def exported(self) -> Sequence[bytes]:
+        """All messages that it keeps."""
+        return list(bags.messages_in(output(["export", *self.words])))
 
-def unstable(setup: str, store: str) -> reports.Unstable:
-    """What the next run sees of unstable in such a store if its order covers all mail without a gap."""
-    told = output(["report", "unstable", "--conf", setup, "--db", store])
-    return reports.read_unstable(told.decode(), f"{name()} report unstable")
+    def kept(self) -> Mapping[str, Kept]:
+        """What it keeps of each sender."""
+        return kept_in(self.told("mail"))
 
+    def testing(self) -> reports.Testing:
+        """What is in testing in it."""
+        return self.report(reports.read_testing, "report", "testing")
 
-def hints(setup: str, store: str) -> reports.Hints:
-    """The hints in force in such a store."""
-    return reports.read_hints(output(["hints", "--conf", setup, "--db", store]).decode(), f"{name()} hints")
+    def unstable(self) -> reports.Unstable:
+        """What the next run sees of unstable in it if its order covers all mail without a gap."""
+        return self.report(reports.read_unstable, "report", "unstable")
+
+    def hints(self) -> reports.Hints:
+        """The hints in force in it."""
+        return self.report(reports.read_hints, "hints")
 
 
 def proposed(setup: str, bag: bytes, day: str) -> tuple[Sequence[str], Sequence[str]]:

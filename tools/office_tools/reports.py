@@ -318,10 +318,7 @@ def read_excuse(lines: Lines) -> Excuse:
     source, testing, unstable = lines.need(EXCUSE_FORM, "a source with two versions").groups()
     age, needed = lines.need(AGE_FORM, "its age").groups()
     reasons: list[Reason] = []
-    while True:
-        end = lines.next_is(END_FORM)
-        if end is not None:
-            break
+    while (end := lines.next_is(END_FORM)) is None:
         reasons.append(read_reason(lines))
     if bool(reasons) != bool(end[1]):
         lines.place -= 1

@@ -1,19 +1,25 @@
 """A client of the service `office serve`: one request a connection, as the service has it."""
 import base64
+import contextlib
 import datetime
 import http.client
+import netrc
 import re
 import ssl
 import urllib.parse
 from dataclasses import dataclass
-from typing import Mapping, Optional, Sequence
+from typing import Callable, Mapping, Optional, Sequence, TypeVar
 
 from office_tools import reports
-from office_tools.faults import Exit, Fault, cause_of
+from office_tools.faults import Exit, Fault, naming
+from office_tools.messages import label_of
+
+Report = TypeVar("Report")
 
 DEFAULT_URL = "http://127.0.0.1:8080"  # where a service answers if none is named
 SECONDS = 60.0  # how long a connection waits for its peer
 LONGEST_TOLD = 200  # characters of an answer that are told
+SERVERS_FAULT = 500  # the first code that says that the server failed, and not the request
 
 KEPT_LINE = re.compile(r"mail (\S+) ([0-9]{1,9}) kept(?:, 1 to ([0-9]{1,9}))?(?:, greatest ([0-9]{1,9}))?")
 STATUS_LINE = re.compile(r"ready ([0-9]{1,9}) finished ([0-9]{1,9})\n")
@@ -92,15 +98,11 @@ class Service:
 
     def ask(self, method: str, path: str, body: Optional[bytes] = None) -> Reply:
         """The answer to one request on a connection of its own. A `Fault` of status 4 says that none came."""
-        connection = self.connection()
-        try:
+        named = naming(self.url + path, Exit.FAILED, http.client.HTTPException, ValueError)
+        with contextlib.closing(self.connection()) as connection, named:
             connection.request(method, self.folder + path, body, self.head())
             answer = connection.getresponse()
             return Reply(answer.status, answer.read())
-        except (OSError, http.client.HTTPException, ValueError) as fault:
-            raise Fault(f"{self.url}{path}: {cause_of(fault)}", Exit.FAILED) from fault
-        finally:
-            connection.close()
 
     def connection(self) -> http.client.HTTPConnection:
         """A connection that isn't made yet."""
@@ -143,6 +145,10 @@ class Service:
         """The fault of an answer that no office gives."""
         return Fault(f"{self.url}{path}: no office answers there", Exit.FAILED)
 
+    def report(self, path: str, read: Callable[[str, str], Report]) -> Report:
+        """What a page says, by the reader of such pages."""
+        return read(self.good_text(path), self.url + path)
+
     def status(self) -> Status:
         """How far the office's runs are."""
         found = STATUS_LINE.fullmatch(self.good_text("/status"))
@@ -175,11 +181,11 @@ class Service:
 
     def hints(self) -> reports.Hints:
         """The hints in force, and the state of each of their items."""
-        return reports.read_hints(self.good_text("/hints"), self.url + "/hints")
+        return self.report("/hints", reports.read_hints)
 
     def unstable(self) -> reports.Unstable:
         """What the next run sees of unstable if its order covers all mail without a gap."""
-        return reports.read_unstable(self.good_text("/unstable"), self.url + "/unstable")
+        return self.report("/unstable", reports.read_unstable)
 
     def proposed(self, day: Optional[datetime.date] = None) -> Optional[str]:
         """The hints for groups that the office proposes, one a line; None if no run is finished and no day is stated.
@@ -199,17 +205,73 @@ class Service:
 
     def testing(self) -> reports.Testing:
         """What is in testing."""
-        return reports.read_testing(self.good_text("/testing"), self.url + "/testing")
+        return self.report("/testing", reports.read_testing)
 
     def excuses(self, run: int) -> reports.Excuses:
         """The excuses of a finished run."""
-        path = f"/excuses/{run}"
-        return reports.read_excuses(self.good_text(path), self.url + path)
+        return self.report(f"/excuses/{run}", reports.read_excuses)
 
     def update(self, run: int) -> reports.Update:
         """The update of a finished run."""
-        path = f"/update/{run}"
-        return reports.read_update(self.good_text(path), self.url + path)
+        return self.report(f"/update/{run}", reports.read_update)
+
+    def runs(self) -> Sequence[reports.Run]:
+        """The finished runs."""
+        return self.report("/runs", reports.read_runs)
+
+    def mailed(self, text: bytes, sender: Optional[str] = None) -> str:
+        """The reply to a message, `held ..` or `refused ..`. If there is no such reply, it is a `Fault` of status 4.
+
+        It is posted as mail of this sender, so the office refuses it where it is another's. If none is named, and the
+        user at a proxy is its sender, it is posted as that one's mail.
+        """
+        label = label_of(text)
+        if sender is None and label is not None and label.sender == self.user:
+            sender = label.sender
+        return self.replied("/mail" if sender is None else f"/mail/{sender}", text)
+
+    def mail_all(self, texts: Sequence[bytes], why: Callable[[str], str]) -> None:
+        """Posts messages one after the other. The first that isn't held ends it, with what `why` says of its reply.
+
+        If this process ends in between, the next call finds what is held in the office's mail, and sends the rest.
+        """
+        for text in texts:
+            reply = self.mailed(text)
+            if not is_held(reply):
+                sender, number = label_of(text) or ("?", 0)
+                raise Fault(f"{self.url}: {sender} {number}: {reply}{why(reply)}", Exit.REFUSED)
+
+    def verdict(self, text: bytes) -> str:
+        """What the reply to a message would be, which isn't kept."""
+        return self.replied("/lint", text)
+
+    def replied(self, path: str, text: bytes) -> str:
+        """The reply to a message that is posted to a path."""
+        reply = self.post(path, text)
+        is_verdict = reply.text.startswith("held ") if reply.is_good else reply.text.startswith("refused ")
+        if not is_verdict or reply.status >= SERVERS_FAULT or reply.text == NO_ROUTE:
+            raise self.bad(path, reply)
+        return reply.text
+
+
+def is_held(reply: str) -> bool:
+    """Whether a reply says that the message is kept."""
+    return reply.startswith("held ")
+
+
+def service_at(url: str, user: Optional[str] = None, seconds: float = SECONDS) -> Service:
+    """The service at a URL; a connection waits that many seconds for it.
+
+    A user who is stated, there or here, without a password there has it in ~/.netrc.
+    """
+    service = Service(url, user, seconds=seconds)
+    if service.user is None or service.password is not None:
+        return service
+    with naming(f"the password of {service.user}: ~/.netrc", Exit.USAGE, ValueError, netrc.NetrcParseError):
+        known = netrc.netrc().authenticators(service.host)
+    if known is None or known[0] != service.user:
+        raise Fault(f"~/.netrc has no password of {service.user} at {service.host}", Exit.USAGE)
+    return Service(url, service.user, known[2], seconds)
 
 
 def kept_in(told: str) -> Mapping[str, Kept]:

@@ -2,7 +2,7 @@
 from dataclasses import dataclass
 from typing import Mapping, Sequence
 
-from office_tools.faults import Fault
+from office_tools.faults import Exit, Fault, ending
 from office_tools.files import read_bytes
 from office_tools.messages import Paragraph, Role, composed, paragraphs
 
@@ -38,10 +38,8 @@ def parse(text: bytes) -> Setup:
 def read_setup(path: str) -> Setup:
     """The setup that a file states; `-` is standard input."""
     text = read_bytes(path)
-    try:
+    with ending(Exit.NEGATIVE, f"{path}: "):
         return parse(text)
-    except Fault as fault:
-        raise Fault(f"{path}: {fault.cause}", fault.status) from fault
 
 
 def needed(paragraph: Paragraph, name: str) -> str:

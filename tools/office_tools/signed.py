@@ -1,6 +1,6 @@
 """office-signed: posts a signed message as the sender whose key signed it."""
 import argparse
-import hashlib
+import functools
 import os
 import resource
 import signal
@@ -12,12 +12,11 @@ from pathlib import Path
 from typing import Sequence
 
 from office_tools import bags, processes
-from office_tools.accounts import service_at
-from office_tools.faults import Exit, Fault
-from office_tools.files import read_bytes, write_whole
-from office_tools.mailing import is_held, mailed
-from office_tools.messages import ParagraphFault, label_of, paragraphs
+from office_tools.faults import Exit, Fault, ending
+from office_tools.files import digest_of, read_bytes, write_whole
+from office_tools.messages import label_of, paragraphs
 from office_tools.openpgp import is_one_message
+from office_tools.service import is_held, service_at
 
 LONGEST = 1048576  # bytes of a signed message that are read
 
@@ -73,20 +72,15 @@ def is_signed_by(letter: Path, ring: Path) -> bool:
 
 def gpgv(words: Sequence[str]) -> "subprocess.CompletedProcess[bytes]":
     """Runs gpgv with these words."""
+    # No file grows over what a message may have, so that a small letter can't fill the disk.
+    limited = functools.partial(resource.setrlimit, resource.RLIMIT_FSIZE, (bags.LONGEST, bags.LONGEST))
     return processes.ended(["gpgv", "-q", *words], preexec_fn=limited)
-
-
-def limited() -> None:
-    """Lets no file grow over what a message may have, so that a small letter can't fill the disk."""
-    resource.setrlimit(resource.RLIMIT_FSIZE, (bags.LONGEST, bags.LONGEST))
 
 
 def look_at(found: Opened, office: str) -> None:
     """A text that is for another office is a `Fault`. Whether it is its key's sender's is for the office to say."""
-    try:
+    with ending(Exit.REFUSED):
         first = next(paragraphs(found.text), None)
-    except ParagraphFault as fault:
-        raise Fault(fault.cause, Exit.REFUSED) from fault
     named = first.value("Office") if first else None
     if named != office:
         raise Fault(f"it is for {named or 'no named office'}, and not for {office}", Exit.REFUSED)
@@ -121,14 +115,12 @@ def main(words: Sequence[str]) -> int:
         raise Fault(f"it has more than {LONGEST} bytes", Exit.REFUSED)
     found = opened(signed, asked.keys)
     look_at(found, asked.office)
-    reply = mailed(service, found.text, found.sender)
+    reply = service.mailed(found.text, found.sender)
     print(reply)
     if not is_held(reply):
         return Exit.REFUSED
     keep = asked.keep or asked.keys.resolve().parent / "signed"
-    kept = os.path.join(keep, f"{found.sender}-{hashlib.sha256(found.text).hexdigest()}")
-    try:
+    kept = os.path.join(keep, f"{found.sender}-{digest_of(found.text)}")
+    with ending(Exit.FAILED):
         write_whole(kept, signed)
-    except Fault as fault:
-        raise Fault(fault.cause, Exit.FAILED) from fault
     return 0

@@ -10,7 +10,7 @@ from office_tools.messages import Label
 from office_tools.service import Service
 
 HEAD = re.compile(r"try ([0-9]{1,9}) ([0-9]{4}-[0-9]{2}-[0-9]{2}) (\S+) ([0-9]{1,9}) (.*)")
-CHANGE = re.compile(r"[-+](excuse|update|testing) ")
+CHANGE = re.compile(r"[-+](excuse|update|testing) ")  # a line of excuses, update or testing that comes or goes
 REFUSAL = re.compile(r"\+update ((?:easy|remove) [0-9]{1,9} refuse .*)")
 
 
@@ -26,15 +26,10 @@ class Trial:
     lines: Sequence[str]
 
     @property
-    def changes(self) -> Sequence[str]:
-        """The lines of excuses, update and testing that come or go."""
-        return [line for line in self.lines if CHANGE.match(line)]
-
-    @property
     def doubts(self) -> Sequence[str]:
         """Why the hints are most likely no good: the run refuses one, or decides the same without them."""
         refused = [found[1] for found in map(REFUSAL.fullmatch, self.lines) if found]
-        if not self.changes:
+        if not any(map(CHANGE.match, self.lines)):
             return ["the next run would decide the same without it"]
         return [f"the next run would say: {line}" for line in refused]
 

@@ -2,7 +2,7 @@
 import functools
 import operator
 import re
-from typing import Callable, Mapping
+from typing import Callable, Mapping, Optional
 
 import apt_pkg
 
@@ -25,6 +25,11 @@ def compare(left: str, right: str) -> int:
     office refuses (`is_version`).
     """
     return int(apt_pkg.version_compare(left, right))
+
+
+def same(left: Optional[str], right: Optional[str]) -> bool:
+    """Whether two versions are the same; none is the same as no version."""
+    return left is not None and right is not None and compare(left, right) == 0
 
 
 key = functools.cmp_to_key(compare)

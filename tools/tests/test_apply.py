@@ -9,11 +9,10 @@ import unittest.mock
 from helpers import needs_plan, tool
 from office_tools import reports
 from office_tools.apply import marks
-from office_tools.apply.brakes import Terms
 from office_tools.apply.command import groups_of
 from office_tools.apply.contents import Contents, Indexes, Row, Source, target, wanted
 from office_tools.apply.holding import Evidence
-from office_tools.apply.plans import ask, lacking, listed, plan_to
+from office_tools.apply.plans import Terms, ask, lacking, listed, plan_to
 from office_tools.apply.reprepro import Reprepro
 from office_tools.apply.turn import Turn
 from office_tools.faults import Fault
@@ -372,7 +371,7 @@ class Rules:
     def __init__(self, **needs):
         self.needs = needs
 
-    def broken(self, architecture, packages):
+    def __call__(self, architecture, packages):
         there = {(package.name, package.version) for package in packages}
         return [Broken(package, "its needs", frozenset({other})) for package in packages
                 for other, versions in self.needs.get(f"{package.name}_{package.version}", [])
@@ -437,8 +436,8 @@ class HeldBack(unittest.TestCase):
         """app 1 stays and can't be installed with lone 2, which the judge names; if it names nothing, all stays."""
         class Silent(Rules):
 
-            def broken(self, architecture, packages):
-                return [broken._replace(named=frozenset()) for broken in super().broken(architecture, packages)]
+            def __call__(self, architecture, packages):
+                return [broken._replace(named=frozenset()) for broken in super().__call__(architecture, packages)]
 
         for judge, mta in ((Rules, "mta 2"), (Silent, "mta 1")):
             found = self.applied(("lone 2 lone", "mta 2 mta"), ("app 1 app", "lib 2 lib", "lone 2 lone", "mta 2 mta"),

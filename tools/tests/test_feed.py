@@ -416,7 +416,7 @@ class Rebuilding(Folder):
         with Serving(self.file("setup.conf", SPARE_SETUP)) as office:
             self.service = Service(office.url)
             self.feed(self.BOTH, "--changes", self.path("changes"))
-            for text in (messages.delays(Label("rt", 1), messages.Delays(40, 5, 2, 0)),
+            for text in (messages.message(Label("rt", 1), messages.Kind.DELAYS, ("40", "5", "2", "0")),
                          messages.hint(Label("rt", 2), "block lib")):
                 self.assertTrue(self.service.post("/mail", text).is_good)
             self.feed(once)

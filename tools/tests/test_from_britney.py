@@ -40,6 +40,11 @@ def packages(*rows):
     return "\n".join(parts)
 
 
+def row(architecture, package, version, source=""):
+    """A row of a testing; in britney's no source is known."""
+    return reports.Row(architecture, package, version, source)
+
+
 def sources(*rows):
     """The text of a file Sources."""
     return "\n".join(f"Package: {name}\nVersion: {version}\n" for name, version in rows)
@@ -132,7 +137,7 @@ class Read(unittest.TestCase):
         made(self.place, {"heidi": "app 1-1 amd64 net\napp 1-1 source\n\n", "bad": "app 1-1\n", "none": "app 1 all\n",
                           "version": "app 1_1 source\n"})
         found = compare.read_heidi(os.path.join(self.place, "heidi"))
-        self.assertEqual((found.sources, found.rows), ({"app": "1-1"}, {compare.Row("amd64", "app", "1-1")}))
+        self.assertEqual((found.sources, found.rows), ({"app": "1-1"}, [row("amd64", "app", "1-1")]))
         for name, cause in [("bad", "bad:1: it isn't NAME VERSION ARCHITECTURE: 'app 1-1'"),
                             ("none", "none: it has no source"), ("version", "version:1: '1_1' is no version")]:
             with self.assertRaises(Fault) as raised:
@@ -140,20 +145,19 @@ class Read(unittest.TestCase):
             self.assertEqual((raised.exception.cause, raised.exception.status), (f"{self.place}/{cause}", 3))
 
     def test_compared(self):
-        row = reports.Row
         testing = reports.Testing(1, {"app": "1+b1", "lone": "2", "smooth-libfoo1": "1"}, [
             row("amd64", "app", "1+b1", "app"), row("amd64", "lone", "2", "lone"),
             row("amd64", "libfoo1", "1", "smooth-libfoo1")])
         unstable = reports.Unstable(1, {"new": "1"}, [row("amd64", "new", "1", "new")])
-        britney = compare.Result({"app": "1", "lone": "1", "new": "1", "doc": "3"}, {
-            compare.Row("amd64", "app", "1"), compare.Row("amd64", "lone", "1"), compare.Row("amd64", "new", "1"),
-            compare.Row("amd64", "libfoo1", "1"), compare.Row("amd64", "odd", "1"), compare.Row("s390x", "app", "1")})
+        britney = reports.Testing(0, {"app": "1", "lone": "1", "new": "1", "doc": "3"}, [
+            row("amd64", "app", "1"), row("amd64", "lone", "1"), row("amd64", "new", "1"),
+            row("amd64", "libfoo1", "1"), row("amd64", "odd", "1"), row("s390x", "app", "1")])
         found = compare.compared(britney, testing, unstable)
         self.assertEqual([(entry.source, entry.is_ahead, entry.is_rows_alone) for entry in found.differing],
                          [("app", False, True), ("lone", False, False), ("new", True, False)])
         self.assertEqual(list(found.differing[0].lines()), [
             "app: britney 1, office 1", " britney alone: binary amd64 app 1", " office alone: binary amd64 app 1+b1"])
-        self.assertEqual((found.idle, found.strange), (["doc"], [compare.Row("amd64", "odd", "1")]))
+        self.assertEqual((found.idle, found.strange), (["doc"], [row("amd64", "odd", "1")]))
 
 
 @needs_sync

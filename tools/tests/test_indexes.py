@@ -9,7 +9,7 @@ from unittest import mock
 import helpers  # noqa: F401
 from office_tools import control, messages
 from office_tools.faults import Fault
-from office_tools.feed import indexes
+from office_tools.feed import memory
 from office_tools.from_packages import told
 from office_tools.from_packages.binaries import read_binaries
 from office_tools.from_packages.sources import read_sources
@@ -48,7 +48,7 @@ class Remembered(unittest.TestCase):
 
     def turn(self, path):
         """What is read of a file with and without what is remembered, which have to be the same; and what apt read."""
-        found = indexes.indexes_in(self.folder)
+        found = memory.indexes_in(self.folder)
         asked = []
 
         def counted(name, names):
@@ -56,7 +56,7 @@ class Remembered(unittest.TestCase):
                 asked.append(fields)
                 yield fields
 
-        with mock.patch.object(indexes, "sections", counted):
+        with mock.patch.object(memory, "sections", counted):
             own = self.ended(lambda: read_binaries([path], found.sections))
         found.write()
         plain = self.ended(lambda: read_binaries([path]))
@@ -79,7 +79,7 @@ class Remembered(unittest.TestCase):
     def test_sources(self):
         path = self.file("Sources", SOURCES)
         for _ in range(2):
-            found = indexes.indexes_in(self.folder)
+            found = memory.indexes_in(self.folder)
             self.assertEqual(read_sources([path], [], found.sections), read_sources([path], []))
             found.write()
 
@@ -98,17 +98,17 @@ class Remembered(unittest.TestCase):
     def test_a_damaged_memory(self):
         path = self.file("Packages", PACKAGES)
         self.turn(path)
-        with open(os.path.join(self.folder, indexes.INDEXES), "rb") as file:
+        with open(os.path.join(self.folder, memory.INDEXES), "rb") as file:
             good = file.read()
         for text in (good[:-1], good.replace(b"lib1", b"lib2"), b"", b"{}", b"[" * 5000, good.replace(b"\n", b" ")):
-            self.file(indexes.INDEXES, text)
-            self.assertEqual(indexes.indexes_in(self.folder).before, {})
+            self.file(memory.INDEXES, text)
+            self.assertEqual(memory.indexes_in(self.folder).before, {})
             self.assertEqual(self.turn(path), 2)
 
     def test_a_full_disk(self):
         path = self.file("Packages", PACKAGES)
-        with mock.patch.object(indexes.tempfile, "NamedTemporaryFile", side_effect=OSError(28, "No space left")), \
-                mock.patch.object(indexes, "write_whole", side_effect=Fault("x")):
+        with mock.patch.object(memory.tempfile, "NamedTemporaryFile", side_effect=OSError(28, "No space left")), \
+                mock.patch.object(memory, "write_whole", side_effect=Fault("x")):
             self.assertEqual(self.turn(path), 2)
 
 

@@ -10,7 +10,7 @@ from office_tools import messages, reports
 from office_tools.faults import Fault
 from office_tools.look import judge
 from office_tools.look.blame import Eye, Step
-from office_tools.look.judge import Broken, DoseDebcheck, InstallCheck, Package
+from office_tools.look.judge import Broken, Package, by_dose, by_installcheck
 from office_tools.messages import Label, Urgency
 from office_tools.service import Service
 
@@ -66,10 +66,10 @@ class Judges(unittest.TestCase):
 
     def broken(self, found, said):
         with unittest.mock.patch("office_tools.look.judge.output", return_value=said):
-            return found.broken("amd64", dict.fromkeys((BOTH, CALM, RIVAL, LOST), ""))
+            return found("amd64", dict.fromkeys((BOTH, CALM, RIVAL, LOST), ""))
 
     def test_installcheck(self):
-        both, lost = self.broken(InstallCheck(), SAID)
+        both, lost = self.broken(by_installcheck, SAID)
         self.assertEqual((both.package, lost.package), (BOTH, LOST))
         self.assertEqual(both.cause, "package rival-1:1-1.amd64 conflicts with calm provided by calm-1-1.amd64")
         self.assertLessEqual({"rival-1:1-1.amd64", "calm"}, both.named)
@@ -77,7 +77,7 @@ class Judges(unittest.TestCase):
         self.assertNotIn("needed", lost.named)
 
     def test_dose(self):
-        both, lost = self.broken(DoseDebcheck(), DOSE)
+        both, lost = self.broken(by_dose, DOSE)
         self.assertEqual((both.package, lost.package), (BOTH, LOST))
         self.assertEqual((both.cause, lost.cause), ("conflict: calm:amd64",
                                                     "dependency: nosuch:amd64 (>= 2) | other:amd64"))
@@ -86,15 +86,15 @@ class Judges(unittest.TestCase):
 
     def test_a_package_that_was_not_given(self):
         """What a judge says is never passed over."""
-        for found, said in ((InstallCheck(), SAID.replace("both-1-1", "both-1-2")),
-                            (DoseDebcheck(), DOSE.replace("lost", "last"))):
+        for found, said in ((by_installcheck, SAID.replace("both-1-1", "both-1-2")),
+                            (by_dose, DOSE.replace("lost", "last"))):
             with self.assertRaises(Fault) as raised:
                 self.broken(found, said)
             self.assertEqual(raised.exception.status, 4)
 
     def test_the_judges_that_are_installed(self):
         with unittest.mock.patch("shutil.which", side_effect=lambda name: name if name == judge.DOSE else None):
-            self.assertEqual(judge.judge(), DoseDebcheck())
+            self.assertEqual(judge.judge(), by_dose)
         with unittest.mock.patch("shutil.which", return_value=None):
             self.assertIsNone(judge.judge())
 
@@ -113,7 +113,7 @@ class Blame(unittest.TestCase):
         """The parts of what is found if the judge says that these are broken after the run, and none before."""
         class Judge:
 
-            def broken(self, architecture, packages):
+            def __call__(self, architecture, packages):
                 return [item for item in broken if item.package in packages]
 
         packages = [Package(*line.split(), "amd64") for line in (*before, *after)]
@@ -141,7 +141,7 @@ class Blame(unittest.TestCase):
     def test_what_was_broken_before(self):
         class Judge:
 
-            def broken(self, architecture, packages):
+            def __call__(self, architecture, packages):
                 return [item for item in (Blame.DUET,) if item.package in packages]
 
         eye = Eye(Judge(), dict.fromkeys([Package("duet", "1", "amd64"), Package("fine", "1", "amd64")], ""))

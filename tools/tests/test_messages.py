@@ -6,7 +6,7 @@ import unittest
 from helpers import SETUP, TOP, example, needs_office, office
 from office_tools import bags, messages
 from office_tools.faults import Fault
-from office_tools.messages import (Delays, Kind, Label, ParagraphCause, ParagraphFault, Range, Role, Severity, Urgency,
+from office_tools.messages import (Kind, Label, ParagraphCause, ParagraphFault, Range, Role, Severity, Urgency,
                                    paragraphs)
 
 with open(os.path.join(TOP, "docs/RULES.md"), encoding="utf-8") as file:
@@ -127,7 +127,7 @@ def made():
                                    "age-days 3 foo/1.0-1", "remove foo/1.0-1", "block-all source"), 1):
         yield messages.hint(Label("rt", number), wish)
     yield messages.unhint(Label("rt", 7), 1)
-    yield messages.delays(Label("rt", 8), Delays(20, 6, 3, 1))
+    yield messages.message(Label("rt", 8), Kind.DELAYS, ("20", "6", "3", "1"))
     yield messages.run(Label("clock", 1), "2025-03-06", {"rt": 8, "bts": 0, "ftp": 2})
 
 

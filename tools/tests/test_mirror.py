@@ -8,7 +8,7 @@ from helpers import Serving, example, needs_office, tool
 from office_tools import bags
 from office_tools.mirror import held
 from office_tools.mirror.held import Numbers
-from office_tools.mirror.turn import Source, Turn, joined
+from office_tools.mirror.turn import Turn, joined
 from office_tools.service import Service
 
 TEXTS = list(bags.messages_in(example("archive.bag")))
@@ -138,7 +138,7 @@ class Mirror(unittest.TestCase):
                 raise KeyboardInterrupt
 
         with self.assertRaises(KeyboardInterrupt):
-            Turn(print, save).to_office(Source(self.services[0]), self.services[1], found)
+            Turn(print, save).to_office(self.services[0], self.services[1], found)
         self.assertEqual(held.read(path), {"clock": Numbers(), "ftp": Numbers(), "bd": numbers(*range(1, 201))})
         self.assertEqual(self.turn("--state", self.state), ("office-mirror: B: sent 50\n", 0))
 

@@ -18,7 +18,7 @@ from helpers import EXAMPLES, example, needs_office, office, Serving, SETUP, too
 from pages_office import EXCUSES, FakeOffice, routes, RUNS, TESTING, UPDATES
 from office_tools import bags, faults, reports
 from office_tools.pages import command, hints, parts, site, verdicts
-from office_tools.pages.patterns import Patterns
+from office_tools.pages.look import Patterns
 
 MANY = 1500  # sources of the test that kills the command
 

@@ -14,7 +14,7 @@ import helpers  # noqa: F401 (it puts the package into the path)
 from pages_office import FakeOffice
 from office_tools.faults import Fault
 from office_tools.pages import atom, britney_yaml, command, day_pages, people, plots
-from office_tools.pages.changes import Kind, changes_of
+from office_tools.pages.change_pages import Kind, changes_of
 from office_tools.pages.kept_mail import Person
 from office_tools.pages.state import Event
 from office_tools.pages.waits import ends_of, waits_of

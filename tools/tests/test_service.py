@@ -7,7 +7,7 @@ import threading
 import unittest
 
 from helpers import Serving, example, needs_office
-from office_tools import bags, mailing
+from office_tools import bags
 from office_tools.faults import Fault
 from office_tools.letters import letters
 from office_tools.reports import Hints
@@ -108,9 +108,9 @@ class Offices(unittest.TestCase):
             builds = [text for text in texts if text.startswith(b"From: bd\n")]
             self.assertEqual([text for _, text in letters(service, "bd", 2)], builds[1:])
             self.assertEqual(service.proposed(), "")
-            self.assertEqual(mailing.verdict(service, texts[0]), "held ftp 1")
-            self.assertEqual(mailing.verdict(service, texts[0] + b"X: y\n"), "refused OtherText")
-            self.assertEqual(mailing.verdict(service, b""), "refused MissingField From")
+            self.assertEqual(service.verdict(texts[0]), "held ftp 1")
+            self.assertEqual(service.verdict(texts[0] + b"X: y\n"), "refused OtherText")
+            self.assertEqual(service.verdict(b""), "refused MissingField From")
 
     @needs_office
     def test_labels_of_kept_mail(self):
@@ -120,7 +120,7 @@ class Offices(unittest.TestCase):
         with Serving() as serving:
             service = Service(serving.url)
             for number, begin in enumerate(begins, 1):
-                reply = mailing.replied(service, "/mail", begin + b"Kind: hint\nHint: block app\n")
+                reply = service.replied("/mail", begin + b"Kind: hint\nHint: block app\n")
                 self.assertEqual(reply, f"held rt {number}")
             self.assertEqual([label for label, _ in letters(service, "rt")],
                              [("rt", number) for number in range(1, len(begins) + 1)])
@@ -132,7 +132,7 @@ class Offices(unittest.TestCase):
             with self.assertRaisesRegex(Fault, r"/none: 404: refused NoRoute: it is an office of an earlier version"):
                 service.good("/none")
             with self.assertRaisesRegex(Fault, r"/none: 404: refused NoRoute: it is an office of an earlier version"):
-                mailing.replied(service, "/none", b"")
+                service.replied("/none", b"")
 
 
 if __name__ == "__main__":

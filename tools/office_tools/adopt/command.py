@@ -7,18 +7,16 @@ from typing import Sequence
 
 from office_tools import bags, days, faults, messages, program
 from office_tools.adopt.rows import adoptable
-from office_tools.apply.brakes import named
 from office_tools.apply.contents import Contents, Indexes, target, wanted
 from office_tools.apply.holding import without_source
-from office_tools.apply.plans import plan_to
+from office_tools.apply.plans import named, plan_to
 from office_tools.apply.published import read_indexes
 from office_tools.apply.turn import tell_alone
 from office_tools.faults import Fault
 from office_tools.feed.known import LOW_DAYS, Known
 from office_tools.files import write_whole
 from office_tools.from_packages import mail, told
-from office_tools.from_packages.index import Index, read_index
-from office_tools.from_packages.sources import Arrival
+from office_tools.from_packages.sources import Arrival, Index, read_index
 from office_tools.messages import Urgency, numbered
 from office_tools.senders import HINTS
 

@@ -5,8 +5,8 @@ from typing import Mapping, Sequence
 
 from office_tools import relations, versions
 from office_tools.from_packages.binaries import Binary, Key
-from office_tools.from_packages.index import Index
-from office_tools.from_packages.suites import Suite, Suites
+from office_tools.from_packages.sources import Index
+from office_tools.from_packages.suites import Suites
 from office_tools.from_packages.told import tell
 from office_tools.relations import Clause
 
@@ -38,7 +38,7 @@ def lifted(binaries: Sequence[Binary], current: Mapping[str, str]) -> tuple[Sequ
     moved: list[Binary] = []
     for binary in binaries:
         version = current[binary.source]
-        if versions.compare(version, binary.source_version) != 0:
+        if not versions.same(version, binary.source_version):
             moved.append(binary)
             fields = {**binary.fields, "Source": f"{binary.source} ({version})"}
             binary = dataclasses.replace(binary, source_version=version, fields=fields)
@@ -75,12 +75,8 @@ def unmet(suites: Suites) -> Sequence[Stripped]:
     for binary, suite in bad:
         watched[id(suite)].add(binary.key)
     return [(binary, clause) for binary, suite in bad for clause in dict.fromkeys(binary.clauses)
-            if not suite.left[clause] and not meets_later(suite, clause, watched[id(suite)])]
-
-
-def meets_later(suite: Suite, clause: Clause, watched: set[Key]) -> bool:
-    """Whether one of these packages meets a clause, once it can be installed."""
-    return any(suite.binaries[place].key in watched for place in suite.meeting[clause])
+            if not suite.left[clause]
+            and not any(suite.binaries[place].key in watched[id(suite)] for place in suite.meeting[clause])]
 
 
 def without(binary: Binary, clauses: set[Clause]) -> Binary:

@@ -9,7 +9,7 @@ from typing import Sequence
 from office_tools.apply.contents import Contents, Indexes, Row, Source
 from office_tools.apply.managers import Manager, parts, run
 from office_tools.apply.published import source_of
-from office_tools.faults import Exit, Fault
+from office_tools.faults import Exit, Fault, ending
 from office_tools.files import read_bytes
 
 FORMAT = "{{.ShortKey}} {{.Source}}"
@@ -54,10 +54,8 @@ class Aptly(Manager):
 
     def shown(self, repository: str) -> str:
         """What aptly prints of a repository; a missing one is refused."""
-        try:
+        with ending(Exit.REFUSED):
             return self.aptly("repo", "show", repository)
-        except Fault as fault:
-            raise Fault(fault.cause, Exit.REFUSED) from fault
 
     def search(self, repository: str, query: str) -> Sequence[str]:
         """The lines by which aptly prints the packages that a query finds."""

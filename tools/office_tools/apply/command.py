@@ -5,25 +5,23 @@ import os
 from typing import Optional, Sequence
 
 from office_tools import faults, reports
-from office_tools.accounts import service_at
-from office_tools.apply import heidi, marks
+from office_tools.apply import marks
 from office_tools.apply.aptly import Aptly
-from office_tools.apply.brakes import Terms
 from office_tools.apply.contents import ALL, Contents, Indexes, Target, check_taken, target, wanted
 from office_tools.apply.holding import Evidence, Groups
 from office_tools.apply.managers import Manager
-from office_tools.apply.plans import plan_to
-from office_tools.apply.published import is_whole, packages_of, read_folder, read_indexes, read_release
+from office_tools.apply.plans import Plan, Terms, plan_to
+from office_tools.apply.published import (heidi_of, is_whole, packages_of, read_folder, read_heidi, read_indexes,
+                                          read_release)
 from office_tools.apply.reprepro import Reprepro
 from office_tools.apply.turn import Turn, counts, tell_alone
 from office_tools.control import raw_sections
 from office_tools.counts import count
 from office_tools.faults import Exit, Fault
-from office_tools.files import read_bytes, write_whole
-from office_tools.folders import locked
+from office_tools.files import decoded, locked, read_bytes, write_whole
 from office_tools.look.judge import judge, read_known
 from office_tools.reports import Outcome
-from office_tools.service import DEFAULT_URL, Service
+from office_tools.service import DEFAULT_URL, Service, service_at
 
 NAME = "office-apply"
 PUBLIC = "."
@@ -84,10 +82,7 @@ def testing_of(url: Optional[str], path: Optional[str]) -> reports.Testing:
     """What is in the office's testing."""
     if path is None:
         return service_at(url or DEFAULT_URL).testing()
-    try:
-        return reports.read_testing(read_bytes(path).decode(), path)
-    except UnicodeDecodeError as fault:
-        raise Fault(f"{path}: it is no text in UTF-8") from fault
+    return reports.read_testing(decoded(path, read_bytes(path)), path)
 
 
 def groups_of(service: Optional[Service], finished: int) -> Groups:
@@ -113,7 +108,7 @@ def to_heidi(testing: reports.Testing, path: str, published: Optional[Contents],
     `office-plan` gets as the target.
     """
     want = wanted(testing, sorted({row.architecture for row in testing.rows}), Indexes.ONCE)
-    before = heidi.read(path)
+    before = read_heidi(path)
     check_taken(want, before)
     if published is None:
         goal, have = Target(want, want), before
@@ -125,13 +120,13 @@ def to_heidi(testing: reports.Testing, path: str, published: Optional[Contents],
     if published is not None and not published.sources:
         raise Fault("there is no file Sources: what is left alone would leave the suite", Exit.REFUSED)
     due = goal.contents
-    come, go = due.without(before), before.without(due)
-    is_same = come.is_empty and go.is_empty and os.path.exists(path)
+    found = Plan(due.without(before), before.without(due))
+    is_same = found.is_empty and os.path.exists(path)
     if not is_dry and not is_same:
-        write_whole(path, heidi.written(due))
-    for line in (*(f"came: {line}" for line in come.lines()), *(f"went: {line}" for line in go.lines())):
+        write_whole(path, heidi_of(due))
+    for line in found.lines("came", "went"):
         print(line)
-    print(f"testing {testing.finished}: {counts(due)}; came {counts(come)}; went {counts(go)}")
+    print(f"testing {testing.finished}: {counts(due)}; came {counts(found.come)}; went {counts(found.go)}")
     return int(is_dry and not is_same)
 
 

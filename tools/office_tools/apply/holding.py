@@ -122,7 +122,7 @@ class Holding:
                     if row.place in (architecture, ALL)}
         watched = (architecture, ALL) if architecture == self.evidence.architectures[0] else (architecture,)
         there = {package: text for package, text in packages.items() if text is not None}
-        found = {broken.package: broken for broken in self.evidence.judge.broken(architecture, there)}
+        found = {broken.package: broken for broken in self.evidence.judge(architecture, there)}
         found.update((package, Broken(package, "no index has it", frozenset()))
                      for package, text in packages.items() if text is None)
         return {package: broken for package, broken in found.items() if package.architecture in watched}

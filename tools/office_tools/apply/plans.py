@@ -4,6 +4,8 @@ It is proved that after the plan of three lists the suite has what the target ha
 (office-plan(1)). A list has one version of a name on an architecture. A suite may have more: then the others have lines
 of their own, whose architecture says which version they are. Where the manager has packages of `all` in each index,
 their architecture says in which.
+
+The program also refuses to take much out of a suite, or to take something back. It is told here how much is allowed.
 """
 from dataclasses import dataclass
 from typing import Iterable, Iterator, Mapping, Optional, Sequence
@@ -11,8 +13,12 @@ from typing import Iterable, Iterator, Mapping, Optional, Sequence
 from office_tools import versions
 from office_tools.apply.contents import Contents, Item, Source, Target, contents_of
 from office_tools.deciding import MOST, SOURCE, Program
+from office_tools.faults import Exit, Fault, some
 
 PLAN = Program("office-plan")
+MOST_GONE = 40  # packages and sources
+SHARE_GONE = 50  # one of this many is 2 %
+SHOWN = 10  # names in a sentence
 
 Key = tuple[str, str]
 """An architecture, or `source`, and a name."""
@@ -30,10 +36,10 @@ class Plan:
         """Whether the suite is what it is to be."""
         return self.come.is_empty and self.go.is_empty
 
-    def lines(self) -> Iterator[str]:
+    def lines(self, come: str = "missing", go: str = "too much") -> Iterator[str]:
         """A line for each source and each row that differs."""
-        yield from ("missing: " + line for line in self.come.lines())
-        yield from ("too much: " + line for line in self.go.lines())
+        yield from (f"{come}: {line}" for line in self.come.lines())
+        yield from (f"{go}: {line}" for line in self.go.lines())
 
 
 @dataclass(frozen=True)
@@ -149,3 +155,45 @@ def plan_to(goal: Target, have: Contents) -> Plan:
     if found is None:
         raise PLAN.fault("it has no plan where all can be copied")
     return found
+
+
+@dataclass(frozen=True)
+class Terms:
+    """What is allowed: how much may leave for good, if that is stated, and whether versions may go lower."""
+
+    gone: Optional[int] = None
+    back: bool = False
+
+    def plan(self, goal: Target, have: Contents, origin: Contents) -> Plan:
+        """The plan for a suite; what isn't allowed is refused.
+
+        What was sent under a mark, as another version of the archive, counts as that mark says: it was allowed before.
+        """
+        lists = listed(goal, have, origin)
+        gone = max(MOST_GONE, len(lists.first) // SHARE_GONE) if self.gone is None else self.gone
+        found = ask(lists, gone, self.back)
+        if found.lower:
+            check_back(lists, found.lower, goal.want)
+            found = ask(lists, gone, True)
+        if found.leaving:
+            names = named(sorted(f"{name} {architecture}" for architecture, name in lists.gone))
+            raise Fault(f"{found.leaving} of {len(lists.first)} packages and sources would leave testing: {names}: "
+                        f"nothing is changed unless --gone {found.leaving} allows it", Exit.REFUSED)
+        if found.plan is None:
+            raise Fault(f"there is nothing to copy from: {named(list(found.lacks.lines()))}", Exit.REFUSED)
+        return found.plan
+
+
+def check_back(lists: Lists, lower: Sequence[Item], want: Contents) -> None:
+    """Refuses lower versions, except those that were sent as a greater one."""
+    back = {f"{item.name} {lists.first[key_of(item)].version} to {item.version}" for item in lower
+            if versions.compare(lists.first[key_of(item)].version, want.sent.get(item, item.version)) > 0}
+    if back:
+        raise Fault(f"testing would go back to lower versions: {named(sorted(back))}: if the office's store was "
+                    "restored, send its mail again (office-feed --restore); nothing is changed unless --back allows it",
+                    Exit.REFUSED)
+
+
+def named(names: Sequence[str]) -> str:
+    """The first of many names, and how many more there are."""
+    return some(names, SHOWN)

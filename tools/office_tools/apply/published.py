@@ -1,14 +1,18 @@
-"""The indexes of a suite as they are published: what they have, and whether they are whole."""
+"""The indexes of a suite as they are published: what they have, and whether they are whole.
+
+dak publishes a suite as a file HeidiResult sets it.
+"""
 import hashlib
 import os
 from typing import Optional, Sequence
 
 from debian import deb822
 
-from office_tools import relations
+from office_tools import relations, versions
 from office_tools.apply.contents import Contents, Indexes, Row, Source
 from office_tools.control import sections
-from office_tools.faults import Fault, cause_of
+from office_tools.deciding import SOURCE
+from office_tools.faults import Exit, Fault, cause_of
 from office_tools.files import read_bytes
 
 SUFFIXES = ("", ".gz", ".xz", ".bz2", ".zst", ".lz4", ".lzma")
@@ -120,3 +124,28 @@ def read_release(folder: str) -> Optional[Stated]:
         if os.path.basename(stem) in ("Packages", "Sources") and suffix in SUFFIXES and "debian-installer" not in stem:
             found.setdefault(stem, {})[name] = entry["sha256"]
     return found
+
+
+def heidi_of(contents: Contents) -> bytes:
+    """The text of a file HeidiResult: a line `NAME VERSION ARCHITECTURE` for each package and source."""
+    lines = sorted(f"{row.name} {row.version} {row.architecture}\n" for row in contents.rows)
+    lines += sorted(f"{source.name} {source.version} {SOURCE}\n" for source in contents.sources)
+    return "".join(lines).encode()
+
+
+def read_heidi(path: str) -> Contents:
+    """What such a file has; nothing if there is none."""
+    if not os.path.exists(path):
+        return Contents()
+    sources: set[Source] = set()
+    rows: set[Row] = set()
+    for number, line in enumerate(read_bytes(path).decode(errors="backslashreplace").splitlines(), 1):
+        words = line.split()
+        if len(words) != 3 or not versions.is_version(words[1]):
+            raise Fault(f"{path}:{number}: it isn't PACKAGE VERSION ARCHITECTURE", Exit.REFUSED)
+        name, version, architecture = words
+        if architecture == SOURCE:
+            sources.add(Source(name, version))
+        else:
+            rows.add(Row(architecture, architecture, name, version))
+    return Contents(frozenset(sources), frozenset(rows))

@@ -5,7 +5,7 @@ from typing import Iterator, Optional, Sequence
 
 from office_tools.apply.contents import Contents, Indexes, Row, Source
 from office_tools.apply.managers import Manager, parts, run
-from office_tools.faults import Exit, Fault
+from office_tools.faults import Exit, Fault, ending
 
 LIST = r"${$architecture} ${$type} ${package} ${version} ${$source} ${$sourceversion} ${architecture}\n"
 PUBLISH_LATER = ("--export=silent-never", "--keepunreferencedfiles")
@@ -38,10 +38,8 @@ class Reprepro(Manager):
     def architectures(self) -> Sequence[str]:
         if not os.path.isdir(os.path.join(self.base, "conf")):
             raise Fault(f"{self.base}: it is no archive of reprepro: it has no folder conf", Exit.REFUSED)
-        try:
+        with ending(Exit.REFUSED):
             told = [self.reprepro("_listconfidentifiers", suite) for suite in (self.testing_name, self.origin_name)]
-        except Fault as fault:
-            raise Fault(fault.cause, Exit.REFUSED) from fault
         suites = [{line.split("|")[-1] for line in part.splitlines()} for part in told]
         for name, found in zip((self.testing_name, self.origin_name), suites):
             if not found:

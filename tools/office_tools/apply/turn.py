@@ -1,14 +1,13 @@
 """One turn of office-apply: testing becomes what the office wants, as far as the archive has it, or stays as it is."""
 from dataclasses import dataclass, field
-from typing import Callable, Iterator, Mapping, Sequence
+from typing import Callable, Mapping, Sequence
 
 from office_tools import reports
-from office_tools.apply.brakes import Terms, named
 from office_tools.apply.contents import Contents, Item, Target, check_taken, target, wanted
 from office_tools.apply.holding import Evidence, Held, Holding, incomplete, without_source
 from office_tools.apply.managers import Manager
-from office_tools.apply.plans import Plan, lacking, plan_to
-from office_tools.faults import Exit, Fault
+from office_tools.apply.plans import Plan, Terms, lacking, named, plan_to
+from office_tools.faults import Exit, Fault, ending
 
 
 @dataclass(frozen=True)
@@ -45,7 +44,7 @@ class Turn:
         """Shows what would change: status 0 if nothing would."""
         work = self.work()
         plan = plan_to(work.goal, work.have)
-        for line in moves(plan, "would come", "would go"):
+        for line in plan.lines("would come", "would go"):
             self.show(line)
         self.terms.plan(work.goal, work.have, work.origin)
         if plan.is_empty and not self.manager.is_published(work.have):
@@ -75,7 +74,7 @@ class Turn:
             self.tell("testing isn't published: it isn't what the office wants")
             return Exit.NEGATIVE
         self.publish(work.have)
-        for line in moves(first, "came", "went"):
+        for line in first.lines("came", "went"):
             self.show(line)
         self.show(f"testing {self.testing.finished}: {counts(work.goal.want)}; came {counts(first.come)}; "
                   f"went {counts(first.go)}{work.held_back}")
@@ -84,10 +83,8 @@ class Turn:
     def again(self, work: Work) -> tuple[Work, Plan]:
         """The plan over what testing has now. What is refused now wasn't before: something else changed testing."""
         found = work.over(self.manager.testing())
-        try:
+        with ending(Exit.FAILED, "testing isn't published: "):
             return found, self.terms.plan(found.goal, found.have, found.origin)
-        except Fault as fault:
-            raise Fault(f"testing isn't published: {fault.cause}", Exit.FAILED) from fault
 
     def publish(self, have: Contents) -> None:
         """Publishes testing, if clients see something else."""
@@ -135,12 +132,6 @@ class Turn:
             self.tell(f"the manager didn't copy {line}")
         if lines:
             raise Fault("nothing is taken out of testing, and nothing is published", Exit.FAILED)
-
-
-def moves(plan: Plan, come: str, go: str) -> Iterator[str]:
-    """A line for each source and each row that comes or goes."""
-    yield from (f"{come}: {line}" for line in plan.come.lines())
-    yield from (f"{go}: {line}" for line in plan.go.lines())
 
 
 def tell_alone(goal: Target, tell: Callable[[str], None]) -> None:

@@ -4,12 +4,10 @@ import re
 import sys
 from typing import Callable, Mapping, Sequence
 
-from office_tools.accounts import service_at
-from office_tools.ask.answer import Answer
-from office_tools.ask.copy import Copy
+from office_tools.ask.copy import Answer, Copy
 from office_tools.ask.questions import Next, Questions, path_of
 from office_tools.days import day
-from office_tools.service import DEFAULT_URL
+from office_tools.service import DEFAULT_URL, service_at
 
 CONF = "/etc/office/setup.conf"
 SECONDS = 600.0  # a proposal over a large archive takes long, and the service answers one request at a time

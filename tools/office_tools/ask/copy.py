@@ -1,14 +1,23 @@
 """A copy of a running office: the questions that no route answers are put to the program over all mail it keeps."""
 import os
 import tempfile
+from dataclasses import dataclass
 from typing import Optional, Sequence
 
 from office_tools import bags, program, setups
-from office_tools.ask.answer import Answer
-from office_tools.faults import Exit, Fault
+from office_tools.faults import Exit, Fault, ending
 from office_tools.letters import letters
 from office_tools.senders import in_turn
 from office_tools.service import Service
+
+
+@dataclass(frozen=True)
+class Answer:
+    """What a command prints, and its status: the bytes for standard output, and lines for standard error."""
+
+    text: bytes
+    status: int = 0
+    told: str = ""
 
 
 class Copy:
@@ -29,11 +38,8 @@ class Copy:
 
     def check_setup(self) -> None:
         """A setup that can't be read, or that has other senders than the office, is a `Fault` of status 4."""
-        try:
+        with ending(Exit.FAILED, "no route answers this: it needs the program and the office's setup (--conf): "):
             setup = setups.read_setup(self.conf)
-        except Fault as fault:
-            raise Fault(f"no route answers this: it needs the program and the office's setup (--conf): {fault.cause}",
-                        Exit.FAILED) from fault
         if list(setup.senders) != list(self.service.kept()):
             raise Fault(f"{self.conf}: the office has other senders: {' '.join(self.service.kept())}", Exit.FAILED)
 
@@ -44,9 +50,9 @@ class Copy:
     def ask_store(self, words: Sequence[str]) -> Answer:
         """What a command prints that needs a store: a temporary one, of all mail."""
         with tempfile.TemporaryDirectory() as folder:
-            over = ["--conf", self.conf, "--db", os.path.join(folder, "store.db")]
-            program.output(["replay", *over], self.bag())
-            return answer_of([*words, *over])
+            store = program.Store(self.conf, os.path.join(folder, "store.db"))
+            program.output(["replay", *store.words], self.bag())
+            return answer_of([*words, *store.words])
 
 
 def answer_of(words: Sequence[str], given: bytes = b"") -> Answer:

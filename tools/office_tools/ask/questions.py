@@ -8,8 +8,7 @@ import re
 from dataclasses import dataclass
 from typing import Optional, Sequence
 
-from office_tools.ask.answer import Answer
-from office_tools.ask.copy import Copy
+from office_tools.ask.copy import Answer, Copy
 from office_tools.faults import Exit, Fault
 from office_tools.service import Reply, Service
 from office_tools.trials import lines_of

@@ -67,7 +67,7 @@ class Verdicts:
             return
         source, version = result.trigger.source, result.trigger.version
         is_older = result.package == source and versions.compare(result.version, version) < 0
-        if self.version(source) is not None and is_same(self.version(source), version) and not is_older:
+        if versions.same(self.version(source), version) and not is_older:
             self.outcomes[Test(source, result.package, result.architecture)].add(result.outcome)
 
     def version(self, source: str) -> Optional[str]:
@@ -86,11 +86,6 @@ class Verdicts:
         if before is not None and before.outcome is Outcome.FAIL:
             return Verdict.FAILS_BEFORE
         return Verdict.REGRESSION if found else Verdict.NONE
-
-
-def is_same(left: Optional[str], right: str) -> bool:
-    """Whether both are the same version."""
-    return left is not None and versions.compare(left, right) == 0
 
 
 @dataclass(frozen=True)

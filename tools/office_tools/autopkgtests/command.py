@@ -2,12 +2,11 @@
 import argparse
 from typing import Sequence
 
-from office_tools.accounts import service_at
 from office_tools.autopkgtests.changes import TEST, changes, verdicts_of
 from office_tools.autopkgtests.results import read_results
 from office_tools.bugs.kept import mail_changes, own_of, read_book
 from office_tools.faults import tell
-from office_tools.service import DEFAULT_URL
+from office_tools.service import DEFAULT_URL, service_at
 
 NAME = "office-tests"
 

@@ -7,7 +7,7 @@ from typing import Any, Iterator, Mapping, NoReturn, Optional, Sequence
 
 from office_tools import relations, versions
 from office_tools.addresses import read_named
-from office_tools.faults import Exit, Fault
+from office_tools.faults import Exit, Fault, ending
 
 REFERENCE = "migration-reference/0"
 """What triggers a test of testing as it is, by the word of britney and debci."""
@@ -52,12 +52,12 @@ class Result:
 
 def read_results(path: str, testing: str) -> Sequence[Result]:
     """The results in a file or at a URL, where `testing` is testing's name for debci. Any other text is refused."""
+    with ending(Exit.REFUSED):
+        data = read_named(path)
     try:
-        told = json.loads(read_named(path))
+        told = json.loads(data)
     except (ValueError, RecursionError) as fault:
         raise Fault(f"{path}: it is no JSON", Exit.REFUSED) from fault
-    except Fault as fault:
-        raise Fault(fault.cause, Exit.REFUSED) from fault
     reader = Reader(path, testing)
     if isinstance(told, list):
         return list(reader.of_debci(told))

@@ -2,13 +2,12 @@
 import argparse
 from typing import Sequence
 
-from office_tools.accounts import service_at
 from office_tools.bugs.changes import LISTED, Change, Lists, changes, read_pairs
 from office_tools.bugs.kept import Book, mail_changes, own_of, read_book
 from office_tools.bugs.lists import names_of, read_list
 from office_tools.counts import count
 from office_tools.faults import Exit, Fault, some, tell
-from office_tools.service import DEFAULT_URL
+from office_tools.service import DEFAULT_URL, service_at
 
 NAME = "office-bugs"
 MOST_CLOSED, SHARE = 20, 10

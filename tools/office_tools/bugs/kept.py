@@ -11,9 +11,8 @@ from office_tools import versions
 from office_tools.bags import bag_of
 from office_tools.faults import Exit, Fault, tell
 from office_tools.letters import letters
-from office_tools.mailing import mail_all
 from office_tools.messages import Kind, Label, Paragraph, Range, Role, Severity, kind_of, paragraphs
-from office_tools.roles import sender_of
+from office_tools.senders import sender_of
 from office_tools.service import Service
 
 CRITICAL = {Severity.CRITICAL.value, Severity.GRAVE.value, Severity.SERIOUS.value}
@@ -145,8 +144,8 @@ def mail_changes(service: Service, book: Book, found: Sequence[Changed], name: s
         sys.stdout.buffer.write(bag_of(texts))
         tell(name, summary)
         return int(bool(texts))
-    mail_all(service, texts, lambda reply: ": another process sends as this sender: run it again"
-             if reply == "refused OtherText" else "")
+    service.mail_all(texts, lambda reply: ": another process sends as this sender: run it again"
+                     if reply == "refused OtherText" else "")
     for change in found:
         print(change.line())
     print(summary)

@@ -7,7 +7,8 @@ from typing import Iterator, Mapping, Sequence
 from office_tools import reports
 from office_tools.addresses import read_named
 from office_tools.apply import marks
-from office_tools.faults import Exit, Fault
+from office_tools.faults import Exit, Fault, ending
+from office_tools.files import decoded
 
 LINE = re.compile(r"(\S+)[ \t]+([0-9]+(?:,[0-9]+)*)[ \t\r]*")
 OF_SOURCE = "src:"
@@ -23,12 +24,8 @@ def read_list(path: str) -> Sequence[Entry]:
     A line of another form is refused, since the bugs that it states would count as closed. So is a last line without
     an end: such a file was cut off.
     """
-    try:
-        text = read_named(path).decode()
-    except UnicodeDecodeError as fault:
-        raise Fault(f"{path}: it is no text in UTF-8", Exit.REFUSED) from fault
-    except Fault as fault:
-        raise Fault(fault.cause, Exit.REFUSED) from fault
+    with ending(Exit.REFUSED):
+        text = decoded(path, read_named(path))
     if text and not text.endswith("\n"):
         raise Fault(f"{path}: its last line has no end: the file was cut off", Exit.REFUSED)
     found: list[Entry] = []

@@ -2,16 +2,16 @@
 import argparse
 import datetime
 import functools
+import os
 from typing import Mapping, Optional, Sequence
 
 from office_tools import days, faults
-from office_tools.accounts import service_at
 from office_tools.day.settings import read_settings
-from office_tools.day.standing import Line, memory, standing, waiting
+from office_tools.day.standing import MEMORY, Line, Memory, standing, waiting
 from office_tools.day.steps import Ran, Steps
 from office_tools.faults import Exit, Fault
-from office_tools.folders import locked, made
-from office_tools.service import Service
+from office_tools.files import locked, made
+from office_tools.service import Service, service_at
 
 NAME = "office-day"
 CONF = "/etc/office/day.conf"
@@ -83,8 +83,10 @@ def main(words: Sequence[str]) -> int:
     locked(made(settings.state), NAME)
     service = service_at(settings.url)
     today = asked.day or days.today()
-    kept = memory(settings.state, today)
-    steps = Steps(settings, asked.day.isoformat() if asked.day else None, quiet if asked.summary else watched)
+    kept = Memory(os.path.join(settings.state, MEMORY), today)
+    kept.read()
+    watch = (lambda ran: None) if asked.summary else watched
+    steps = Steps(settings, asked.day.isoformat() if asked.day else None, watch)
     fault: Optional[Fault] = None
     try:
         status = steps.run(service.status().finished > 0)
@@ -101,7 +103,3 @@ def main(words: Sequence[str]) -> int:
             tell(f"stands still: {line}")
         print(f"{today}: {TITLES[status]}")
     return status
-
-
-def quiet(ran: Ran) -> None:
-    """Prints nothing of a step: the summary has it."""

@@ -9,10 +9,9 @@ from office_tools.apply.command import manager_of, parser
 from office_tools.autopkgtests import command as autopkgtests
 from office_tools.bugs import command as bugs
 from office_tools.counts import count
-from office_tools.faults import Exit, Fault
-from office_tools.files import read_bytes
-from office_tools.folders import cache_of
-from office_tools.messages import ParagraphFault, paragraphs
+from office_tools.faults import Exit, Fault, ending
+from office_tools.files import cache_of, read_bytes
+from office_tools.messages import paragraphs
 from office_tools.service import DEFAULT_URL
 
 FIELDS = ("Url", "Setup", "State", "Pull", "Feed", "Bugs", "Tests", "Apply", "Look", "Propose", "Patience")
@@ -42,12 +41,10 @@ class Settings:
 
 def read_settings(path: str, more: dict[str, Sequence[str]], left_out: Sequence[str] = ()) -> Settings:
     """The settings that a file states; `more` has further words of steps, and `left_out` steps of this day."""
-    try:
-        found = list(paragraphs(read_bytes(path)))
-    except ParagraphFault as fault:
-        raise Fault(f"{path}: {fault.cause}", Exit.USAGE) from fault
-    except Fault as fault:
-        raise Fault(fault.cause, Exit.USAGE) from fault
+    with ending(Exit.USAGE):
+        text = read_bytes(path)
+    with ending(Exit.USAGE, f"{path}: "):
+        found = list(paragraphs(text))
     if len(found) != 1:
         raise Fault(f"{path}: it has {len(found)} paragraphs, and has to have one", Exit.USAGE)
     for entry in found[0].fields:
@@ -64,7 +61,9 @@ def read_settings(path: str, more: dict[str, Sequence[str]], left_out: Sequence[
     taken(path, "Bugs", bugs.parser(), words["Bugs"])
     taken(path, "Tests", autopkgtests.parser(), words["Tests"])
     url = values["Url"] or DEFAULT_URL
-    return Settings(url, values["Setup"] or SETUP, values["State"] or state_for(url), words["Pull"], words["Feed"],
+    # Without the field it is the unit's folder, or one in the user's cache.
+    state = values["State"] or os.environ.get("STATE_DIRECTORY") or cache_of("office-day", url)
+    return Settings(url, values["Setup"] or SETUP, state, words["Pull"], words["Feed"],
                     words["Apply"], words["Look"] or folders(path, words["Apply"]), words["Bugs"], words["Tests"],
                     is_yes(path, values["Propose"]), number(path, values["Patience"]), more, left_out)
 
@@ -112,8 +111,3 @@ def number(path: str, value: Optional[str]) -> int:
         return PATIENCE if value is None else count(value)
     except ValueError as fault:
         raise Fault(f"{path}: Patience: it is a number of days, of at most nine digits", Exit.USAGE) from fault
-
-
-def state_for(url: str) -> str:
-    """The folder of what is remembered: the unit's, or one in the user's cache."""
-    return os.environ.get("STATE_DIRECTORY") or cache_of("office-day", url)

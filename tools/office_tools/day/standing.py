@@ -2,7 +2,6 @@
 import contextlib
 import datetime
 import json
-import os
 import re
 from dataclasses import dataclass, field
 from typing import Iterator, Mapping, Sequence
@@ -56,13 +55,6 @@ class Memory:
         """Keeps the lines of this day, and those of before of all steps but these, which were done."""
         left = {text: day for text, day in self.since.items() if text.partition(":")[0] not in steps}
         write_whole(self.path, json.dumps({**left, **self.now}, sort_keys=True, indent=1).encode())
-
-
-def memory(folder: str, today: datetime.date) -> Memory:
-    """What a folder remembers."""
-    found = Memory(os.path.join(folder, MEMORY), today)
-    found.read()
-    return found
 
 
 def standing(done: Sequence[Ran], kept: Memory) -> Sequence[Line]:

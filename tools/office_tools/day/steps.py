@@ -7,10 +7,10 @@ from dataclasses import dataclass, field
 from typing import Callable, Optional, Sequence
 
 from office_tools import processes
-from office_tools.accounts import service_at
 from office_tools.day.settings import Settings
 from office_tools.faults import Exit, Fault
 from office_tools.feed import mailbox
+from office_tools.service import service_at
 
 
 @dataclass(frozen=True)

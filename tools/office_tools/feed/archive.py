@@ -10,7 +10,7 @@ from typing import Mapping, Optional, Sequence
 from debian import deb822
 
 from office_tools import processes
-from office_tools.faults import Exit, Fault, cause_of
+from office_tools.faults import Exit, Fault, naming
 from office_tools.files import write_whole
 
 RELEASES = ("_InRelease", "_Release")
@@ -54,36 +54,27 @@ def fetched(sources: Sequence[str], folder: str) -> Files:
         if not os.path.exists(source):
             lines.append(source)
             continue
-        try:
+        with naming(source):
             suffix = os.path.splitext(source)[1]
             os.symlink(os.path.realpath(source),
                        os.path.join(part, f"{number}{'.sources' if suffix == '.sources' else '.list'}"))
-        except OSError as fault:
-            raise Fault(f"{source}: {cause_of(fault)}") from fault
     write_whole(os.path.join(part, "lines.list"), "".join(line + "\n" for line in lines).encode())
-    options = apt_options(folder)
+    options, lists = apt_options(folder), os.path.join(folder, "lists")
     apt([*options, "--error-on=any", "--quiet", "update"])
     told = apt([*options, "indextargets", "--format", "$(CREATED_BY) $(FILENAME)"])
     names = [line.split(" ", 1) for line in told.splitlines()]
     return Files(sorted(name for kind, name in names if kind == "Packages"),
                  sorted(name for kind, name in names if kind == "Sources"),
-                 releases_in(os.path.join(folder, "lists")))
-
-
-def releases_in(folder: str) -> Mapping[str, Release]:
-    """What the files Release say that apt fetched."""
-    return {name: release_of(os.path.join(folder, name)) for name in sorted(os.listdir(folder))
-            if name.endswith(RELEASES)}
+                 {name: release_of(os.path.join(lists, name)) for name in sorted(os.listdir(lists))
+                  if name.endswith(RELEASES)})
 
 
 def release_of(path: str) -> Release:
     """What a file Release says, signed or not. apt has checked the signature."""
-    try:
+    with naming(path, Exit.NEGATIVE, Exception):  # the library has faults of many types
         with open(path, "rb") as file:
             text = file.read().decode(errors="backslashreplace")
         found = deb822.Deb822(text, fields=["Date", "Architectures", "Components"])
-    except Exception as fault:  # the library has faults of many types
-        raise Fault(f"{path}: {cause_of(fault)}") from fault
     date: Optional[datetime.datetime] = None
     with contextlib.suppress(ValueError, OverflowError, TypeError, IndexError):
         stated = email.utils.parsedate_to_datetime(str(found.get("Date", "")))

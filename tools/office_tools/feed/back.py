@@ -16,7 +16,7 @@ from office_tools.deciding import SOURCE
 from office_tools.feed.known import Known
 from office_tools.from_packages.binaries import Binary, Key
 from office_tools.from_packages.due import Due
-from office_tools.from_packages.index import Index
+from office_tools.from_packages.sources import Index
 from office_tools.from_packages.told import Weight, tell
 
 
@@ -66,7 +66,7 @@ class Archive:
 
     def is_current(self, binary: Binary) -> bool:
         """Whether a package was built of its source's version in the archive."""
-        return versions.compare(binary.source_version, self.sources[binary.source]) == 0
+        return versions.same(binary.source_version, self.sources[binary.source])
 
 
 @dataclass
@@ -136,7 +136,7 @@ def withdrawn(archive: Archive, found: Retold, source: str, own: Sequence[Binary
     if is_ahead and source not in allowed:
         tell(f"source {source}: testing has {held}, and unstable has {version} only: if testing is to go back, allow "
              f"it by --back {source}", Weight.STANDS)
-    if held is not None and versions.compare(held, version) == 0 or is_ahead and source not in allowed:
+    if versions.same(held, version) or is_ahead and source not in allowed:
         if any(binary.key in archive.due.drops for binary in own):
             tell(f"source {source} {told}: it was withdrawn, and is dropped; unstable has {version}", Weight.ONCE)
         return

@@ -7,30 +7,77 @@ from dataclasses import dataclass, replace
 from typing import Mapping, Optional, Sequence
 
 from office_tools import days
-from office_tools.accounts import service_at
 from office_tools.bags import bag_of
+from office_tools.counts import count
 from office_tools.faults import Exit, Fault
-from office_tools.feed import archive, brakes, mailbox, restoring
+from office_tools.feed import archive, brakes, mailbox
 from office_tools.feed.back import Archive
-from office_tools.feed.indexes import indexes_in
 from office_tools.feed.known import Known
 from office_tools.feed.mailbox import Mailbox, Outgoing
-from office_tools.feed.memory import ChangesRead, Memory, remembered
+from office_tools.feed.memory import ChangesRead, Memory, indexes_in, remembered
 from office_tools.feed.news import News, Ways, news
-from office_tools.feed.sending import Sending, check_architectures
-from office_tools.feed.told import Lines
-from office_tools.feed.words import parser
+from office_tools.feed.sending import Sending, check_architectures, restore
+from office_tools.feed.told import NAME, Lines
 from office_tools.files import write_whole
 from office_tools.from_packages.due import Lists, lists_of
-from office_tools.from_packages.index import Index, read_index
 from office_tools.from_packages.mail import proposal
-from office_tools.from_packages.sources import Arrival, Arrivals, read_arrivals
+from office_tools.from_packages.sources import Arrival, Arrivals, Index, read_arrivals, read_index
 from office_tools.from_packages.told import Weight, tell
 from office_tools.messages import Urgency, numbered
 from office_tools.senders import BUILDS, HINTS, UPLOADS, runs_sender
-from office_tools.service import Kept, Service
+from office_tools.service import DEFAULT_URL, Kept, Service, service_at
 
 OWN = (UPLOADS, BUILDS, HINTS)
+
+
+def parser() -> argparse.ArgumentParser:
+    """The command's words."""
+    words = argparse.ArgumentParser(
+        prog=NAME, description="Sends a running office what is new in an archive's unstable, and orders a run if "
+                               "something is new or the day is a later one.",
+        epilog="Status 0: all is held, and the run that was ordered is finished. 1: all was sent, but something stands "
+               "still that a person should see; or with --dry-run something would be sent. 2: the words are wrong. "
+               "3: refused: nothing was sent, or the office refused a message. 4: the office or the archive doesn't "
+               "answer.")
+    words.add_argument("--url", default=DEFAULT_URL, help=f"the service ({DEFAULT_URL})")
+    words.add_argument("--day", type=days.day, default=None,
+                       help="the day of the run, as 2025-03-20 (today by the system's clock, in UTC)")
+    words.add_argument("--changes", metavar="DIR", help="a folder of files .changes, which state the urgency of "
+                       "uploads; others have the urgency medium")
+    words.add_argument("--order", action=argparse.BooleanOptionalAction, default=None,
+                       help="order a run in any case, or never")
+    words.add_argument("--rebuilds", action="store_true",
+                       help="send rebuilds of sources in testing so that they move, by the spare senders again1 ..")
+    words.add_argument("--smooth", action="store_true",
+                       help="keep old packages that testing needs and a newer version of their source dropped")
+    words.add_argument("--propose", action="store_true",
+                       help="after the run mail hints for the groups that the office proposes, and order a run again")
+    words.add_argument("--proposals", metavar="FILE",
+                       help="write these hints into a bag that a person may look at and mail, and mail none of them")
+    words.add_argument("--dry-run", action="store_true", help="print what would be sent, as a bag, and send nothing")
+    words.add_argument("--all-lines", action="store_true", help="print all lines, those of earlier days, too")
+    words.add_argument("--cache", metavar="DIR", help="where fetched mail and indexes are remembered")
+    words.add_argument("--restore", action="store_true",
+                       help="send again this folder's mail that the office doesn't have, and nothing else")
+    add_brakes(words)
+    words.add_argument("--sources", action="append", default=[], metavar="SOURCES", help="a file Sources")
+    words.add_argument("--apt", action="append", default=[], metavar="LINE",
+                       help="a line of a sources.list, or a file of such lines, for which apt fetches the indexes")
+    words.add_argument("packages", metavar="PACKAGES", nargs="*", help="a file Packages")
+    return words
+
+
+def add_brakes(words: argparse.ArgumentParser) -> None:
+    """The options that release a brake."""
+    group = words.add_argument_group("what is refused otherwise (status 3)")
+    group.add_argument("--gone", type=count, default=0, metavar="N",
+                       help="drop up to N packages that are gone, also if they are many or others need them")
+    group.add_argument("--back", action="append", default=[], metavar="SOURCE",
+                       help="let testing go back to unstable's version of this source")
+    group.add_argument("--gap", action="append", default=[], metavar="SENDER",
+                       help="order runs that don't see the mail after a gap in this sender's numbers")
+    group.add_argument("--other-release", action="store_true",
+                       help="take indexes whose Release is older than the last one, or has less")
 
 
 @dataclass(frozen=True)
@@ -145,7 +192,7 @@ class Turn:
         found, gone = news(there, feed.box, self.service.hints(), ways)
         brakes.Gone(gone, there).check(feed.box, asked.gone)
         if asked.dry_run:
-            sys.stdout.buffer.write(found.bag())
+            sys.stdout.buffer.write(bag_of(found.texts))
             tell(found.summary(), Weight.NOTE)
             return int(bool(found.texts))
         self.send(feed, found, unstable)
@@ -209,7 +256,7 @@ def main(words: Sequence[str]) -> int:
     lines = Lines(day, memory.lines, asked.all_lines)
     lines.take_over()
     try:
-        return restoring.restore(service, folder) if asked.restore else \
+        return restore(service, folder) if asked.restore else \
             Turn(asked, day, service, folder, memory, ChangesRead(memory.changes), lines).run()
     except Fault as fault:
         raise Fault(fault.cause, Exit.REFUSED if fault.status == 1 else fault.status) from fault

@@ -9,7 +9,7 @@ from typing import Any, Mapping, Sequence
 from office_tools import bags, days, versions
 from office_tools.apply import marks
 from office_tools.deciding import SOURCE
-from office_tools.faults import Fault
+from office_tools.faults import Exit, Fault, ending
 from office_tools.files import sealed, unsealed
 from office_tools.from_packages.binaries import Key
 from office_tools.from_packages.sources import put_newer
@@ -76,6 +76,13 @@ class Known:
     def letters(self) -> Sequence[tuple[int, Paragraph]]:
         """The first paragraphs of the release team's messages, by number."""
         return [(number, next(paragraphs(text.encode()))) for number, text in sorted(self.hints.items())]
+
+    def standing_hints(self) -> Sequence[tuple[int, Paragraph]]:
+        """The first paragraphs of the hints that no message takes back, by number."""
+        letters = self.letters()
+        cancelled = {int(first.value("Cancels") or 0) for _, first in letters if kind_of(first) is Kind.UNHINT}
+        return [(number, first) for number, first in letters
+                if kind_of(first) is Kind.HINT and number not in cancelled]
 
     def take(self, label: Label, text: bytes) -> None:
         """Takes the next message of a sender on. A text that no office keeps is a `Fault` or a `ValueError`."""
@@ -175,7 +182,7 @@ def needed(paragraph: Paragraph, name: str) -> str:
 def sent_in(path: str, bag: bytes) -> Known:
     """What was sent by a bag. A text that is no message took no number, and is reported."""
     found = Known()
-    try:
+    with ending(Exit.NEGATIVE, f"{path}: "):
         for place, text in enumerate(bags.messages_in(bag), 1):
             try:
                 first = first_of(text)
@@ -185,6 +192,4 @@ def sent_in(path: str, bag: bytes) -> Known:
                 found.take(label, text)
             except (Fault, ValueError) as fault:
                 tell(f"{path}: message {place}: left out: {fault}")
-    except bags.BagFault as fault:
-        raise Fault(f"{path}: {fault.cause}") from fault
     return found

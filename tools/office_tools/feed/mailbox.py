@@ -3,18 +3,16 @@
 The folder's bag is a backup of the office's mail, too. It only grows: a message is appended once.
 """
 import contextlib
-import hashlib
 import os
 from dataclasses import dataclass, field
 from typing import Iterator, Mapping, Optional, Sequence
 
 from office_tools import bags
-from office_tools.faults import Exit, Fault, cause_of
+from office_tools.faults import Exit, Fault, naming, some
 from office_tools.feed import known
 from office_tools.feed.known import Known
 from office_tools.feed.told import NAME
-from office_tools.files import read_bytes, write_whole
-from office_tools.folders import cache_of, locked, made
+from office_tools.files import cache_of, digest_of, locked, made, read_bytes, write_whole
 from office_tools.from_packages.told import Weight, tell
 from office_tools.letters import letters
 from office_tools.messages import label_of
@@ -121,7 +119,7 @@ class Folder:
         path = os.path.join(self.path, KNOWN)
         with contextlib.suppress(Fault):
             kept = known.read(read_bytes(path)) if os.path.exists(path) else None
-            if kept and kept.size <= len(data) and kept.digest == digest(data[:kept.size]):
+            if kept and kept.size <= len(data) and kept.digest == digest_of(data[:kept.size]):
                 return kept.known, kept.size
         return Known(), 0
 
@@ -137,24 +135,16 @@ class Folder:
 
     def add(self, texts: Sequence[bytes]) -> None:
         """Appends messages to those of the bag."""
-        try:
-            with open(self.bag, "ab") as file:
-                for text in texts:
-                    file.write(bags.framed(text))
-                file.flush()
-                os.fsync(file.fileno())
-        except OSError as fault:
-            raise Fault(f"{self.bag}: {cause_of(fault)}", Exit.FAILED) from fault
+        with naming(self.bag, Exit.FAILED), open(self.bag, "ab") as file:
+            for text in texts:
+                file.write(bags.framed(text))
+            file.flush()
+            os.fsync(file.fileno())
 
     def write(self, found: Known) -> None:
         """Writes down what is known of the bag."""
         data = read_bytes(self.bag)
-        write_whole(os.path.join(self.path, KNOWN), found.written(len(data), digest(data)))
-
-
-def digest(data: bytes) -> str:
-    """The digest of a part of a bag."""
-    return hashlib.sha256(data).hexdigest()
+        write_whole(os.path.join(self.path, KNOWN), found.written(len(data), digest_of(data)))
 
 
 def take(found: Known, text: bytes) -> None:
@@ -178,8 +168,8 @@ def fetch(service: Service, folder: str) -> Mailbox:
     before = dict(found.taken)
     new: list[bytes] = []
     for sender, count in kept.items():
-        for label, text in letters(service, sender, found.taken.get(sender, 0) + 1) if is_more(found, count, sender) \
-                else ():
+        is_more = count.unbroken > found.taken.get(sender, 0)
+        for label, text in letters(service, sender, found.taken.get(sender, 0) + 1) if is_more else ():
             if label.number <= count.unbroken:
                 new.append(text)
                 take(found, text)
@@ -191,11 +181,6 @@ def fetch(service: Service, folder: str) -> Mailbox:
         place.add([])
         place.write(found)
     return Mailbox(place.bag, kept, found)
-
-
-def is_more(found: Known, count: Kept, sender: str) -> bool:
-    """Whether the office keeps mail of a sender that is missing in the folder."""
-    return count.unbroken > found.taken.get(sender, 0)
 
 
 def check_office(service: Service, kept: Mapping[str, Kept], found: Known, folder: str) -> None:
@@ -217,8 +202,7 @@ def check_office(service: Service, kept: Mapping[str, Kept], found: Known, folde
                         "restored, and continued; that bag has the mail of before: compare both, and make the office "
                         "again from the right mail", Exit.REFUSED)
     if lacking:
-        more = f" and {len(lacking) - SHOWN} more senders" if len(lacking) > SHOWN else ""
-        shown = ", ".join(lacking[:SHOWN]) + more
+        shown = some(lacking, SHOWN, " senders")
         raise Fault(f"the office lacks mail that it kept before: {shown}: its store was restored, or is new; "
                     f"'office-feed --restore --url {service.url} --cache {folder}' sends it again; if this is meant "
                     f"to be another office, {ways}", Exit.REFUSED)

@@ -8,7 +8,6 @@ from typing import Iterator, Mapping, Optional, Sequence
 
 from office_tools import days, messages, reports, versions
 from office_tools.apply import marks
-from office_tools.bags import bag_of
 from office_tools.deciding import SOURCE
 from office_tools.faults import Exit, Fault
 from office_tools.feed.back import Archive, Retold, came_back, without_strange
@@ -19,9 +18,8 @@ from office_tools.feed.rebuilds import Rebuilds, rebuilds
 from office_tools.feed.smooth import left_behind, stay
 from office_tools.from_packages import mail
 from office_tools.from_packages.binaries import Binary, Key
-from office_tools.from_packages.index import Index
 from office_tools.from_packages.mail import PROPOSED
-from office_tools.from_packages.sources import Arrival, Arrivals
+from office_tools.from_packages.sources import Arrival, Arrivals, Index
 from office_tools.messages import Kind, Made, Paragraph, Urgency, kind_of, numbered
 from office_tools.reports import ItemStanding
 from office_tools.senders import BUILDS, HINTS, UPLOADS
@@ -41,27 +39,15 @@ class Removal:
 
 
 @dataclass
-class News:
-    """The messages that are new, by what they say."""
+class News(mail.News):
+    """The messages that are new, also hints for sources that are gone, and hints that are taken back."""
 
-    uploads: list[bytes] = field(default_factory=list)
-    drops: list[bytes] = field(default_factory=list)
-    builds: list[bytes] = field(default_factory=list)
-    hints: list[bytes] = field(default_factory=list)
-    unhints: list[bytes] = field(default_factory=list)
-
-    @property
-    def texts(self) -> Sequence[bytes]:
-        """All of them, in the order in which they are sent: an upload before its builds."""
-        return [*self.uploads, *self.drops, *self.builds, *self.hints, *self.unhints]
+    hints: Sequence[bytes] = ()
+    unhints: Sequence[bytes] = ()
 
     def summary(self) -> str:
         """How many there are."""
         return ", ".join(f"{entry.name} {len(getattr(self, entry.name))}" for entry in dataclasses.fields(self))
-
-    def bag(self) -> bytes:
-        """All of them as a bag."""
-        return bag_of(self.texts)
 
 
 @dataclass(frozen=True)
@@ -147,7 +133,7 @@ def first_arrival(box: Mailbox, name: str, version: str) -> Optional[Arrival]:
     for text in box.texts(f"Source: {name}\n".encode()):
         first = first_of(text)
         if kind_of(first) is Kind.UPLOAD and first.value("Source") == name and \
-                is_same(marks.source_version(first.value("Version") or ""), version):
+                versions.same(marks.source_version(first.value("Version") or ""), version):
             word = (first.value("Urgency") or "").split(" ")[0].lower()
             if word in [urgency.value for urgency in Urgency]:
                 return Arrival(Urgency(word), first.value("Day") or "")
@@ -160,7 +146,7 @@ def packages(archive: Archive, retold: Retold, others: set[Key]) -> Iterator[Bin
     for binary in archive.binaries:
         key, source = binary.key, retold.sources.get(binary.source)
         last = known.versions.get(binary.source, "")
-        if source is None and marks.is_back(last) and is_same(marks.source_version(last), binary.source_version):
+        if source is None and marks.is_back(last) and versions.same(marks.source_version(last), binary.source_version):
             source = last
         is_new = key in archive.due.tells and known.is_above(key, binary.version)
         if key not in others and (key in retold.packages or is_new):
@@ -169,11 +155,8 @@ def packages(archive: Archive, retold: Retold, others: set[Key]) -> Iterator[Bin
 
 def standing(known: Known) -> Iterator[Removal]:
     """The hints in force that take sources out of testing."""
-    letters = known.letters()
-    cancelled = {int(first.value("Cancels") or 0) for _, first in letters if kind_of(first) is Kind.UNHINT}
-    for number, first in letters:
-        if kind_of(first) is Kind.HINT and number not in cancelled:
-            yield from removals_of(number, first)
+    for number, first in known.standing_hints():
+        yield from removals_of(number, first)
 
 
 def removals_of(number: int, first: Paragraph) -> Iterator[Removal]:
@@ -189,7 +172,7 @@ def removal_hints(sources: Sequence[str], testing: reports.Testing, removals: Se
     """A hint for each of these sources, in this order, unless one in force takes it out."""
     for source in sources:
         version = testing.sources[source]
-        if not any(removal.source == source and is_same(removal.version, version) for removal in removals):
+        if not any(removal.source == source and versions.same(removal.version, version) for removal in removals):
             yield removal_of(source, version)
 
 
@@ -237,7 +220,7 @@ def taken_back(archive: Archive, removals: Sequence[Removal]) -> Iterator[int]:
     """This command's hints for sources that have left testing, are back, or are sent without their needs first."""
     for removal in removals:
         held = archive.testing.sources.get(removal.source)
-        is_done = held is None or not is_same(held, removal.version)
+        is_done = not versions.same(held, removal.version)
         is_over = removal.source in archive.sources or leaves_later(archive.known, removal.source, removal.version)
         if removal.is_own and (is_done or is_over):
             yield removal.number
@@ -257,9 +240,4 @@ def spent(known: Known, hints: reports.Hints) -> Iterator[int]:
 def leaves_later(known: Known, source: str, version: str) -> bool:
     """Whether a source that is gone has to move to a made-up version before it leaves testing."""
     last = known.versions.get(source, "")
-    return last.endswith(marks.LEAVING) and not is_same(last, version)
-
-
-def is_same(left: str, right: str) -> bool:
-    """Whether two versions are the same."""
-    return versions.compare(left, right) == 0
+    return last.endswith(marks.LEAVING) and not versions.same(last, version)

@@ -93,7 +93,7 @@ def by_source(binaries: Sequence[Binary], testing: reports.Testing) -> Mapping[s
     for binary in binaries:
         version = testing.sources.get(binary.source)
         if version is not None and (
-                versions.compare(marks.source_version(version), binary.source_version) == 0
+                versions.same(marks.source_version(version), binary.source_version)
                 or (binary.name, binary.architecture, binary.version, binary.source) in held):
             found[binary.source].append(binary)
     return found

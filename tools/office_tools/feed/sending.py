@@ -1,16 +1,19 @@
-"""Posting what is new: in order, written down before, and without what the office refuses."""
+"""Posting what is new: in order, written down before, and without what the office refuses.
+
+A restored older backup of a store gets the mail again that the folder remembers.
+"""
 import re
-from collections import Counter
+from collections import Counter, defaultdict
 from dataclasses import dataclass
 from typing import Mapping, Optional, Sequence
 
-from office_tools import messages
+from office_tools import bags, messages
 from office_tools.faults import Exit, Fault
-from office_tools.feed.mailbox import Outgoing
+from office_tools.feed.mailbox import Folder, Outgoing
+from office_tools.files import read_bytes
 from office_tools.from_packages.told import Weight, tell
-from office_tools.mailing import is_held, mailed, verdict
 from office_tools.messages import Kind, Label, kind_of, label_of, paragraphs
-from office_tools.service import Kept, Service
+from office_tools.service import Kept, Service, is_held
 
 NUMBER = re.compile(rb"^Number: [0-9]+$", re.MULTILINE)
 OTHER_TEXT = "refused OtherText"
@@ -54,7 +57,7 @@ class Sending:
         held = 0
         while waiting:
             text = renumbered(waiting.pop(), less)
-            reply = mailed(self.service, text)
+            reply = self.service.mailed(text)
             if not is_held(reply):
                 self.check(text, reply)
                 mended = self.without_refused(text)
@@ -82,12 +85,12 @@ class Sending:
         first, *others = paragraphs(text)
         label = label_of(text)
         if kind_of(first) is not Kind.BUILD or label is None or len(others) == 1:
-            tell(f"{subject(text)}: left out: the office answers: {verdict(self.service, text)}", Weight.STANDS)
+            tell(f"{subject(text)}: left out: the office answers: {self.service.verdict(text)}", Weight.STANDS)
             return None
         good: list[bytes] = []
         for part in text.split(b"\n\n")[1:]:
             alone = messages.build(label, [part.rstrip(b"\n") + b"\n"])
-            reply = verdict(self.service, alone)
+            reply = self.service.verdict(alone)
             if is_held(reply):
                 good.append(part.rstrip(b"\n") + b"\n")
             else:
@@ -129,7 +132,45 @@ def subject(text: bytes) -> str:
 def check_architectures(service: Service, sender: str, kept: Mapping[str, Kept], names: Sequence[str]) -> None:
     """Refuses indexes of an architecture that isn't in the office's setup: the office is asked about a drop there."""
     for name in names:
-        reply = verdict(service, messages.drop(Label(sender, kept[sender].unbroken + 1), "aa", name, "0"))
+        reply = service.verdict(messages.drop(Label(sender, kept[sender].unbroken + 1), "aa", name, "0"))
         if reply == "refused UnknownArchitecture":
             raise Fault(f"the indexes have packages of {name}: the office has another setup than the archive",
                         Exit.REFUSED)
+
+
+def restore(service: Service, folder: str) -> int:
+    """Posts the mail of the folder's bag that the office doesn't have, each sender's in order: the status."""
+    place = Folder(folder)
+    found = place.read()
+    kept = service.kept()
+    strange = sorted(set(found.taken) - set(kept))
+    if strange:
+        raise Fault(f"{service.url}: it is another office: it has no sender {', '.join(strange)}", Exit.REFUSED)
+    texts: dict[str, dict[int, bytes]] = defaultdict(dict)
+    for text in bags.messages_in(read_bytes(place.bag)) if found.taken else ():
+        label = label_of(text)
+        if label is not None:
+            texts[label.sender][label.number] = text
+    for sender, own in texts.items():
+        last = min(kept[sender].unbroken, found.taken[sender])
+        for number in {1, last} if last else ():
+            if service.kept_text(sender, number) != own[number]:
+                raise Fault(f"{service.url}: it keeps another text as {sender} {number} than {place.bag}: that office "
+                            "continued on its own, or is another one; nothing was sent", Exit.REFUSED)
+    return post(service, texts, {sender: count.unbroken for sender, count in kept.items()})
+
+
+def post(service: Service, texts: dict[str, dict[int, bytes]], last: dict[str, int]) -> int:
+    """Posts each sender's mail after its last number: status 0 if all is held."""
+    count, refused = 0, 0
+    for sender, own in texts.items():
+        for number in sorted(number for number in own if number > last[sender]):
+            reply = service.mailed(own[number])
+            if is_held(reply):
+                count += 1
+            else:
+                refused += 1
+                tell(f"{sender} {number}: {reply}")
+    print(f"sent again {count}")
+    print(service.good_text("/status"), end="")
+    return int(refused > 0)

@@ -4,18 +4,17 @@ import os
 from typing import Sequence
 
 from office_tools import days
-from office_tools.accounts import service_at
 from office_tools.adopt.command import letters
 from office_tools.adopt.rows import adoptable
 from office_tools.bags import bag_of
 from office_tools.faults import Exit, Fault, some
 from office_tools.files import write_whole
-from office_tools.from_britney.compare import compared, read_heidi, reason
+from office_tools.from_britney.compare import compared, read_heidi, reason, shown
 from office_tools.from_britney.folder import NAME, Folder, tell
 from office_tools.from_britney.mailbag import news, office_of, read_suite
 from office_tools.from_packages import told
 from office_tools.from_packages.mail import MOST_SPARES, spares, write_setup
-from office_tools.service import DEFAULT_URL
+from office_tools.service import DEFAULT_URL, service_at
 
 SHOWN = 10
 
@@ -69,7 +68,7 @@ def compare(asked: argparse.Namespace) -> int:
     for differing in found.differing:
         for line in (*differing.lines(), *reason(service, differing.source)):
             print(line)
-    strange = [" ".join(row) for row in found.strange]
+    strange = list(map(shown, found.strange))
     for what, names in (("sources that build nothing on the office's architectures", found.idle),
                         ("packages of britney's that the office doesn't know", strange)):
         if names:

@@ -1,12 +1,13 @@
 """Where britney and the office decide otherwise: the sources on which a HeidiResult and the office's testing differ."""
 from collections import defaultdict
-from dataclasses import dataclass, field
-from typing import Iterator, Mapping, NamedTuple, Optional, Sequence
+from dataclasses import dataclass
+from typing import Iterator, Mapping, Optional, Sequence
 
-from office_tools import reports, versions
+from office_tools import versions
 from office_tools.apply import marks
 from office_tools.faults import Exit, Fault
 from office_tools.from_britney.folder import text_of
+from office_tools.reports import Row, Testing, Unstable
 from office_tools.service import Service
 
 SOURCE = "source"
@@ -14,25 +15,13 @@ ALL = "all"
 MOST_LINES = 20  # lines of a reason that are printed
 
 
-class Row(NamedTuple):
-    """A binary package in testing."""
+def read_heidi(path: str) -> Testing:
+    """What a file HeidiResult has: lines `NAME VERSION ARCHITECTURE`, maybe with the section after that.
 
-    architecture: str
-    name: str
-    version: str
-
-
-@dataclass
-class Result:
-    """What a testing has: each source's version, and the packages."""
-
-    sources: dict[str, str] = field(default_factory=dict)
-    rows: set[Row] = field(default_factory=set)
-
-
-def read_heidi(path: str) -> Result:
-    """What a file HeidiResult has: lines `NAME VERSION ARCHITECTURE`, maybe with the section after that."""
-    found = Result()
+    It doesn't say of which source a package is.
+    """
+    sources: dict[str, str] = {}
+    rows: list[Row] = []
     for number, line in enumerate(text_of(path).split("\n"), 1):
         words = line.split()
         if len(words) in (3, 4):
@@ -40,25 +29,26 @@ def read_heidi(path: str) -> Result:
             if not versions.is_version(version):
                 raise Fault(f"{path}:{number}: {version[:40]!r} is no version", Exit.REFUSED)
             if architecture == SOURCE:
-                found.sources[name] = version
+                sources[name] = version
             else:
-                found.rows.add(Row(architecture, name, version))
+                rows.append(Row(architecture, name, version, ""))
         elif words:
             raise Fault(f"{path}:{number}: it isn't NAME VERSION ARCHITECTURE: {line[:60]!r}", Exit.REFUSED)
-    if not found.sources:
+    if not sources:
         raise Fault(f"{path}: it has no source", Exit.REFUSED)
-    return found
+    return Testing(0, sources, rows)
 
 
-def office_result(testing: reports.Testing) -> Result:
+def as_archived(testing: Testing) -> Testing:
     """What the office's testing has, by the names and versions that the archive has."""
-    found = Result()
-    for name, version in testing.sources.items():
-        if not marks.is_made_up(name):
-            found.sources[name] = marks.source_version(version)
-    for row in testing.rows:
-        found.rows.add(Row(row.architecture, row.package, marks.package_version(row.version)))
-    return found
+    return Testing(testing.finished, {name: marks.source_version(version) for name, version in testing.sources.items()
+                                      if not marks.is_made_up(name)},
+                   [Row(row.architecture, row.package, marks.package_version(row.version), "") for row in testing.rows])
+
+
+def shown(row: Row) -> str:
+    """A package as it is printed."""
+    return f"{row.architecture} {row.package} {row.version}"
 
 
 @dataclass(frozen=True)
@@ -88,7 +78,7 @@ class Differing:
         yield f"{self.source}: britney {self.britney or '-'}, office {self.office or '-'}"
         if self.is_rows_alone:
             for word, rows in (("britney", self.only_britney), ("office", self.only_office)):
-                yield from (f" {word} alone: binary {' '.join(row)}" for row in sorted(rows))
+                yield from (f" {word} alone: binary {shown(row)}" for row in sorted(rows))
 
 
 @dataclass(frozen=True)
@@ -101,15 +91,15 @@ class Comparison:
     strange: Sequence[Row]
 
 
-def compared(britney: Result, testing: reports.Testing, unstable: reports.Unstable) -> Comparison:
+def compared(britney: Testing, testing: Testing, unstable: Unstable) -> Comparison:
     """How both differ. Packages of architectures that the office hasn't aren't looked at."""
-    office = office_result(testing)
+    office = as_archived(testing)
     rows = [*unstable.rows, *testing.rows]
     sources_of = {row.package: row.source for row in rows}
     architectures = {row.architecture for row in rows} | {ALL}
     left, right = ([row for row in found if row.architecture in architectures]
-                   for found in (britney.rows - office.rows, office.rows - britney.rows))
-    strange = sorted(row for row in left if row.name not in sources_of)
+                   for found in (set(britney.rows) - set(office.rows), set(office.rows) - set(britney.rows)))
+    strange = sorted(row for row in left if row.package not in sources_of)
     idle = sorted(set(britney.sources) - set(sources_of.values()) - set(office.sources))
     only = by_source(left, sources_of), by_source(right, sources_of)
     names = sorted((set(britney.sources) | set(office.sources)) - set(idle))
@@ -121,7 +111,7 @@ def by_source(rows: Sequence[Row], sources_of: Mapping[str, str]) -> Mapping[str
     """The packages by their sources; those of a made-up source differ from nobody's."""
     found: dict[str, list[Row]] = defaultdict(list)
     for row in rows:
-        source = sources_of.get(row.name)
+        source = sources_of.get(row.package)
         if source is not None and not marks.is_made_up(source):
             found[source].append(row)
     return found
@@ -130,7 +120,7 @@ def by_source(rows: Sequence[Row], sources_of: Mapping[str, str]) -> Mapping[str
 def differing(name: str, britney: Optional[str], office: Optional[str],
               only: tuple[Mapping[str, Sequence[Row]], Mapping[str, Sequence[Row]]]) -> Optional[Differing]:
     """How both differ on a source, if they do."""
-    is_same = britney is not None and office is not None and versions.compare(britney, office) == 0
+    is_same = versions.same(britney, office)
     left, right = only[0].get(name, ()), only[1].get(name, ())
     if is_same and not left and not right:
         return None

@@ -9,7 +9,7 @@ from typing import Iterator, Mapping, Optional, Sequence
 
 from office_tools import faults, relations, versions
 from office_tools.bugs.lists import Entry, read_list
-from office_tools.faults import Exit, Fault
+from office_tools.faults import Exit, Fault, ending, naming
 from office_tools.files import read_bytes
 from office_tools.from_packages.sources import Arrival, Arrivals
 from office_tools.messages import Urgency, rank
@@ -40,10 +40,8 @@ class Suite:
     @property
     def packages(self) -> Sequence[str]:
         """Its files Packages_ARCH, by their names."""
-        try:
+        with naming(self.path, Exit.REFUSED):
             names = sorted(name for name in os.listdir(self.path) if name.startswith(PACKAGES))
-        except OSError as fault:
-            raise Fault(f"{self.path}: {fault.strerror}", Exit.REFUSED) from fault
         if not names:
             raise Fault(f"{self.path}: it has no file {PACKAGES}ARCH", Exit.REFUSED)
         return [os.path.join(self.path, name) for name in names]
@@ -121,10 +119,8 @@ class Folder:
 
 def text_of(path: str) -> str:
     """The text of a file, in which a byte that isn't UTF-8 is shown by its number."""
-    try:
+    with ending(Exit.REFUSED):
         return read_bytes(path).decode(errors="backslashreplace")
-    except Fault as fault:
-        raise Fault(fault.cause, Exit.REFUSED) from fault
 
 
 def day_of(word: str) -> Optional[str]:

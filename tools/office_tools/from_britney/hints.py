@@ -6,24 +6,20 @@ from dataclasses import dataclass
 from typing import Iterator, Mapping, Sequence
 
 from office_tools import messages, relations, versions
+from office_tools.feed.known import Known
+from office_tools.feed.news import GONE, removal_of
 from office_tools.from_britney.folder import tell, text_of
-from office_tools.messages import Kind, Label, Made, Paragraph, kind_of, numbered
+from office_tools.messages import Label, Made, numbered
 from office_tools.senders import HINTS
 
 BRITNEY = "Britney"
 """A field that the office doesn't read: the file that a hint is in. It marks the hints of this command."""
-GONE = "Gone"
-"""The mark of a hint for a source that is gone from unstable, as office-feed has it."""
 AGE = re.compile("0*[0-9]{1,4}")
 
 ITEMS: Mapping[str, str] = {
     "unblock": "unblock", "approve": "unblock", "easy": "easy", "hint": "easy", "remove": "remove",
     "urgent": "age-days 0"}
 """Hints of items, and what the office has in their place."""
-
-
-Letters = Mapping[Label, Paragraph]
-"""The first paragraph of each message."""
 
 
 class LeftOut(Exception):
@@ -93,48 +89,23 @@ def checked(items: Sequence[str]) -> Sequence[str]:
     return items
 
 
-@dataclass(frozen=True)
-class Standing:
-    """A hint of this command in force: its number, and its words."""
-
-    number: int
-    hint: str
+def standing(sent: Known) -> Mapping[int, str]:
+    """The hints of this command that no message takes back, by number."""
+    return {number: first.value("Hint") or "" for number, first in sent.standing_hints()
+            if first.value(BRITNEY) is not None or first.value(GONE) is not None}
 
 
-def standing(letters: Letters) -> Sequence[Standing]:
-    """The hints of this command that no message takes back."""
-    mine = {label.number: first for label, first in letters.items() if label.sender == HINTS}
-    cancelled = {first.value("Cancels") for first in mine.values() if kind_of(first) is Kind.UNHINT}
-    return [Standing(number, first.value("Hint") or "") for number, first in sorted(mine.items())
-            if kind_of(first) is Kind.HINT and str(number) not in cancelled
-            and (first.value(BRITNEY) is not None or first.value(GONE) is not None)]
-
-
-def removal(label: Label, source: str, version: str) -> bytes:
-    """The hint for a source that is gone from unstable, which britney takes out of testing without one."""
-    return messages.hint(label, f"remove {source}/{version}", [(GONE, f"{source} {version}")])
-
-
-def changes(found: Sequence[Wish], gone: Mapping[str, str], stand: Sequence[Standing], last: int) -> Sequence[bytes]:
-    """Messages that put just these hints in force, with those for sources gone too; `last` is the last number."""
-    have = {entry.hint for entry in stand}
+def changes(found: Sequence[Wish], gone: Mapping[str, str], stand: Mapping[int, str], last: int) -> Sequence[bytes]:
+    """Messages that put just these hints in force, with those for sources that britney takes out without a hint as they
+    are gone from unstable; `last` is the last number.
+    """
+    have = set(stand.values())
     want = {wish.hint for wish in found}
     new: list[Made] = [wish.text for wish in found if wish.hint not in have]
     for name, version in sorted(gone.items()):
         hint = f"remove {name}/{version}"
         if hint not in have | want:
-            new.append(functools.partial(removal, source=name, version=version))
+            new.append(removal_of(name, version))
         want.add(hint)
-    new += [functools.partial(messages.unhint, cancels=entry.number) for entry in stand if entry.hint not in want]
+    new += [functools.partial(messages.unhint, cancels=number) for number, hint in stand.items() if hint not in want]
     return numbered(HINTS, last, new)
-
-
-def firsts(texts: Sequence[bytes]) -> Letters:
-    """The first paragraph of each message."""
-    found: dict[Label, Paragraph] = {}
-    for text in texts:
-        first = next(messages.paragraphs(text), None)
-        label = messages.label_of_first(first) if first else None
-        if first is not None and label is not None:
-            found[label] = first
-    return found

@@ -6,16 +6,14 @@ from office_tools import bags, program
 from office_tools.bugs.changes import LISTED, changes, read_pairs
 from office_tools.bugs.kept import Book, bug_of
 from office_tools.bugs.lists import Names
-from office_tools.faults import Exit, Fault
-from office_tools.feed.known import sent_in
+from office_tools.faults import Exit, ending
+from office_tools.feed.known import first_of, sent_in
 from office_tools.files import read_bytes
 from office_tools.from_britney import hints
 from office_tools.from_britney.folder import Folder, Suite, tell
-from office_tools.from_britney.hints import Letters
 from office_tools.from_packages import mail
-from office_tools.from_packages.index import Index, read_index
-from office_tools.from_packages.sources import Arrival
-from office_tools.messages import Kind, Urgency, kind_of
+from office_tools.from_packages.sources import Arrival, Index, read_index
+from office_tools.messages import Kind, Paragraph, Urgency, kind_of, label_of_first
 from office_tools.senders import BUGS, HINTS
 
 
@@ -34,40 +32,36 @@ def read_suite(suite: Suite) -> Index:
     return found
 
 
-def book_of(letters: Letters) -> Book:
-    """The bugs in this mail."""
+def book_of(firsts: Sequence[Paragraph]) -> Book:
+    """The bugs in mail with these first paragraphs."""
     book = Book(BUGS, LISTED)
-    for label, first in letters.items():
-        if label.sender == BUGS:
+    for first in firsts:
+        label = label_of_first(first)
+        if label is not None and label.sender == BUGS:
             book.last = max(book.last, label.number)
             if kind_of(first) is Kind.BUG:
                 book.take(bug_of(first))
     return book
 
 
-def testing_of(setup: str, bag: bytes) -> Mapping[str, str]:
-    """The sources of the testing that an office with this mail has."""
-    return program.testing_in(program.output(["replay", "--conf", setup], bag).decode()).sources
-
-
 @dataclass(frozen=True)
 class Office:
-    """All mail that an office was sent, in a bag, and the sources of its testing by that mail."""
+    """All mail that an office was sent, in a bag, its first paragraphs, and the sources of its testing by that mail."""
 
     path: str
     bag: bytes
-    letters: Letters
+    firsts: Sequence[Paragraph]
     testing: Mapping[str, str]
 
 
 def office_of(setup: str, path: str) -> Office:
     """The office that a bag makes."""
     bag = read_bytes(path)
-    try:
-        letters = hints.firsts(list(bags.messages_in(bag)))
-    except bags.BagFault as fault:
-        raise Fault(f"{path}: {fault.cause}", Exit.REFUSED) from fault
-    return Office(path, bag, letters, testing_of(setup, bag))
+    with ending(Exit.REFUSED, f"{path}: "):
+        texts = list(bags.messages_in(bag))
+    firsts = list(map(first_of, texts))
+    told = program.output(["replay", "--conf", setup], bag).decode()
+    return Office(path, bag, firsts, program.testing_in(told).sources)
 
 
 def news(folder: Folder, unstable: Index, testing: Index, office: Office, day: str) -> Sequence[bytes]:
@@ -77,10 +71,10 @@ def news(folder: Folder, unstable: Index, testing: Index, office: Office, day: s
     new = mail.news(unstable, sent, mail.Uploading(
         folder.arrivals(unstable.sources, testing.sources, default), default, unstable.maintainers))
     gone = {name: version for name, version in office.testing.items() if name not in unstable.sources}
-    stand = hints.standing(office.letters)
-    wishes = hints.changes(list(hints.wishes(folder.hint_files())), gone, stand, sent.taken.get(HINTS, 0))
+    wished = list(hints.wishes(folder.hint_files()))
+    wishes = hints.changes(wished, gone, hints.standing(sent), sent.taken.get(HINTS, 0))
     names = names_of(unstable), Names(office.testing, names_of(testing).of_package)
-    bugs = bug_letters(folder, names, book_of(office.letters))
+    bugs = bug_letters(folder, names, book_of(office.firsts))
     print(f"uploads {len(new.uploads)}, drops {len(new.drops)}, builds {len(new.builds)}, hints {len(wishes)}, "
           f"bugs {len(bugs)}, orders 1")
     counts = {**new.counts, HINTS: len(wishes), BUGS: len(bugs)}

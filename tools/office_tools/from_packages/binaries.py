@@ -61,15 +61,10 @@ def binary_of(fields: Mapping[str, str]) -> Binary:
     source, source_version = relations.source_of(fields.get("Source"), name, version)
     binary = Binary(name, version, architecture, source, source_version, fields)
     if not isinstance(fields, Fields) or not fields.is_good:
-        checked(binary)
+        _ = binary.clauses, binary.provisions  # so that a bad one is found
     if isinstance(fields, Fields):
         fields.is_good = True
     return binary
-
-
-def checked(binary: Binary) -> None:
-    """Reads the relations of a package, so that a bad one is found."""
-    _ = binary.clauses, binary.provisions
 
 
 def read_binaries(paths: Sequence[str], read: Reader = sections) -> tuple[list[Binary], list[str]]:

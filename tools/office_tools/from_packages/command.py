@@ -9,8 +9,7 @@ from office_tools.days import day
 from office_tools.feed.known import sent_in
 from office_tools.files import read_bytes, write_whole
 from office_tools.from_packages import mail
-from office_tools.from_packages.index import read_index
-from office_tools.from_packages.sources import Arrival, read_arrivals
+from office_tools.from_packages.sources import Arrival, read_arrivals, read_index
 from office_tools.from_packages.suites import Suites
 from office_tools.from_packages.told import NAME
 from office_tools.messages import Urgency
@@ -56,7 +55,7 @@ def main(given: Sequence[str]) -> int:
         known = {upload: replace(arrival, day=arrived.day) for upload, arrival in known.items()}
     if not asked.with_uninstallable:
         current = [binary for binary in index.binaries
-                   if versions.compare(binary.source_version, index.sources[binary.source]) == 0]
+                   if versions.same(binary.source_version, index.sources[binary.source])]
         gone = Suites(current, index.architectures).left_out(sent)
         index = replace(index, binaries=[binary for binary in index.binaries if binary.key not in gone])
     news = mail.news(index, sent, mail.Uploading(known, arrived, index.maintainers))

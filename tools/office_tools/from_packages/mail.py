@@ -1,4 +1,5 @@
 """The messages on what is due to an office."""
+import dataclasses
 import functools
 import os
 from collections import defaultdict
@@ -14,8 +15,7 @@ from office_tools.feed.known import Known
 from office_tools.files import write_whole
 from office_tools.from_packages.binaries import Binary, Key
 from office_tools.from_packages.due import Due, Lists, index_of, keyed
-from office_tools.from_packages.index import Index
-from office_tools.from_packages.sources import Arrival, Arrivals
+from office_tools.from_packages.sources import Arrival, Arrivals, Index
 from office_tools.from_packages.told import Weight, tell
 from office_tools.messages import Kind, Label, Made, Role, kind_of, numbered, rank
 from office_tools.senders import BUGS, BUILDS, HINTS, RUNS, UPLOADS
@@ -122,18 +122,18 @@ def tell_gone(sent: Known, there: Collection[str]) -> None:
         tell(f"source {name} {sent.versions[name]}: it is gone, and nothing takes an upload back", Weight.NOTE)
 
 
-@dataclass(frozen=True)
+@dataclass
 class News:
     """Uploads of what is new, after each a more urgent one that it replaced, drops of what is gone, and builds."""
 
-    uploads: Sequence[bytes]
-    drops: Sequence[bytes]
-    builds: Sequence[bytes]
+    uploads: Sequence[bytes] = ()
+    drops: Sequence[bytes] = ()
+    builds: Sequence[bytes] = ()
 
     @property
     def texts(self) -> Sequence[bytes]:
-        """All of them."""
-        return [*self.uploads, *self.drops, *self.builds]
+        """All of them, in the order in which they are sent: an upload before its builds."""
+        return [text for entry in dataclasses.fields(self) for text in getattr(self, entry.name)]
 
     @property
     def counts(self) -> Mapping[str, int]:

@@ -1,4 +1,5 @@
-"""The sources of an archive: their versions by its indexes, their urgency and day by their files .changes."""
+"""What the indexes of a suite have, as far as the office takes it, and how its sources came by their files .changes."""
+import dataclasses
 import email.utils
 import os
 from dataclasses import dataclass, field
@@ -6,8 +7,8 @@ from typing import Callable, Mapping, Optional, Sequence, TypeVar
 
 from office_tools import relations, versions
 from office_tools.control import Changes, Reader, read_changes, sections
-from office_tools.faults import Fault, cause_of
-from office_tools.from_packages.binaries import Binary
+from office_tools.faults import Exit, Fault, cause_of
+from office_tools.from_packages.binaries import Binary, fitting, read_binaries
 from office_tools.from_packages.told import Weight, tell
 from office_tools.messages import MAINTAINER, Urgency
 from office_tools.relations import Bad
@@ -16,6 +17,7 @@ Name = TypeVar("Name")
 
 LONGEST_MAINTAINER = 1000  # characters
 ENDING = ".changes"
+MOST_ARCHITECTURES = 16
 
 
 def put_newer(known: dict[Name, str], name: Name, version: str) -> None:
@@ -63,6 +65,35 @@ def read_sources(paths: Sequence[str], binaries: Sequence[Binary], read: Reader 
             else:
                 found.put(name, version, fields.get(MAINTAINER, ""))
     return found
+
+
+@dataclass(frozen=True)
+class Index:
+    """Each source's version, the binary packages, the architectures, and who maintains the sources."""
+
+    sources: Mapping[str, str]
+    binaries: Sequence[Binary]
+    architectures: Sequence[str]
+    maintainers: Mapping[str, str] = field(default_factory=dict)
+
+    def of(self, binaries: Sequence[Binary]) -> "Index":
+        """These packages, and their sources."""
+        names = {binary.source for binary in binaries}
+        return dataclasses.replace(self, binaries=binaries, sources={
+            name: version for name, version in self.sources.items() if name in names})
+
+    def check(self, what: str, status: Exit = Exit.NEGATIVE) -> None:
+        """Refuses architectures that no setup takes."""
+        if not 0 < len(self.architectures) <= MOST_ARCHITECTURES:
+            raise Fault(f"{what} {len(self.architectures)} architectures; 1 to {MOST_ARCHITECTURES} are taken", status)
+
+
+def read_index(packages: Sequence[str], sources: Sequence[str], read: Reader = sections) -> Index:
+    """What these files Packages and Sources have."""
+    found, architectures = read_binaries(packages, read)
+    binaries = list(fitting(found)) if architectures else []
+    told = read_sources(sources if architectures else (), binaries, read)
+    return Index(told.versions, binaries, architectures, told.maintainers)
 
 
 @dataclass(frozen=True)

@@ -18,9 +18,6 @@ class Weight(enum.Enum):
     """As long as it is so: something doesn't move."""
 
 
-Listener = Callable[[str, Weight], None]
-
-
 def printed(what: str, _weight: Weight) -> None:
     """Prints a line on standard error."""
     faults.tell(NAME, escaped(what))
@@ -28,15 +25,10 @@ def printed(what: str, _weight: Weight) -> None:
 
 def escaped(what: str) -> str:
     """A line, its control characters by their numbers."""
-    return what if what.isprintable() else "".join(map(visible, what))
+    return "".join(character if character.isprintable() else ascii(character)[1:-1] for character in what)
 
 
-def visible(character: str) -> str:
-    """A character, or its number if it can't be printed."""
-    return character if character.isprintable() else ascii(character)[1:-1]
-
-
-listener: Listener = printed
+listener: Callable[[str, Weight], None] = printed
 """Who takes the lines: standard error, unless a command that shares these modules has another way."""
 
 

@@ -4,8 +4,7 @@ from typing import Iterator, Sequence
 
 from office_tools import versions
 from office_tools.counts import FORM
-from office_tools.hint.letters import Letter, Signature, hint, unhint
-from office_tools.hint.team import Team
+from office_tools.hint.team import Letter, Signature, Team, hint, unhint
 from office_tools.lint.state import wish_of
 from office_tools.reports import HintItem, Hints, ItemStanding, Wish
 

@@ -1,25 +1,23 @@
 """office-hint: mails hints of the release team to a running office, and takes them back."""
 import argparse
+import functools
 import getpass
 import re
 import sys
 from typing import Iterator, Optional, Sequence
 
-from office_tools.accounts import service_at
 from office_tools.days import day, today
 from office_tools.faults import Exit, Fault
 from office_tools.hint import back
-from office_tools.hint.letters import Letter, Signature, hint
-from office_tools.hint.team import TURNS, Team
-from office_tools.service import DEFAULT_URL
+from office_tools.hint.team import TURNS, Letter, Signature, Team, hint
+from office_tools.service import DEFAULT_URL, service_at
 from office_tools.trials import Trial, trial
 
 SECONDS = 600.0
 
 
-def tell(line: str) -> None:
-    """Prints a line at once."""
-    print(line, flush=True)
+tell = functools.partial(print, flush=True)
+"""Prints a line at once."""
 
 
 def login() -> Optional[str]:

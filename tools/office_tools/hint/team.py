@@ -1,20 +1,53 @@
 """The release team of a running office: its hints in force, its next number, and its mail."""
 import datetime
+from dataclasses import dataclass
 from typing import Callable, Optional, Sequence
 
 from office_tools.faults import Exit, Fault
-from office_tools.hint.letters import Letter, Signature
-from office_tools.lint.look import Days, Look
 from office_tools.lint.office import ServiceOffice
 from office_tools.lint.places import place_of
 from office_tools.lint.slips import slips
-from office_tools.lint.state import State
-from office_tools.mailing import is_held, mailed, verdict
-from office_tools.messages import Label, Role, paragraphs
-from office_tools.service import Service
+from office_tools.lint.state import Days, Look, State
+from office_tools.messages import Kind, Label, Role, composed, message, paragraphs
+from office_tools.service import Service, is_held
 
 TURNS = 20  # how often the next number is taken, if others mail at the same time
 FAR = 30  # days back from which an upload's day is odd; no hint has one
+
+
+@dataclass(frozen=True)
+class Signature:
+    """Who asks, and why: fields that the office keeps and doesn't read."""
+
+    by: Optional[str] = None
+    comment: Optional[str] = None
+
+    def fields(self) -> Sequence[tuple[str, str]]:
+        """The fields `By` and `Comment`, each if it is stated."""
+        return [(name, value) for name, value in (("By", self.by), ("Comment", self.comment)) if value]
+
+
+@dataclass(frozen=True)
+class Letter:
+    """A hint, or an `unhint` of a hint's number, and its signature."""
+
+    kind: Kind
+    value: str
+    signature: Signature
+
+    def text(self, label: Label) -> bytes:
+        """The message of this number."""
+        return message(label, self.kind, (self.value,)) + composed(self.signature.fields())
+
+
+def hint(wish: str, signature: Signature) -> Letter:
+    """A hint; white within it is one space."""
+    return Letter(Kind.HINT, " ".join(wish.split()), signature)
+
+
+def unhint(number: int, signature: Signature) -> Letter:
+    """What takes the hint of a number back."""
+    return Letter(Kind.UNHINT, str(number), signature)
 
 
 class Team:
@@ -39,9 +72,9 @@ class Team:
         label = self.next_label()
         for letter in letters:
             text = letter.text(label)
-            told = verdict(self.service, text)
+            told = self.service.verdict(text)
             if not is_held(told):
-                return f"{told}: {place_of(self.office, text, told).cause}"
+                return f"{told}: {place_of(self.office, text, told).words}"
         return None
 
     def slips(self, letters: Sequence[Letter], today: datetime.date) -> Sequence[str]:
@@ -71,7 +104,7 @@ class Team:
         It isn't if another message was mailed under that number meanwhile. Any other refusal is a `Fault`.
         """
         label = self.next_label()
-        reply = mailed(self.service, letter.text(label))
+        reply = self.service.mailed(letter.text(label))
         if is_held(reply):
             self.tell(reply)
             return True

@@ -4,19 +4,16 @@ from dataclasses import dataclass
 from typing import Iterator, Optional, Sequence
 
 from office_tools import bags
-from office_tools.accounts import service_at
 from office_tools.counts import count
 from office_tools.days import day, today
-from office_tools.faults import Exit, Fault
+from office_tools.faults import Exit, Fault, ending
 from office_tools.files import read_bytes
 from office_tools.lint.office import Office, ServiceOffice, StoreOffice
 from office_tools.lint.places import place_of
-from office_tools.lint.look import Days, Look, Warned
 from office_tools.lint.slips import slips
-from office_tools.lint.state import State
-from office_tools.mailing import is_held, mailed
+from office_tools.lint.state import Days, Look, Place, State
 from office_tools.messages import Kind, kind_of, label_of, paragraphs
-from office_tools.service import DEFAULT_URL, Service
+from office_tools.service import DEFAULT_URL, Service, is_held, service_at
 from office_tools.trials import trial
 
 NAME = "office-lint"
@@ -49,7 +46,7 @@ class Lint:
         self.trials = trials
         self.state: State = office.state()
 
-    def warned(self, look: Look) -> Sequence[Warned]:
+    def warned(self, look: Look) -> Sequence[Place]:
         """What is odd in a message; of a hint that is tried, also what the next run makes of it."""
         found = list(slips(look))
         if self.trials and look.kind is Kind.HINT:
@@ -64,7 +61,7 @@ class Lint:
             verdict = "refused OtherText"  # of a message before this one
         if label is None or not is_held(verdict):
             place = place_of(self.office, text.text, verdict)
-            print(f"{text.name}:{place.line}: {verdict}: {place.cause}", flush=True)
+            print(f"{text.name}:{place.line}: {verdict}: {place.words}", flush=True)
             return Exit.REFUSED
         first, *binaries = list(paragraphs(text.text))
         kind = kind_of(first)
@@ -77,7 +74,7 @@ class Lint:
         if self.sender.service is not None:
             if warned and not self.sender.is_forced:
                 return status
-            reply = mailed(self.sender.service, text.text)
+            reply = self.sender.service.mailed(text.text)
             print(f"{text.name}: {reply}", flush=True)
             if not is_held(reply):
                 return Exit.REFUSED
@@ -91,11 +88,9 @@ def texts_of(path: str) -> Iterator[Text]:
     if not bags.is_bag(data):
         yield Text(path, data, True)
         return
-    try:
+    with ending(Exit.REFUSED, f"{path}: "):
         for place, text in enumerate(bags.messages_in(data), 1):
             yield Text(f"{path}#{place}", text, False)
-    except bags.BagFault as fault:
-        raise Fault(f"{path}: {fault.cause}", Exit.REFUSED) from fault
 
 
 def parser() -> argparse.ArgumentParser:

@@ -10,10 +10,9 @@ from office_tools import program, setups
 from office_tools.faults import Exit, Fault
 from office_tools.letters import letters
 from office_tools.lint.state import Kept, State
-from office_tools.mailing import verdict
 from office_tools.messages import Label, label_of
 from office_tools.reports import Testing
-from office_tools.roles import setup_of
+from office_tools.senders import setup_of
 from office_tools.service import Kept as Count
 from office_tools.service import Service
 
@@ -31,15 +30,16 @@ class Office(abc.ABC):
     def state(self) -> State:
         """What it keeps, has in testing, and will see in the next run."""
 
-    @abc.abstractmethod
     def judged(self, texts: Sequence[bytes]) -> Sequence[str]:
         """Whether texts are messages at all, whatever is kept: by these verdicts the place of a fault is found."""
+        return list(self.verdicts(texts))
 
 
 class ServiceMail(Kept):
     """The mail of a running office."""
 
     def __init__(self, service: Service) -> None:
+        super().__init__()
         self.service = service
 
     def text(self, label: Label) -> Optional[bytes]:
@@ -63,11 +63,7 @@ class ServiceOffice(Office):
 
     def verdicts(self, texts: Sequence[bytes]) -> Iterator[str]:
         """Each is looked at in its turn, so after what was mailed before."""
-        return (verdict(self.service, text) for text in texts)
-
-    def judged(self, texts: Sequence[bytes]) -> Sequence[str]:
-        """A message whose number has another text is one."""
-        return [verdict(self.service, text) for text in texts]
+        return (self.service.verdict(text) for text in texts)
 
     def state(self) -> State:
         """The state, by what the office says of unstable, hints, testing and orders."""
@@ -75,30 +71,14 @@ class ServiceOffice(Office):
             self.service.unstable(), self.service.hints())
 
 
-class StoreMail(Kept):
-    """The mail of a store that no office has open."""
-
-    def __init__(self, texts: Sequence[bytes]) -> None:
-        self.kept = {label_of(text): text for text in texts}
-
-    def text(self, label: Label) -> Optional[bytes]:
-        """A message, or None."""
-        return self.kept.get(label)
-
-    def mail(self, sender: str) -> Iterator[bytes]:
-        """All messages of a sender, by number."""
-        numbers = sorted(label.number for label in self.kept if label and label.sender == sender)
-        return (self.kept[Label(sender, number)] for number in numbers)
-
-
 class StoreOffice(Office):
     """An office whose verdicts are those of a replay in memory, after the mail that a store keeps."""
 
     def __init__(self, conf: str, store: Optional[str]) -> None:
         self.conf = conf
-        self.store = store
+        self.store = program.Store(conf, store) if store else None
         self.setup = setups.read_setup(conf)
-        self.mail = StoreMail(program.exported(conf, store) if store else ())
+        self.mail = Kept(self.store.exported() if self.store else ())
 
     def verdicts(self, texts: Sequence[bytes]) -> Iterator[str]:
         """The replies of a replay of these texts, each after what is kept under its number."""
@@ -120,6 +100,5 @@ class StoreOffice(Office):
         """The state, by what the program says of the store."""
         if self.store is None:
             return State(self.setup, dict.fromkeys(self.setup.senders, Count(0, 0, 0)), Testing(0, {}, ()), self.mail)
-        counts = program.kept(self.conf, self.store)
-        return State(self.setup, counts, program.testing(self.conf, self.store), self.mail).told(
-            program.unstable(self.conf, self.store), program.hints(self.conf, self.store))
+        return State(self.setup, self.store.kept(), self.store.testing(), self.mail).told(
+            self.store.unstable(), self.store.hints())

@@ -7,10 +7,11 @@ one. The sentence on it is a rule of docs/RULES.md.
 import re
 import unicodedata
 from dataclasses import dataclass
-from typing import Iterator, Mapping, Optional, Sequence
+from typing import Mapping, Optional, Sequence
 
 from office_tools.bags import LONGEST
 from office_tools.lint.office import Office
+from office_tools.lint.state import Place
 from office_tools.messages import (BINARY_FIELDS, KINDS_OF, MOST_BINARIES, WHITE, Field, Kind, Paragraph,
                                    ParagraphCause, ParagraphFault, Role, kind_of, paragraphs)
 from office_tools.setups import Setup
@@ -33,14 +34,6 @@ WANTED: Mapping[str, str] = {
     "Severity": "critical, grave, serious, important, normal, minor or wishlist is due",
     "Day": "a day of the calendar, written as 2025-03-20, is due",
     "Architecture": "an architecture of the setup, or all, is due"}
-
-
-@dataclass(frozen=True)
-class Place:
-    """A line of a message, counted from 1, and what is wrong there."""
-
-    line: int
-    cause: str
 
 
 @dataclass(frozen=True)
@@ -225,14 +218,11 @@ class Faulty:
 
 def parts_of(field: Field, between: str) -> Sequence[Part]:
     """The parts of a value between these characters, without white at their ends; a space means all white."""
-    return list(parted(field, re.compile(f"[^{WHITE if between == ' ' else between}]+")))
-
-
-def parted(field: Field, form: re.Pattern[str]) -> Iterator[Part]:
-    """The parts of a value that are of this form."""
-    for found in form.finditer(field.value):
-        text = found[0].strip(WHITE)
-        yield Part(in_one_line(text), field.line_at(found.start() + found[0].find(text)))
+    found: list[Part] = []
+    for part in re.finditer(f"[^{WHITE if between == ' ' else between}]+", field.value):
+        text = part[0].strip(WHITE)
+        found.append(Part(in_one_line(text), field.line_at(part.start() + part[0].find(text))))
+    return found
 
 
 def in_one_line(text: str) -> str:

@@ -1,19 +1,18 @@
-"""What an office keeps and will see in its next run, taken on by each message that is looked at."""
-import abc
+"""What an office keeps and will see in its next run, taken on by each message that is looked at, and such a look."""
+import datetime
 import re
 from dataclasses import dataclass, field
-from typing import Callable, Iterable, Iterator, Mapping, Optional, TypeVar
+from typing import Callable, Iterable, Iterator, Mapping, Optional, Sequence, TypeVar
 
 from office_tools import versions
-from office_tools.messages import (KINDS_OF, Kind, Label, Paragraph, ParagraphFault, Role, kind_of, label_of_first,
-                                   paragraphs)
+from office_tools.messages import (KINDS_OF, Field, Kind, Label, Paragraph, ParagraphFault, Role, kind_of, label_of,
+                                   label_of_first, paragraphs)
 from office_tools.orders import Orders
 from office_tools.reports import Hints, Testing, Unstable, Wish
 from office_tools.service import Kept as Count
 from office_tools.setups import Setup
 
 NAME = re.compile(r"\s*([a-z0-9][a-z0-9+.-]+)")
-SOURCE = re.compile(r"([^\s(]+)\s*(?:\(\s*([^\s)]+)\s*\))?")
 
 Key = TypeVar("Key")
 Pair = tuple[str, str]
@@ -22,21 +21,6 @@ Delays = Mapping[str, int]
 """How many days an upload of each urgency waits, by the fields of a message on delays."""
 FIRST_DELAYS: Delays = {"Low": 10, "Medium": 5, "High": 2, "Critical": 0}
 """Those of an office to which none were mailed."""
-
-
-@dataclass(frozen=True)
-class Source:
-    """A source and its version, as the paragraph of a binary names them."""
-
-    name: str
-    version: str
-
-
-def source_of(binary: Paragraph) -> Source:
-    """The source of a binary's paragraph: without the field its own name, without a version there its own version."""
-    version = binary.value("Version") or ""
-    found = SOURCE.fullmatch(binary.value("Source") or binary.value("Package") or "")
-    return Source(found[1], found[2] or version) if found else Source("", version)
 
 
 def wish_of(hint: str) -> Wish:
@@ -69,16 +53,20 @@ EARLIER = (-1, 0, 0)
 """Means a message that was kept before, whose own place the office doesn't give."""
 
 
-class Kept(abc.ABC):
-    """The mail that an office keeps."""
+class Kept:
+    """The mail that an office keeps, all of it at hand."""
 
-    @abc.abstractmethod
+    def __init__(self, texts: Sequence[bytes] = ()) -> None:
+        self.kept = {label_of(text): text for text in texts}
+
     def text(self, label: Label) -> Optional[bytes]:
         """A message, or None if none is kept."""
+        return self.kept.get(label)
 
-    @abc.abstractmethod
     def mail(self, sender: str) -> Iterator[bytes]:
         """All messages of a sender, by number."""
+        numbers = sorted(label.number for label in self.kept if label and label.sender == sender)
+        return (self.kept[Label(sender, number)] for number in numbers)
 
 
 @dataclass
@@ -289,3 +277,56 @@ class State:
             if text is None:
                 return
             yield number, text
+
+
+@dataclass(frozen=True)
+class Place:
+    """A line of a message, counted from 1, and what is wrong or odd there."""
+
+    line: int
+    words: str
+
+
+@dataclass(frozen=True)
+class Days:
+    """The day of the caller, and how many days back an upload's day may lie."""
+
+    today: datetime.date
+    most: int
+
+
+@dataclass(frozen=True)
+class Look:
+    """A message that the office would take, and what it is judged by. It `is_alone` if it isn't in a bag."""
+
+    label: Label
+    kind: Kind
+    first: Paragraph
+    binaries: Sequence[Paragraph]
+    state: State
+    days: Days
+    is_alone: bool
+
+    def warned(self, name: str, words: str) -> Place:
+        """A warning at a field of the first paragraph."""
+        return Place(self.field(name).line, words)
+
+    def field(self, name: str) -> Field:
+        """A field of the first paragraph, which has it."""
+        found = self.first.field(name)
+        return found or Field(name, self.first.line, "", self.first.line)
+
+    def value(self, name: str) -> str:
+        """Its value."""
+        return self.field(name).value
+
+    def day(self) -> datetime.date:
+        """The message's day."""
+        return datetime.date.fromisoformat(self.value("Day"))
+
+    def senders(self) -> Iterator[str]:
+        """Each sender whose mail an order covers."""
+        return (sender for sender in self.state.unbroken if sender != self.state.runs)
+
+
+Check = Callable[[Look], Iterator[Place]]

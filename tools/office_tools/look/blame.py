@@ -57,7 +57,7 @@ class Eye:
         packages = {package: self.known[package] for package in map(package_of, testing.rows)
                     if package.architecture in (architecture, ALL) and package in self.known}
         watched = (architecture, ALL) if architecture == first else (architecture,)
-        return {broken.package: broken for broken in self.judge.broken(architecture, packages)
+        return {broken.package: broken for broken in self.judge(architecture, packages)
                 if broken.package.architecture in watched}
 
     def culprits(self, step: Step) -> Sequence[Mapping[str, str]]:

@@ -6,18 +6,17 @@ import sys
 from typing import Iterator, Optional, Sequence
 
 from office_tools import days, faults
-from office_tools.accounts import service_at
 from office_tools.apply.published import packages_of
 from office_tools.bags import bag_of
 from office_tools.faults import Exit, Fault
-from office_tools.folders import cache_of, locked, made
+from office_tools.files import cache_of, locked, made
 from office_tools.look import looking
 from office_tools.look.blame import Eye
 from office_tools.look.copy import Copy
 from office_tools.look.judge import DOSE, INSTALLCHECK, judge, read_known
 from office_tools.look.looking import Found, Look, is_due
 from office_tools.order import check_day, check_gaps
-from office_tools.service import DEFAULT_URL, Service
+from office_tools.service import DEFAULT_URL, Service, service_at
 
 NAME = "office-look"
 SETUP = "/etc/office/setup.conf"

@@ -6,8 +6,7 @@ import os
 import re
 import shutil
 import tempfile
-from dataclasses import dataclass
-from typing import Iterator, Mapping, NamedTuple, Optional, Protocol, Sequence
+from typing import Callable, Iterator, Mapping, NamedTuple, Optional, Sequence
 
 from office_tools import processes
 from office_tools.control import sections
@@ -74,19 +73,16 @@ def names_of(package: Package, known: Mapping[Package, str]) -> frozenset[str]:
     return frozenset((package.label, package.name, *provided(known.get(package, ""))))
 
 
-class Judge(Protocol):
-    """A program that finds the packages that can't be installed."""
-
-    def broken(self, architecture: str, packages: Mapping[Package, str]) -> Sequence[Broken]:
-        """Those of these packages that can't be installed on an architecture from these packages alone."""
+Judge = Callable[[str, Mapping[Package, str]], Sequence[Broken]]
+"""Finds those of these packages that can't be installed on an architecture from these packages alone."""
 
 
 def judge(name: Optional[str] = None) -> Optional[Judge]:
     """The judge of this name, or the first one that is installed; None if neither is."""
     if name in (None, INSTALLCHECK) and shutil.which(INSTALLCHECK):
-        return InstallCheck()
+        return by_installcheck
     if name in (None, DOSE) and shutil.which(DOSE):
-        return DoseDebcheck()
+        return by_dose
     if name is not None:
         raise Fault(f"{name} isn't installed", Exit.FAILED)
     return None
@@ -105,28 +101,24 @@ def output(words: Sequence[str], texts: Mapping[Package, str], file: str) -> str
     return processes.text(ran.stdout)
 
 
-@dataclass(frozen=True)
-class InstallCheck:
-    """installcheck of libsolv-tools."""
-
-    def broken(self, architecture: str, packages: Mapping[Package, str]) -> Sequence[Broken]:
-        """Those that it can't install."""
-        labels = {package.label: package for package in packages}
-        found: list[Broken] = []
-        lines: list[str] = []
-        package: Optional[Package] = None
-        for line in [*output([INSTALLCHECK, architecture], packages, f"{architecture}.Packages").splitlines(),
-                     f"can't install {END}:"]:
-            head = BROKEN.fullmatch(line)
-            if head is None:
-                lines.append(line.strip())
-                continue
-            if package is not None:
-                found.append(Broken(package, lines[0] if lines else "", frozenset(named(lines))))
-            package, lines = labels.get(head[1]), []
-            if package is None and head[1] != END:
-                raise Fault(f"{INSTALLCHECK}: it names a package that it wasn't given: {head[1]}", Exit.FAILED)
-        return found
+def by_installcheck(architecture: str, packages: Mapping[Package, str]) -> Sequence[Broken]:
+    """Those that installcheck of libsolv-tools can't install."""
+    labels = {package.label: package for package in packages}
+    found: list[Broken] = []
+    lines: list[str] = []
+    package: Optional[Package] = None
+    for line in [*output([INSTALLCHECK, architecture], packages, f"{architecture}.Packages").splitlines(),
+                 f"can't install {END}:"]:
+        head = BROKEN.fullmatch(line)
+        if head is None:
+            lines.append(line.strip())
+            continue
+        if package is not None:
+            found.append(Broken(package, lines[0] if lines else "", frozenset(named(lines))))
+        package, lines = labels.get(head[1]), []
+        if package is None and head[1] != END:
+            raise Fault(f"{INSTALLCHECK}: it names a package that it wasn't given: {head[1]}", Exit.FAILED)
+    return found
 
 
 def named(lines: Sequence[str]) -> Iterator[str]:
@@ -135,22 +127,18 @@ def named(lines: Sequence[str]) -> Iterator[str]:
         yield from (word for word in (part.strip("(),|") for part in line.split()) if word not in OWN_WORDS)
 
 
-@dataclass(frozen=True)
-class DoseDebcheck:
-    """dose-debcheck of dose-distcheck. It prints YAML; lines of known depth are read."""
-
-    def broken(self, architecture: str, packages: Mapping[Package, str]) -> Sequence[Broken]:
-        """Those that it can't install."""
-        words = [DOSE, f"--deb-native-arch={architecture}", "--deb-ignore-essential", "--explain", "--failures"]
-        text = output(words, packages, "Packages")
-        entries = re.split(r"^ -\n(?=  package: )", text, flags=re.MULTILINE)[1:]
-        found = []
-        for entry in entries:
-            head = [line.partition(": ")[2] for line in entry.splitlines()[:3]]
-            names = re.findall(r"^ +(?:package|unsat-\w+|depends): (.*)$", entry, re.MULTILINE)
-            cause = re.search(r"^ +unsat-(dependency|conflict): (.*)$", entry, re.MULTILINE)
-            found.append(Broken(Package(*head), f"{cause[1]}: {cause[2]}" if cause else "",
-                                frozenset(name for part in names for name in NAME.findall(part))))
-            if found[-1].package not in packages:
-                raise Fault(f"{DOSE}: it names a package that it wasn't given: {' '.join(head)}", Exit.FAILED)
-        return found
+def by_dose(architecture: str, packages: Mapping[Package, str]) -> Sequence[Broken]:
+    """Those that dose-debcheck of dose-distcheck can't install. It prints YAML; lines of known depth are read."""
+    words = [DOSE, f"--deb-native-arch={architecture}", "--deb-ignore-essential", "--explain", "--failures"]
+    text = output(words, packages, "Packages")
+    entries = re.split(r"^ -\n(?=  package: )", text, flags=re.MULTILINE)[1:]
+    found = []
+    for entry in entries:
+        head = [line.partition(": ")[2] for line in entry.splitlines()[:3]]
+        names = re.findall(r"^ +(?:package|unsat-\w+|depends): (.*)$", entry, re.MULTILINE)
+        cause = re.search(r"^ +unsat-(dependency|conflict): (.*)$", entry, re.MULTILINE)
+        found.append(Broken(Package(*head), f"{cause[1]}: {cause[2]}" if cause else "",
+                            frozenset(name for part in names for name in NAME.findall(part))))
+        if found[-1].package not in packages:
+            raise Fault(f"{DOSE}: it names a package that it wasn't given: {' '.join(head)}", Exit.FAILED)
+    return found

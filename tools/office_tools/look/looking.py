@@ -11,7 +11,6 @@ from office_tools.from_packages.mail import proposal
 from office_tools.letters import letters
 from office_tools.look.blame import Eye, Step
 from office_tools.look.copy import Copy
-from office_tools.mailing import mail_all
 from office_tools.messages import Made, label_of, numbered, paragraphs
 from office_tools.orders import Orders, stated_covers
 from office_tools.service import Service
@@ -124,7 +123,7 @@ def blocks(service: Service, sender: str, numbers: Sequence[int]) -> Iterator[Bl
 
 def send(service: Service, texts: Sequence[bytes]) -> None:
     """Posts messages one after the other; the first that isn't held ends it."""
-    mail_all(service, texts, lambda _: ": somebody else sends too: run it again")
+    service.mail_all(texts, lambda _: ": somebody else sends too: run it again")
 
 
 def is_due(service: Service, order: bytes, day: datetime.date) -> bool:

@@ -3,11 +3,10 @@ import argparse
 import sys
 from typing import Optional, Sequence
 
-from office_tools.accounts import service_at
 from office_tools.faults import Exit, Fault, tell
 from office_tools.mirror import held as memory
-from office_tools.mirror.turn import Source, Turn
-from office_tools.service import Service
+from office_tools.mirror.turn import Turn
+from office_tools.service import Service, service_at
 
 NAME = "office-mirror"
 BAG = "-"
@@ -31,7 +30,7 @@ def turn(source: Service, target: str, state: Optional[str], is_all: bool) -> Ex
     """Brings all mail to one office, or into the bag, and prints how much was sent."""
     if target == BAG:
         done = Turn(lambda what: tell(NAME, what))
-        done.to_bag(Source(source), sys.stdout.buffer)
+        done.to_bag(source, sys.stdout.buffer)
         tell(NAME, f"{done.sent} messages in the bag")
         return done.status
     other = service_at(target)
@@ -39,7 +38,7 @@ def turn(source: Service, target: str, state: Optional[str], is_all: bool) -> Ex
     held = memory.read(path) if path and not is_all else {}
     done = Turn(lambda what: tell(NAME, what), lambda: memory.write(path, held) if path else None)
     try:
-        done.to_office(Source(source), other, held)
+        done.to_office(source, other, held)
     finally:
         if path:
             memory.write(path, held)

@@ -1,15 +1,17 @@
 """office-notify: writes to the maintainers of the sources that a run moved."""
 import argparse
+import json
+from dataclasses import dataclass, field
 from email.headerregistry import Address
 from typing import Collection, Iterator, Optional, Sequence
 
-from office_tools.accounts import service_at
 from office_tools.counts import number
-from office_tools.faults import Exit, Fault, tell
-from office_tools.notify import mails, told
+from office_tools.faults import Exit, Fault, cause_of, tell
+from office_tools.files import write_whole
+from office_tools.notify import mails
+from office_tools.notify.mails import Move, Moves, moves_of
 from office_tools.notify.maintainers import Maintainers, address_of, read_sources
-from office_tools.notify.moves import Move, Moves, moves_of
-from office_tools.service import DEFAULT_URL, Service
+from office_tools.service import DEFAULT_URL, Service, service_at
 
 NAME = "office-notify"
 SENDMAIL = "/usr/sbin/sendmail -oi -t"
@@ -37,6 +39,31 @@ def parser() -> argparse.ArgumentParser:
     return words
 
 
+@dataclass
+class Told:
+    """The last run that all got mail about, and the addresses that got mail about the run after it."""
+
+    run: int
+    done: set[str] = field(default_factory=set)
+
+    def write(self, path: Optional[str]) -> None:
+        """Remembers it, if there is a file."""
+        if path:
+            write_whole(path, json.dumps({"run": self.run, "done": sorted(self.done)}).encode() + b"\n")
+
+
+def read_told(path: str) -> Optional[Told]:
+    """What a file remembers, or None if there is no file."""
+    try:
+        with open(path, encoding="utf-8") as file:
+            kept = json.load(file)
+        return Told(int(kept["run"]), set(map(str, kept["done"])))
+    except FileNotFoundError:
+        return None
+    except (OSError, ValueError, TypeError, KeyError, OverflowError, RecursionError) as fault:
+        raise Fault(f"{path}: {cause_of(fault)}: remove it to begin with the next run", Exit.USAGE) from fault
+
+
 def by_maintainer(maintainers: Maintainers, moves: Moves,
                   other: Optional[Address]) -> Collection[tuple[Address, list[Move]]]:
     """The moves of a run by the addresses of their sources' maintainers."""
@@ -62,7 +89,7 @@ class Notifier:
         self.way = (mails.to_mbox(asked.mbox) if asked.mbox
                     else mails.to_command(asked.sendmail) if asked.sendmail else mails.to_output)
 
-    def notify(self, known: told.Told) -> None:
+    def notify(self, known: Told) -> None:
         """Sends the mails of the run after the known one to all who got none, and remembers each of them."""
         moves = moves_of(self.service, known.run + 1)
         for address, own in by_maintainer(self.maintainers, moves, self.other):
@@ -82,18 +109,18 @@ def needed_address(text: str) -> Address:
     return address
 
 
-def runs(service: Service, asked: argparse.Namespace) -> Iterator[told.Told]:
+def runs(service: Service, asked: argparse.Namespace) -> Iterator[Told]:
     """What is known before each run that is due."""
     finished = service.status().finished
     if asked.run:
         if asked.run > finished:
             raise Fault(f"run {asked.run} isn't finished: {finished} are", Exit.USAGE)
-        yield told.Told(asked.run - 1)
+        yield Told(asked.run - 1)
         return
-    known = told.read(asked.state)
+    known = read_told(asked.state)
     if known is None:
         tell(NAME, f"{asked.state} is new: it begins after run {finished}")
-        told.Told(finished).write(asked.state)
+        Told(finished).write(asked.state)
         return
     while known.run < finished:
         yield known

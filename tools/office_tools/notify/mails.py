@@ -1,4 +1,4 @@
-"""The mail to a maintainer, and the ways that it can go."""
+"""What a run moved into testing and took out of it, the mail to a maintainer on it, and the ways that it can go."""
 import datetime
 import hashlib
 import mailbox
@@ -10,12 +10,52 @@ from email.headerregistry import Address
 from email.message import EmailMessage
 from typing import Callable, Optional, Sequence
 
-from office_tools.faults import Exit, Fault, cause_of
-from office_tools.notify.moves import Move, Moves
+from office_tools.faults import Exit, Fault, naming
+from office_tools.reports import Outcome, Word
+from office_tools.service import Service
 
 SECONDS = 300  # how long a mailer may take for one mail
 
 Way = Callable[[EmailMessage], None]
+
+
+@dataclass(frozen=True)
+class Move:
+    """A source that a run moved, and testing's version before; one that is taken out has no new version."""
+
+    source: str
+    before: Optional[str]
+    after: Optional[str]
+
+    @property
+    def told(self) -> str:
+        """The line of a mail."""
+        if self.after is None:
+            return f"{self.source} {self.before} was taken out of testing"
+        had = f"testing had {self.before}" if self.before else "it is new in testing"
+        return f"{self.source} {self.after} migrated to testing ({had})"
+
+
+@dataclass(frozen=True)
+class Moves:
+    """All moves of a run, in the order of its decisions."""
+
+    run: int
+    date: datetime.date
+    moves: Sequence[Move]
+
+
+def moves_of(service: Service, run: int) -> Moves:
+    """The moves of a finished run."""
+    update = service.update(run)
+    before = {excuse.source: excuse.testing for excuse in service.excuses(run).excuses}
+    found = []
+    for change in update.changes:
+        if change.outcome is Outcome.ACCEPTED:
+            is_removal = change.word is Word.REMOVE
+            found += [Move(item.source, item.version if is_removal else before.get(item.source),
+                           None if is_removal else item.version) for item in change.items]
+    return Moves(run, update.date, found)
 
 
 @dataclass(frozen=True)
@@ -63,7 +103,7 @@ def to_output(message: EmailMessage) -> None:
 def to_mbox(path: str) -> Way:
     """Adds mails to a file of the form mbox, which is locked meanwhile."""
     def add(message: EmailMessage) -> None:
-        try:
+        with naming(path, Exit.REFUSED, mailbox.Error):
             box = mailbox.mbox(path)
             box.lock()
             try:
@@ -72,8 +112,6 @@ def to_mbox(path: str) -> Way:
             finally:
                 box.unlock()
                 box.close()
-        except (OSError, mailbox.Error) as fault:
-            raise Fault(f"{path}: {cause_of(fault)}", Exit.REFUSED) from fault
     return add
 
 
@@ -81,10 +119,8 @@ def to_command(command: str) -> Way:
     """Hands mails to a command such as sendmail, on its standard input."""
     def send(message: EmailMessage) -> None:
         words = shlex.split(command)
-        try:
+        with naming(command, Exit.REFUSED, subprocess.TimeoutExpired):
             ran = subprocess.run(words, input=message.as_bytes(), timeout=SECONDS, check=False)
-        except (OSError, subprocess.TimeoutExpired) as fault:
-            raise Fault(f"{command}: {cause_of(fault)}", Exit.REFUSED) from fault
         if ran.returncode:
             raise Fault(f"{command}: status {ran.returncode}: the mail to {message['To']} isn't sent", Exit.REFUSED)
     return send

@@ -7,7 +7,7 @@ from typing import Mapping, Optional, Sequence
 
 import apt_pkg
 
-from office_tools.faults import Fault, cause_of
+from office_tools.faults import Exit, naming
 from office_tools.messages import ParagraphFault, paragraphs
 from office_tools.service import Service
 
@@ -31,12 +31,9 @@ def read_sources(paths: Sequence[str]) -> Mapping[str, str]:
     """The field `Maintainer` of each source of files Sources, which may be compressed as apt knows it."""
     found: dict[str, str] = {}
     for path in paths:
-        try:
-            with apt_pkg.TagFile(path) as paragraphs_of:
-                for part in paragraphs_of:
-                    found[part.get("Package", "")] = part.get("Maintainer", "")
-        except (apt_pkg.Error, OSError, ValueError) as fault:
-            raise Fault(f"{path}: {cause_of(fault)}") from fault
+        with naming(path, Exit.NEGATIVE, apt_pkg.Error, ValueError), apt_pkg.TagFile(path) as paragraphs_of:
+            for part in paragraphs_of:
+                found[part.get("Package", "")] = part.get("Maintainer", "")
     return found
 
 

@@ -12,9 +12,8 @@ from typing import Iterator, Sequence
 from office_tools.faults import Exit, Fault, cause_of
 from office_tools.pages.fetching import fetch, fetch_answers
 from office_tools.pages.kept_mail import read_mail
-from office_tools.pages.look import Extras, Look
+from office_tools.pages.look import BUGS, BUILDS, CHANGELOG, Extras, Look, Patterns, TRACKER
 from office_tools.pages.offices import FileOffice, NAME, Office, ServiceOffice, StoreOffice
-from office_tools.pages.patterns import BUGS, BUILDS, CHANGELOG, Patterns, TRACKER
 from office_tools.pages.people import read_people
 from office_tools.pages.state import State
 from office_tools.service import DEFAULT_URL

@@ -81,7 +81,7 @@ def fetch_runs(office: Office, state: State) -> Optional[Newest]:
 def fetch_run(office: Office, state: State, run: reports.Run) -> Newest:
     """Keeps a run with its events, and gives it."""
     now = datetime.datetime.now(datetime.timezone.utc).strftime("%Y-%m-%dT%H:%M:%SZ")
-    kept = KeptRun(run, now, office.excuses(run.number), office.update(run.number))
+    kept = KeptRun(run, now, office.report(run.number, "excuses"), office.report(run.number, "update"))
     read = Newest(kept)
     if (read.excuses.run, read.excuses.date, read.update.run) != (run.number, run.date, run.number):
         raise Fault(f"the office returned the reports of another run instead of run {run.number}")

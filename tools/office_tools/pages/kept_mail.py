@@ -152,10 +152,6 @@ class KeptMail:
         """Whether all mail was read that was kept when this run was the newest one."""
         return self.read_up_to().get(ALL) == run
 
-    def keep_read(self, run: int) -> None:
-        """All mail was read that was kept when this run was the newest one."""
-        self.write(Found(), {ALL: run})
-
     def forget(self) -> None:
         """Forgets all mail, which is then read again."""
         with self.state.transaction():
@@ -228,7 +224,7 @@ def read_mail(office: Office, state: State, newest: int, until: float) -> None:
         done = {}
     if all(read_of(office, mail, (sender, place), (done.get(sender, 0) + 1, last), until)
            for place, (sender, last) in enumerate(kept.items())):
-        mail.keep_read(newest)
+        mail.write(Found(), {ALL: newest})
 
 
 def read_of(office: Office, mail: KeptMail, sender: tuple[str, int], numbers: tuple[int, int], until: float) -> bool:

@@ -3,8 +3,7 @@ from typing import Iterator
 
 from office_tools.pages import views
 from office_tools.pages.britney_yaml import ExcusesYaml
-from office_tools.pages.change_pages import change_pages, Feeds, RUNS
-from office_tools.pages.changes import changes_of
+from office_tools.pages.change_pages import change_pages, changes_of, Feeds, RUNS
 from office_tools.pages.day_pages import day_pages, missing_pages
 from office_tools.pages.look import Extras
 from office_tools.pages.people_pages import PeoplePages

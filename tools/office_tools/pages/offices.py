@@ -11,7 +11,7 @@ from office_tools.files import read_bytes
 from office_tools.messages import Kind, kind_of, Label, label_of, paragraphs
 from office_tools.pages.outcomes import run_of
 from office_tools.pages.state import SentHint
-from office_tools.service import Kept, kept_in, NO_ROUTE, Service
+from office_tools.service import Kept, NO_ROUTE, Service
 
 NAME = "office-pages"
 AT_ONCE = 100  # sources about which the program is asked by one command, which opens the store once
@@ -25,12 +25,8 @@ class Office(abc.ABC):
         """The finished runs, in order."""
 
     @abc.abstractmethod
-    def excuses(self, run: int) -> str:
-        """The excuses of a run."""
-
-    @abc.abstractmethod
-    def update(self, run: int) -> str:
-        """The update of a run."""
+    def report(self, run: int, kind: str) -> str:
+        """The `excuses` or the `update` of a run."""
 
     @abc.abstractmethod
     def testing(self) -> Optional[str]:
@@ -83,13 +79,10 @@ class ServiceOffice(Office):
         self.is_older = False
 
     def runs(self) -> Sequence[reports.Run]:
-        return reports.read_runs(self.service.good_text("/runs"), self.service.url + "/runs")
+        return self.service.runs()
 
-    def excuses(self, run: int) -> str:
-        return self.service.good_text(f"/excuses/{run}")
-
-    def update(self, run: int) -> str:
-        return self.service.good_text(f"/update/{run}")
+    def report(self, run: int, kind: str) -> str:
+        return self.service.good_text(f"/{kind}/{run}")
 
     def testing(self) -> Optional[str]:
         return self.service.good_text("/testing")
@@ -162,31 +155,24 @@ class StoreOffice(Office):
     """The office whose store is in a file that no office has open, asked by the program."""
 
     def __init__(self, setup: str, store: str) -> None:
-        self.options = ["--conf", setup, "--db", store]
+        self.store = program.Store(setup, store)
         self.sent: Optional[Mapping[int, SentHint]] = None
         self.mail: Optional[dict[str, dict[int, bytes]]] = None
 
-    def told(self, *words: str) -> str:
-        """What a command of the program prints."""
-        return program.output([*words, *self.options]).decode()
-
     def runs(self) -> Sequence[reports.Run]:
-        return reports.read_runs(self.told("runs"))
+        return reports.read_runs(self.store.told("runs"))
 
-    def excuses(self, run: int) -> str:
-        return self.told("report", str(run), "excuses")
-
-    def update(self, run: int) -> str:
-        return self.told("report", str(run), "update")
+    def report(self, run: int, kind: str) -> str:
+        return self.store.told("report", str(run), kind)
 
     def testing(self) -> Optional[str]:
-        return self.told("report", "testing")
+        return self.store.told("report", "testing")
 
     def unstable(self) -> Optional[str]:
-        return self.told("report", "unstable")
+        return self.store.told("report", "unstable")
 
     def kept(self) -> Mapping[str, Kept]:
-        return kept_in(self.told("mail"))
+        return self.store.kept()
 
     def letters(self, sender: str, first: int, last: int) -> Iterator[tuple[int, bytes]]:
         found = self.all_mail().get(sender, {})
@@ -196,7 +182,7 @@ class StoreOffice(Office):
         """All kept mail, which is printed once, by sender and number."""
         if self.mail is None:
             self.mail = {}
-            for text in bags.messages_in(program.output(["export", *self.options])):
+            for text in self.store.exported():
                 label = label_of(text)
                 if label is not None:
                     self.mail.setdefault(label.sender, {})[label.number] = text
@@ -207,7 +193,7 @@ class StoreOffice(Office):
             if time.monotonic() >= until:
                 return
             # If the run says nothing of one of them, the status is 1: so what is printed counts, and not the status.
-            told = program.run(["why", *sources[place:place + AT_ONCE], *self.options]).stdout.decode()
+            told = program.run(["why", *sources[place:place + AT_ONCE], *self.store.words]).stdout.decode()
             for part in re.split(r"(?m)^(?=why \d+ \S+$)", told):
                 head = part.split("\n", 1)[0].split(" ")
                 if len(head) == 3:
@@ -219,11 +205,11 @@ class StoreOffice(Office):
         return self.sent.get(number)
 
     def hints(self) -> Optional[str]:
-        return self.told("hints")
+        return self.store.told("hints")
 
     def proposed(self, source: str = "") -> Optional[str]:
         # If nothing is proposed, or the source isn't freed, the status is 1.
-        ran = program.run(["propose", *([source] if source else []), *self.options])
+        ran = program.run(["propose", *([source] if source else []), *self.store.words])
         return ran.stdout.decode() if ran.returncode in (0, 1) else None
 
 
@@ -241,9 +227,10 @@ class FileOffice(Office):
     """The reports of one run, in files."""
 
     def __init__(self, excuses: str, update: str, testing: Optional[str]) -> None:
-        self.texts = [text_of(excuses), text_of(update)]
+        self.texts = {"excuses": text_of(excuses), "update": text_of(update)}
         self.in_testing = text_of(testing) if testing else None
-        told, done = reports.read_excuses(self.texts[0], excuses), reports.read_update(self.texts[1], update)
+        told = reports.read_excuses(self.texts["excuses"], excuses)
+        done = reports.read_update(self.texts["update"], update)
         if (told.run, told.date) != (done.run, done.date):
             raise Fault(f"the excuses are of run {told.run} of {told.date}, "
                         f"and the update is of run {done.run} of {done.date}")
@@ -256,11 +243,8 @@ class FileOffice(Office):
     def runs(self) -> Sequence[reports.Run]:
         return [self.run]
 
-    def excuses(self, run: int) -> str:
-        return self.texts[0]
-
-    def update(self, run: int) -> str:
-        return self.texts[1]
+    def report(self, run: int, kind: str) -> str:
+        return self.texts[kind]
 
     def testing(self) -> Optional[str]:
         return self.in_testing

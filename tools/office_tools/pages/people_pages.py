@@ -4,7 +4,7 @@ import functools
 from typing import Callable, Iterable, Iterator, Mapping, Sequence
 
 from office_tools.pages import people, views
-from office_tools.pages.changes import Change, Kind, sentence
+from office_tools.pages.change_pages import Change, Kind, sentence
 from office_tools.pages.outcomes import NOTHING, What
 from office_tools.pages.rows import Column
 from office_tools.pages.sections import cell, Kept, line, Section, SectionPage, Table

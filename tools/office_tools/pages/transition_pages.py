@@ -9,8 +9,8 @@ from office_tools.pages.rows import Cell, Column
 from office_tools.pages.sections import cell, line, Section, SectionPage, Table
 from office_tools.pages.state import State
 from office_tools.pages.told import Line, Links, Piece
-from office_tools.pages.transitions import (GONE, MISSING, NEITHER, NEW, OLD, Reader, suite_of_testing,
-                                            suite_of_unstable, Transition, User)
+from office_tools.pages.transitions import (GONE, MISSING, NEITHER, NEW, OLD, Reader, suite_of, suite_of_unstable,
+                                            Transition, User)
 
 MOST_NAMES = 200  # sources of a level that are named, and of all levels; the table has all
 MOST_IN_ALL = 600
@@ -27,7 +27,8 @@ def transition_pages(facts: views.Facts, state: State) -> Iterator[SectionPage]:
     names = [name for name, excuse in facts.excuses.items() if excuse.testing is not None
              and facts.outcomes.get(name, NOTHING)[-1].what is not What.ACCEPT]
     mail = KeptMail(state)
-    found = Reader(suite_of_testing(facts.testing), suite_of_unstable(unstable[1]), mail).transitions(names)
+    testing = suite_of(facts.testing.sources, list(map(" ".join, facts.testing.rows)))
+    found = Reader(testing, suite_of_unstable(unstable[1]), mail).transitions(names)
     yield list_page(facts, found, mail.is_read(facts.newest.number))
     links = facts.links("../source/")
     for transition in found:

@@ -9,7 +9,6 @@ from dataclasses import dataclass
 from typing import Collection, Iterable, Mapping, Optional, Sequence
 
 from office_tools.pages.kept_mail import Build, clause_names, KeptMail
-from office_tools.reports import Testing
 
 Key = tuple[str, str]  # an architecture and a package
 DIGITS = re.compile(r"[0-9.]+|t64$")
@@ -122,11 +121,6 @@ def suite_of(sources: Mapping[str, str], texts: Sequence[str]) -> Suite:
         else:
             found[source] = [text]
     return Suite(sources, frozenset(texts), found)
-
-
-def suite_of_testing(testing: Testing) -> Suite:
-    """Testing, as it was read."""
-    return suite_of(testing.sources, list(map(" ".join, testing.rows)))
 
 
 def suite_of_unstable(told: str) -> Suite:

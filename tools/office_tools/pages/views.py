@@ -10,8 +10,8 @@ from office_tools import reports
 from office_tools.pages.fetching import HINTS, PROPOSED, hints_named, Newest, sources_in, without_age
 from office_tools.pages.hints import pages_of, Refusal, refusals_of
 from office_tools.pages.kept_mail import Person
+from office_tools.pages.look import Patterns
 from office_tools.pages.outcomes import NOTHING, outcome_in, reason_words, SourceOutcome, What
-from office_tools.pages.patterns import Patterns
 from office_tools.pages.people import page_of
 from office_tools.pages.sentences import breaks, old_enough, outcome_sentence, reason_sentence, refused_because
 from office_tools.pages.state import Event, Proposal, SentHint, State, Why

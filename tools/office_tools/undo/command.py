@@ -9,8 +9,7 @@ from typing import Iterator, Sequence
 from office_tools import bags, faults, program
 from office_tools.faults import Exit, Fault
 from office_tools.feed.mailbox import BAG
-from office_tools.files import read_bytes
-from office_tools.folders import cache_of
+from office_tools.files import cache_of, read_bytes
 from office_tools.service import DEFAULT_URL, Service
 from office_tools.undo.exchange import Locked, discarded, exchange, state_of
 from office_tools.undo.outcome import check, differences, replayed, summary
@@ -65,26 +64,21 @@ def is_wanted(is_asked: bool) -> bool:
     return sys.stdin.readline().strip().lower() in ("y", "yes")
 
 
-def show(gone: Sequence[Letter]) -> None:
-    """Prints what is taken back."""
-    for letter in gone:
-        print(f"undo {letter.label.sender} {letter.label.number} {letter.what}")
-
-
 def main(asked: argparse.Namespace) -> int:
     """Makes the office without these messages, shows how it differs, and exchanges the stores on a word."""
     store = os.path.realpath(asked.db)
     if not os.path.exists(store):
         raise Fault(f"{asked.db}: there is no such store", Exit.USAGE)
     new = store + ".undone"
-    letters = read(program.exported(asked.conf, store))
+    letters = read(program.Store(asked.conf, store).exported())
     state = state_of(store)
     gone = list(chosen(letters, asked.undo))
-    show(gone)
+    for letter in gone:
+        print(f"undo {letter.label.sender} {letter.label.number} {letter.what}")
     try:
         discarded(new)
         before = replayed(["--conf", asked.conf], [letter.text for letter in letters])
-        after = replayed(["--conf", asked.conf, "--db", new], list(without(letters, gone)))
+        after = replayed(program.Store(asked.conf, new).words, list(without(letters, gone)))
         check(before, after)
         for line in differences(before, after):
             print(line)

@@ -99,11 +99,6 @@ def orders(letters: Sequence[Letter]) -> Mapping[int, Order]:
     return found
 
 
-def is_feeds(letter: Letter) -> bool:
-    """Whether a message takes something away as a feed saw it gone: a drop, or its hint for a source that is gone."""
-    return kind_of(letter.first) is Kind.DROP or letter.first.value(GONE) is not None
-
-
 def chosen(letters: Sequence[Letter], slips: Sequence[Slip]) -> Iterator[Letter]:
     """The messages that these slips name, without those that say nothing already. A slip without any is a `Fault`."""
     runs = orders(letters)
@@ -126,8 +121,10 @@ def is_named(letter: Letter, entry: Slip, runs: Mapping[int, Order]) -> bool:
         return False
     if isinstance(entry, Mail):
         return letter.label.sender == entry.sender and entry.first <= letter.label.number <= entry.last
+    # A feed takes something away by a drop, or by its hint for a source that is gone.
+    is_feeds = kind_of(letter.first) is Kind.DROP or letter.first.value(GONE) is not None
     those = [order for number, order in runs.items() if entry in (number, order.day)]
-    return is_feeds(letter) and any(order.is_first_to_see(letter.label) for order in those)
+    return is_feeds and any(order.is_first_to_see(letter.label) for order in those)
 
 
 def named(entry: Slip) -> str:
