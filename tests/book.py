@@ -26,8 +26,7 @@ CHAPTERS = [
     Chapter(
         'What an office is',
         ['office_core', 'office_store_keeper', 'office_mail/specs/Kept.antt', 'office_mail/specs/Laws.antt',
-         'office_mail/specs/Runs.antt', 'testing_rules_model/specs/FactRows.antt',
-         'testing_rules_model/src/fact_row.rt'],
+         'office_mail/specs/Runs.antt'],
         'An office gets texts, and keeps under each sender and number the first text that is a message. Orders say '
         'which messages a run covers, and a run is ready when all of these are kept. The office finishes ready runs '
         'one after another, and its history is a list of such steps.',
@@ -71,6 +70,7 @@ NOTATION = [
     ('`A ⊎ B`, `A ↔ B`, `⊥`', 'A or B; each if the other; never'),
     ('`x ≡ y`, `x == y`', 'the statement that both are equal; the test, which is true or false'),
     ('`record`, `data`', 'all of the lines below it hold, or stand in it; one of the lines below it'),
+    ('`record x { f = e }`', 'x, but for its field f, which is e'),
     ('`abbrev`, `unfoldable`', 'a definition by the equations below it, of which the first that fits counts'),
     ('`elim x [ p ↦ a | _ ↦ b ]`', 'a where x has the form p, and else b'),
     ('`x ∷ xs`, `xs ++ ys`, `[]`', 'x and then xs; xs and then ys; the empty list'),
@@ -261,7 +261,7 @@ class Book:
         rows = [f'| {this} | {says} |' for this, says in NOTATION]
         yield '\n'.join(['| Notation | How to read it |', '|---|---|', *rows])
         yield '## The headline'
-        yield f'It stands in `{LAW}`. `no_content` keeps nothing, and has no finished run.'
+        yield f'It stands in `{LAW}`. `new_office` keeps nothing, and has no finished run.'
         yield f'```rust\n{narrow(self.law())}\n```'
 
     def back(self):

@@ -25,7 +25,7 @@ SOURCES = {'.rt', '.antt', '.py', '.sh'}
 # The name of a file or a folder on the page of a crate.
 IS_FILE = re.compile(r'\w[\w.-]*(?:/[\w.-]+)+/?|[\w.-]+\.(?:rt|antt|py|sh|txt|md)')
 # Words of the toolchain and folders that each crate has: they name nothing in particular.
-PLAIN = {'src/', 'specs/', 'proofs/', 'must-fail/', 'crates/', 'use', 'crates/NAME/README.md'}
+PLAIN = {'src/', 'specs/', 'specs/steps/', 'proofs/', 'must-fail/', 'crates/', 'use', 'crates/NAME/README.md'}
 
 def is_path(word):
     """Whether a citation names a file or a folder."""

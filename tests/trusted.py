@@ -17,7 +17,7 @@ row for all that was added, which names a definition of ADDED: the claims of FIR
               those of them that no claim above it needs, and what no claim needs: laws on which nothing rests, other
               calls; then what the claims of FIRST need together, and what all need
   --list      each definition, its lines, and whether it is believed, a step, or a step that contracts of a crate cite
-  --check     a line for each file whose first line says falsely what it is, for each definition that names one of ADDED
+  --check     a line for each definition on the wrong side of `specs/steps/`, for each definition that names one of ADDED
               elsewhere than in a last row, for each claim whose row in docs/TRUST.md, or of FIRST in README.md, misses
               or has another count, and for each other count of lines there that is none here; status 1 if there is one
   --write     puts the counts of this tree into both pages
@@ -78,7 +78,9 @@ LATER = [
     ('whole stores, bags of kept mail, lists', [
         'office_core_check', 'office_core_queries', 'office_core_laws::order_is_taken']),
     ('plans of a suite, and what is due to an office', ['archive_plan', 'archive_lists']),
-    ('what a run moves', ['office_core_laws::moves_only_what_is_there']),
+    ('what a run moves', [f'office_core_laws::{law}' for law in (
+        'moves_only_what_is_there', 'checked_index_has_what_moves', 'due_mail_brings_unstable_to_index',
+        'printed_unstable_has_items')]),
 ]
 # What the row of other calls claims of private functions of the commands.
 PRIVATE = [f'office_cli::{call}' for call in ('report_text', 'counted_text', 'order_on')]
@@ -86,11 +88,10 @@ PRIVATE = [f'office_cli::{call}' for call in ('report_text', 'counted_text', 'or
 ADDED = {
     'office_http_requests': {'added_asked'},
     'office_http': {
-        'added_page', 'added_action', 'short_page', 'IsFoundForAdded', 'IsFoundByAdded', 'kept_by_added',
-        'settles_by_added'},
+        'added_page', 'added_action', 'short_page', 'IsFoundForAdded', 'IsFoundByAdded'},
     'office_cli_words': {'added_asked'},
 }
-STEPS = '-- Steps: no contract of a call that users make rests on this file.'
+STEPS = 'steps'  # the folder of specs/ with what serves proofs alone
 CLAUSE = re.compile(r'\b(requires|ensures|before)\b\s*[\w-]*\s*$')
 ITEM = re.compile(r'(?P<pub>pub(?:\([a-z]+\))?\s+)?(?P<ghost>ghost\s+)?(?:unsafe\s+)?(?:const\s+(?=fn\b))?(?:(?P<kind>'
                   r'use|mod|fn|struct|enum|trait|type|const|static|impl)\b\s*|(?P<value>\w+)\s*[=:]\s*(?=\{))')
@@ -367,12 +368,14 @@ class Tree:
                 yield at if isinstance(at, Item) else None
             yield next((self.named[path[:k]] for k in range(len(path), 2, -1) if path[:k] in self.named), None)
 
-def head_fault(file, believed):
-    """What the first line of a file says falsely."""
-    first, steps = (file.head or [''])[0], not any(d in believed for d in file.definitions)
-    if steps != (first == STEPS):
-        return f'{"no contract" if steps else "a contract"} of users rests on it, and its first line says otherwise'
-    return '' if first else 'its first line does not say what it defines'
+def place_faults(file, believed):
+    """The definitions of a file that belong on the other side of `specs/steps/`, and a missing first line."""
+    are_steps = file.path[0] == STEPS
+    for definition in file.definitions:
+        if are_steps == (definition in believed):
+            yield f'{file.label}: {definition.name} is {"believed" if are_steps else "a step"}'
+    if not file.head:
+        yield f'{file.label}: its first line does not say what it defines'
 
 def twice(tree):
     """The definitions that two crates have, each with its files."""
@@ -514,8 +517,7 @@ def main():
     tree = Tree(tops[0])
     users, every = tree.believed(USERS, INNER), tree.believed(tree.crates)
     claimed = of_all(tree, users)
-    heads = [(f.label, head_fault(f, claimed)) for f in tree.files.values()]
-    faults = [f'{label}: {fault}' for label, fault in heads if fault]
+    faults = [fault for file in tree.files.values() for fault in place_faults(file, claimed)]
     faults += [*row_faults(tree), *figure_faults(tree, users, tops[0])]
     kinds = {d: 'believed' if d in users else 'cited step' if d in every else 'step' for d in tree.named.values()}
     lines = {'': lambda: table(tree, users, every), '--check': lambda: faults, '--twice': lambda: twice(tree),

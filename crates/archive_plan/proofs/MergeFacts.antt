@@ -13,7 +13,7 @@ use Rattle.std.proofs.lemmas.List.Folds.{list_any_none, list_any_at}
 use Rattle.archive_plan.specs.declared.items.Item.{Item}
 use Rattle.archive_plan.specs.declared.items.Relation.{Relation}
 use Rattle.archive_plan.specs.Items.{key_cmp, AreInOrder, fits, relates, meets, picked_from}
-use Rattle.archive_plan.specs.Merge.{ArePassed, IsPlaceFor}
+use Rattle.archive_plan.specs.steps.Merge.{ArePassed, IsPlaceFor}
 
 pub key_order : IsTotalOrder key_cmp
 key_order = then_total (on_total (λ (x : Item). x.architecture) nat_list_cmp_total) (on_total (λ (x : Item). x.name) nat_list_cmp_total)

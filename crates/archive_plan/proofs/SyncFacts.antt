@@ -9,7 +9,7 @@ use Rattle.std.proofs.lemmas.List.Elements.{Contains-append_left, Contains-appen
 use Rattle.std.proofs.lemmas.List.Folds.{Any-from_list_any, list_any-from_Any}
 use Rattle.std.proofs.lemmas.List.Kept.{AllPairs-filter}
 use Rattle.deb_version.specs.Order.{version_cmp, IsAbove}
-use Rattle.deb_version.specs.Laws.{version_order, same_refl}
+use Rattle.deb_version.specs.steps.Laws.{version_order, same_refl}
 use Rattle.archive_plan.specs.declared.items.Item.{Item}
 use Rattle.archive_plan.specs.declared.items.Relation.TheVariants.{Key, Whole, AtMost}
 use Rattle.archive_plan.specs.declared.plan.PlanFault.{PlanFault}

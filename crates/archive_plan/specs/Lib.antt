@@ -1,4 +1,4 @@
 pub mod Items
-pub mod Merge
 pub mod Plan
 pub mod Sync
+pub mod steps

@@ -3,7 +3,7 @@
 ghost use Rattle.std.specs.Prelude.{◌≡◌, ◌≢◌, ◌≤◌, ◌<◌, ℕ, true, length, slice_index_or, IfOk};
 ghost use Rattle.std.specs.declared.cmp.Ordering.TheVariants.{Less};
 ghost use Rattle.archive_plan.specs.Items.{AreInOrder, key_cmp, meets, picked_from};
-ghost use Rattle.archive_plan.specs.Merge.{IsPlaceFor, ArePassed};
+ghost use Rattle.archive_plan.specs.steps.Merge.{IsPlaceFor, ArePassed};
 
 use crate::items::{Item, Relation, is_fit, key_order};
 use deb_version::NoMemory;

@@ -5,10 +5,11 @@ use Rattle.std.proofs.lemmas.Bool.{and_parts}
 use Rattle.std.proofs.lemmas.Slice.Eq.{bytes_eq-Decides}
 use Rattle.std.specs.Str.{bytes_eq}
 use Rattle.deb_control.specs.Paragraphs.{Field, value_of}
-use Rattle.deb_control.specs.Relations.{◌>>=◌, each_in, items, is_bar, is_package_name, is_version, alternative_in, clause_in, clauses_in, provisions_in}
-use Rattle.deb_control.specs.Binary.{field_name, required, optional, checked, of_field, is_architecture, source_of, binary_of}
-use Rattle.deb_control.specs.ClauseSteps.{only_one}
-use Rattle.deb_control.specs.BinarySteps.{needs_in, needs_same, binary_by}
+use Rattle.deb_control.specs.Results.{each_of, needs}
+use Rattle.deb_control.specs.Relations.{◌>>=◌, items, is_bar, is_package_name, is_version, alternative_in, clause_in, clauses_in, provisions_in}
+use Rattle.deb_control.specs.Binary.{field_name, required, optional, of_field, is_architecture, binary_of}
+use Rattle.deb_control.specs.steps.ClauseSteps.{only_one}
+use Rattle.deb_control.specs.steps.BinarySteps.{needs_in, needs_same, binary_by, source_of}
 use Rattle.deb_control.specs.declared.relation.Signs.TheVariants.{Any}
 use Rattle.deb_control.specs.declared.fault.BinaryField.TheVariants.{Package, Version, Architecture, Source, PreDepends, Depends, Provides}
 use Rattle.deb_control.specs.declared.fault.BinaryFault.TheVariants.{BadName, BadVersion}
@@ -32,9 +33,9 @@ by_needs p =
     same_after (required p Package) _ _ (λ name.
     same_after (required p Version) _ _ (λ version.
     same_after (required p Architecture) _ _ (λ architecture.
-    same_after (checked (is_package_name name) name (BadName Package)) _ _ (λ x.
-    same_after (checked (is_version version) version (BadVersion Version)) _ _ (λ y.
-    same_after (checked (is_architecture architecture) architecture (BadName Architecture)) _ _ (λ z.
+    same_after (needs (is_package_name name) (BadName Package)) _ _ (λ x.
+    same_after (needs (is_version version) (BadVersion Version)) _ _ (λ y.
+    same_after (needs (is_architecture architecture) (BadName Architecture)) _ _ (λ z.
     same_after (of_field Source (source_of (value_of p (field_name Source)) name version)) _ _ (λ source.
     at_once (of_field PreDepends (clauses_in (optional p PreDepends))) (of_field Depends (clauses_in (optional p Depends))) (of_field Provides (provisions_in (optional p Provides))) _)))))))
 
@@ -61,9 +62,9 @@ needs_of_read p b e =
     then_ok _ (required p Package) _ _ e (λ name en e.
     then_ok _ (required p Version) _ _ e (λ version ev e.
     then_ok _ (required p Architecture) _ _ e (λ architecture ea e.
-    then_ok _ (checked (is_package_name name) name (BadName Package)) _ _ e (λ x ex e.
-    then_ok _ (checked (is_version version) version (BadVersion Version)) _ _ e (λ y ey e.
-    then_ok _ (checked (is_architecture architecture) architecture (BadName Architecture)) _ _ e (λ z ez e.
+    then_ok _ (needs (is_package_name name) (BadName Package)) _ _ e (λ x ex e.
+    then_ok _ (needs (is_version version) (BadVersion Version)) _ _ e (λ y ey e.
+    then_ok _ (needs (is_architecture architecture) (BadName Architecture)) _ _ e (λ z ez e.
     then_ok _ (of_field Source (source_of (value_of p (field_name Source)) name version)) _ _ e (λ source es e.
     then_ok _ (of_field PreDepends (clauses_in (optional p PreDepends))) _ _ e (λ before eb e.
     then_ok _ (of_field Depends (clauses_in (optional p Depends))) _ _ e (λ depends ed e.
@@ -81,14 +82,14 @@ needs_alike p q tested =
 
 -- nothing is no clause and no provision
 pub no_clauses : clauses_in [] ≡ Ok []
-unfolding clauses_in items each_in
+unfolding clauses_in items
 no_clauses = refl
 
 pub no_provisions : provisions_in [] ≡ Ok []
-unfolding provisions_in items each_in
+unfolding provisions_in items
 no_provisions = refl
 
 -- an item that is one part is one alternative
 pub one_alternative : (item only : List ℕ) → slice_split is_bar item ≡ only ∷ [] → only_one only ≡ clause_in item
-unfolding clause_in each_in
-one_alternative item only cut = ap (each_in (alternative_in Any)) (sym cut)
+unfolding clause_in
+one_alternative item only cut = ap (each_of (alternative_in Any)) (sym cut)

@@ -1,7 +1,7 @@
 -- An answer is what the text or the paragraph says, or memory ran out.
 use Rattle.std.proofs.Common.{◌≡◌, ◌⊎◌, inl, inr, Result, Ok, Err, refl, sym}
-use Rattle.deb_control.specs.RelationAnswers as relation
-use Rattle.deb_control.specs.BinaryAnswers as binary
+use Rattle.deb_control.specs.steps.RelationAnswers as relation
+use Rattle.deb_control.specs.steps.BinaryAnswers as binary
 use Rattle.deb_control.specs.declared.fault.RelationFault.{RelationFault}
 use Rattle.deb_control.specs.declared.fault.RelationFault.TheVariants as relation_fault
 use Rattle.deb_control.specs.declared.fault.BinaryFault.{BinaryFault}

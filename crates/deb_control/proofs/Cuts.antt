@@ -9,10 +9,11 @@ use Rattle.std.proofs.lemmas.Bool.{false_from_ne_true, cases_lt}
 use Rattle.std.proofs.lemmas.List.{take_all, take-take, take-append-drop, drop_more, length-drop, length-take-le, get_or-drop, get_or-take}
 use Rattle.std.proofs.lemmas.List.Sums.{prefix_len-le-length, passes_at_first, position_or_len_is}
 use Rattle.std.proofs.lemmas.List.Folds.{list_all-append}
-use Rattle.deb_control.specs.Text.{is_line_feed, is_colon, lines, continues}
-use Rattle.deb_control.specs.Paragraphs.{has_colon, reading, reading_of_text}
+use Rattle.deb_version.specs.Text.{is_colon}
+use Rattle.deb_control.specs.Text.{is_line_feed, lines, continues}
+use Rattle.deb_control.specs.Paragraphs.{reading, reading_of_text}
 use Rattle.deb_control.specs.Reader.{left_in}
-use Rattle.deb_control.specs.ReaderSteps.{line_in_front, IsFieldCut, IsLineEnd, IsFieldEnd, IsColonAt}
+use Rattle.deb_control.specs.steps.ReaderSteps.{has_colon, line_in_front, IsFieldCut, IsLineEnd, IsFieldEnd, IsColonAt}
 use Rattle.deb_control.proofs.Split.{any_within, none_within, take_sum}
 use Rattle.deb_control.proofs.Lines.{lines_head, lines_cut, lines_of_line, empty_continues_nothing}
 

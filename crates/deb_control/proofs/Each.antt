@@ -6,8 +6,9 @@ use Rattle.std.specs.Borrow.{Bor}
 use Rattle.std.proofs.lemmas.Bool.{cond-true, cond-false, not_from_true, not_from_false}
 use Rattle.std.proofs.lemmas.List.{append-nil, append_assoc}
 use Rattle.deb_control.specs.Text.{is_white}
-use Rattle.deb_control.specs.Relations.{◌>>=◌, each_in}
-use Rattle.deb_control.specs.RelationAnswers.{Fails}
+use Rattle.deb_control.specs.Results.{each_of}
+use Rattle.deb_control.specs.Relations.{◌>>=◌}
+use Rattle.deb_control.specs.steps.RelationAnswers.{Fails}
 use Rattle.deb_control.specs.declared.fault.RelationFault.{RelationFault}
 use Rattle.deb_control.specs.declared.fault.RelationFault.TheVariants.{BadName, BadVersion, BadRelation, NoMemory}
 
@@ -33,20 +34,17 @@ regrouped done a (Err e) = refl
 
 module _ {A E : Type 0} (read : List ℕ → Result A E) where
   -- one text more
-  pub each_step : (done : List A) (texts rest : List (List ℕ)) (text : List ℕ) (a : A) → texts ≡ text ∷ rest → read text ≡ Ok a → then_append done (each_in read texts) ≡ then_append (done ++ a ∷ []) (each_in read rest)
-  unfolding each_in
+  pub each_step : (done : List A) (texts rest : List (List ℕ)) (text : List ℕ) (a : A) → texts ≡ text ∷ rest → read text ≡ Ok a → then_append done (each_of read texts) ≡ then_append (done ++ a ∷ []) (each_of read rest)
   each_step done texts rest text a cut e =
-      ap (λ ts. then_append done (each_in read ts)) cut ∙ ap (λ r. then_append done (r >>= λ value. each_in read rest >>= λ values. Ok (value ∷ values))) e ∙ regrouped done a (each_in read rest)
+      ap (λ ts. then_append done (each_of read ts)) cut ∙ ap (λ r. then_append done (r >>= λ value. each_of read rest >>= λ values. Ok (value ∷ values))) e ∙ regrouped done a (each_of read rest)
 
   -- the first fault is the fault of all
-  pub each_fails : (done : List A) (texts rest : List (List ℕ)) (text : List ℕ) (e : E) → texts ≡ text ∷ rest → read text ≡ Err e → then_append done (each_in read texts) ≡ Err e
-  unfolding each_in
+  pub each_fails : (done : List A) (texts rest : List (List ℕ)) (text : List ℕ) (e : E) → texts ≡ text ∷ rest → read text ≡ Err e → then_append done (each_of read texts) ≡ Err e
   each_fails done texts rest text e cut bad =
-      ap (λ ts. then_append done (each_in read ts)) cut ∙ ap (λ r. then_append done (r >>= λ value. each_in read rest >>= λ values. Ok (value ∷ values))) bad
+      ap (λ ts. then_append done (each_of read ts)) cut ∙ ap (λ r. then_append done (r >>= λ value. each_of read rest >>= λ values. Ok (value ∷ values))) bad
 
-  pub each_ends : (done : List A) (texts : List (List ℕ)) → texts ≡ [] → then_append done (each_in read texts) ≡ Ok done
-  unfolding each_in
-  each_ends done texts e = ap (λ ts. then_append done (each_in read ts)) e ∙ ap Ok (append-nil done)
+  pub each_ends : (done : List A) (texts : List (List ℕ)) → texts ≡ [] → then_append done (each_of read texts) ≡ Ok done
+  each_ends done texts e = ap (λ ts. then_append done (each_of read ts)) e ∙ ap Ok (append-nil done)
 
 -- the items among some texts
 abbrev pub not_white : List ℕ → Bool

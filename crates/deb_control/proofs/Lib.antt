@@ -7,6 +7,8 @@ pub mod Each
 pub mod WellFormedLemmas
 pub mod Fronts
 pub mod VersionChars
+pub mod Signs
+pub mod Forms
 pub mod SpellingLemmas
 pub mod SourceLemmas
 pub mod RefusalLemmas

@@ -6,8 +6,8 @@ use Rattle.std.proofs.lemmas.Bool.{cases_Bool}
 use Rattle.std.proofs.lemmas.List.{drop_more, drop_all}
 use Rattle.deb_version.specs.Characters.{char}
 use Rattle.deb_control.specs.Text.{is_blank, is_line_feed, is_blank_line, continues}
-use Rattle.deb_control.specs.LineFronts.{may_be_blank, may_continue}
-use Rattle.deb_control.specs.ReaderSteps.{line_in_front}
+use Rattle.deb_control.specs.steps.LineFronts.{may_be_blank, may_continue}
+use Rattle.deb_control.specs.steps.ReaderSteps.{line_in_front}
 
 neither : (x y : Bool) → (x || y) ≡ false → (x ≡ false) × (y ≡ false)
 neither false false h = (refl, refl)

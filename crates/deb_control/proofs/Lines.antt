@@ -4,10 +4,12 @@ use Rattle.std.specs.List.{slice_split, after_first, position_or_len, take_while
 use Rattle.std.proofs.lemmas.Bool.{cases_Bool, cond-true, cond-false, and_parts, not-true, not_from_false, not_from_true, false≢true, true≢false}
 use Rattle.std.proofs.lemmas.List.{append-nil, append_assoc, take_all, length-append, map_push}
 use Rattle.std.proofs.lemmas.List.Splits.{slice_split-cons_yes, slice_split_first, join_with_byte-slice_split}
-use Rattle.deb_control.specs.Text.{is_line_feed, is_colon, lines, is_blank_line, continues, trim_white}
+use Rattle.deb_version.specs.Text.{is_colon}
+use Rattle.std.specs.Option.{option_or}
+use Rattle.deb_control.specs.Text.{is_line_feed, lines, is_blank_line, continues, trim_white}
 use Rattle.std.specs.Borrow.{Bor}
-use Rattle.deb_control.specs.Paragraphs.{Field, shown, Reading, not_empty, fields, field_of, first_fault, line_fault, name_in, or_else, paragraph_lines, reading_of, reading_of_text, unless_bad, then_read, refusing, ended}
-use Rattle.deb_control.specs.ReaderSteps.{line_in_front, front_run, after_run, IsFieldCut}
+use Rattle.deb_control.specs.Paragraphs.{Field, shown, Reading, not_empty, fields, field_of, first_fault, line_fault, name_in, paragraph_lines, reading_of, reading_of_text, then_read, refusing, ended}
+use Rattle.deb_control.specs.steps.ReaderSteps.{line_in_front, front_run, after_run, IsFieldCut, unless_bad}
 use Rattle.deb_control.specs.declared.fault.ParagraphFault.{ParagraphFault}
 use Rattle.deb_control.specs.declared.fault.ParagraphFault.TheVariants.{FirstLineContinues}
 use Rattle.deb_control.proofs.Split.{split_head, split_append, split_before_first, first_run, take_while_yes, take_while_no, take_while-append, take_while_all, left_after-append, left_after_all, left_after_no}
@@ -93,10 +95,10 @@ fields_past_continuing (c ∷ cs) more all =
     cond-true (continues c) _ _ both.0 ∙ fields_past_continuing cs more both.1
 
 -- the field of a line that doesn't continue, with the lines that continue it
-pub fault_step : (names : List (List ℕ)) (line : List ℕ) (cs more : List (List ℕ)) → continues line ≡ false → list_all continues cs ≡ true → first_fault names (line ∷ (cs ++ more)) ≡ or_else (line_fault names line) (first_fault (names ++ name_in line ∷ []) more)
+pub fault_step : (names : List (List ℕ)) (line : List ℕ) (cs more : List (List ℕ)) → continues line ≡ false → list_all continues cs ≡ true → first_fault names (line ∷ (cs ++ more)) ≡ option_or (line_fault names line) (first_fault (names ++ name_in line ∷ []) more)
 unfolding first_fault
 fault_step names line cs more h all =
-    cond-false (continues line) _ _ h ∙ ap (or_else (line_fault names line)) (fault_past_continuing (names ++ name_in line ∷ []) cs more (ends_in_name names (name_in line)) all)
+    cond-false (continues line) _ _ h ∙ ap (option_or (line_fault names line)) (fault_past_continuing (names ++ name_in line ∷ []) cs more (ends_in_name names (name_in line)) all)
   where
     ends_in_name : (xs : List (List ℕ)) (x : List ℕ) → not_empty (xs ++ x ∷ []) ≡ true
     ends_in_name [] x = refl
@@ -162,7 +164,7 @@ none_continue after h = ⊎_elim
 
 -- one field more of a paragraph
 pub record FieldStep (text whole after : List ℕ) (names : List (List ℕ)) : Type 0 where
-  pub fault : first_fault names (front_run (lines text)) ≡ or_else (line_fault names (line_in_front whole)) (first_fault (names ++ name_in (line_in_front whole) ∷ []) (front_run (lines after)))
+  pub fault : first_fault names (front_run (lines text)) ≡ option_or (line_fault names (line_in_front whole)) (first_fault (names ++ name_in (line_in_front whole) ∷ []) (front_run (lines after)))
   pub value : fields (front_run (lines text)) ≡ (name_in (line_in_front whole), trim_white (after_first is_colon whole)) ∷ fields (front_run (lines after))
   pub rest : paragraph_lines (after_run (lines text)) ≡ paragraph_lines (after_run (lines after))
 

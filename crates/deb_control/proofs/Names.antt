@@ -4,8 +4,8 @@ use Rattle.std.specs.List.{list_all, prefix_len, take_while}
 use Rattle.std.proofs.lemmas.Bool.{cases_Bool, cases_lt, and_parts}
 use Rattle.std.proofs.lemmas.List.{get_or_past, get_or-take, length-take-le}
 use Rattle.std.proofs.lemmas.List.Sums.{prefix_len_is, prefix_len_passes, AllPass-from_list_all}
-use Rattle.deb_control.specs.Paragraphs.{is_name_char, is_field_name, name_in, has_colon, line_fault}
-use Rattle.deb_control.specs.ReaderSteps.{line_in_front, may_name, is_named, IsColonAt}
+use Rattle.deb_control.specs.Paragraphs.{is_name_char, is_field_name, name_in, line_fault}
+use Rattle.deb_control.specs.steps.ReaderSteps.{has_colon, line_in_front, may_name, is_named, IsColonAt}
 use Rattle.deb_control.specs.declared.fault.ParagraphFault.TheVariants.{NoColon, BadName}
 use Rattle.deb_control.proofs.Split.{take_while_yes, take_while_no}
 use Rattle.deb_control.proofs.Cuts.{NameGoesOn, colon_at}

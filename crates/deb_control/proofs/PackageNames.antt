@@ -6,7 +6,7 @@ use Rattle.std.proofs.lemmas.Bool.Decides.{nat_tests}
 use Rattle.std.proofs.lemmas.List.{get_or-take, length-take-le}
 use Rattle.std.proofs.lemmas.List.Sums.{prefix_len-le-length, prefix_len_is, prefix_len_passes, position_or_len_is, passes_at_first, AllPass-from_list_all}
 use Rattle.deb_control.specs.Relations.{is_lower_or_digit, is_package_char, is_package_name, ends_name}
-use Rattle.deb_control.specs.ClauseSteps.{is_package}
+use Rattle.deb_control.specs.steps.ClauseSteps.{is_package}
 use Rattle.deb_control.proofs.Split.{take_while_yes}
 use Rattle.deb_control.proofs.Names.{three, all_three, all_in_front}
 

@@ -5,7 +5,7 @@ use Rattle.std.proofs.lemmas.Bool.{cases_Bool, cond-true, cond-false, and_right,
 use Rattle.std.proofs.lemmas.List.{take-append-drop}
 use Rattle.std.proofs.lemmas.List.Folds.{list_all-append}
 use Rattle.deb_control.specs.Text.{is_white}
-use Rattle.deb_control.specs.Relations.{◌>>=◌, is_package_name, is_version, is_qualifier_char, allows, skip_white, after_char, ends_name, ends_version, after_run_of_one, after_qualifier, sign_in, closes, version_in, relation_of, within_parentheses, relation_in, alternative_in}
+use Rattle.deb_control.specs.Relations.{◌>>=◌, is_package_name, is_version, is_qualifier_char, allows, skip_white, after_char, ends_name, ends_version, after_qualifier, sign_in, version_in, relation_in, alternative_in}
 use Rattle.deb_control.specs.Spelling.{IsWhite, IsQualifier, IsSign}
 use Rattle.deb_control.specs.FirstFault.{IsStopped, IsWord, IsLongest, HasBadName, HasBadVersion}
 use Rattle.deb_control.specs.declared.fault.RelationFault.{RelationFault}
@@ -15,6 +15,8 @@ use Rattle.deb_control.specs.declared.relation.Signs.{Signs}
 use Rattle.deb_control.specs.declared.relation.Relation.{Relation}
 use Rattle.deb_control.specs.declared.relation.Alternative.{Alternative}
 use Rattle.deb_control.proofs.Split.{left_after_yes, left_after_no}
+use Rattle.deb_control.proofs.Signs.{sign_of, is_sign}
+use Rattle.deb_control.proofs.Forms.{closes, version_is, relation_of, within_parentheses, relation_is, alternative_is, after_run_of_one}
 use Rattle.deb_control.proofs.Fronts.{front_passes, none_in_front, front_is, none_in_front_of}
 use Rattle.deb_control.proofs.SpellingLemmas.{IsSplit, of_name, white_and_rest, skipped, after_is, qualifier_read, sign_read, sign_is_not_white, longest_is_read, name_is_read}
 
@@ -108,7 +110,6 @@ record IsUnversioned (text : List ℕ) : Type 0 where
   pub unversioned : is_version word ≡ false
 
 version_fault_read : (text : List ℕ) (e : RelationFault) → version_in text ≡ Err e → (e ≡ BadRelation) ⊎ ((e ≡ BadVersion) × IsUnversioned text)
-unfolding version_in
 version_fault_read text e h =
     let t = skip_white text in
     let word = before_first ends_version t in
@@ -116,14 +117,14 @@ version_fault_read text e h =
     ⊎_elim
     (λ (relation : e ≡ BadRelation). inl relation)
     (λ (version : (e ≡ BadVersion) × (is_version word ≡ false)). inr (version.0, record { word = word; rest = rest; is_word = word_read ends_version text; unversioned = version.1 }))
-    (end_fault (is_version word) (closes (after_char 41 (skip_white rest))) word e h)
+    (end_fault (is_version word) (closes (after_char 41 (skip_white rest))) word e (sym (version_is text) ∙ h))
 
 version_fault_is_read : (text : List ℕ) → IsUnversioned text → version_in text ≡ Err BadVersion
-unfolding version_in
 version_fault_is_read text u =
     let t = skip_white text in
     let rest = drop (position_or_len ends_version t) t in
-    cond-false (is_version (before_first ends_version t)) (cond (closes (after_char 41 (skip_white rest))) (Ok (before_first ends_version t)) (Err BadRelation)) (Err BadVersion)
+    version_is text
+    ∙ cond-false (is_version (before_first ends_version t)) (cond (closes (after_char 41 (skip_white rest))) (Ok (before_first ends_version t)) (Err BadRelation)) (Err BadVersion)
     (ap is_version (word_is_read ends_version text u.word u.rest u.is_word) ∙ u.unversioned)
 
 -- what follows a name states a sign, and no version behind it
@@ -149,8 +150,8 @@ sign_stands signs text inside found opening allowed cut unversioned = record {
   after = found.1;
   written = white_and_rest text ∙ ap (λ (ys : List ℕ). take_while is_white text ++ ys) (opening ∙ ap (λ (ys : List ℕ). 40 ∷ ys) (white_and_rest inside ∙ ap (λ (ys : List ℕ). take_while is_white inside ++ ys) cut.1));
   whites = (front_passes is_white text, front_passes is_white inside);
-  signed = cut.2;
-  longest = cut.3;
+  signed = is_sign found.0 cut.0 cut.2;
+  longest = λ c more op next longer. cut.3 c more op next (sign_of op (cut.0 ++ c ∷ []) longer);
   allowed = allowed;
   unversioned = unversioned;
 }
@@ -180,8 +181,8 @@ opened_fault signs text None e at h = inl (sym (same_error BadRelation e h))
 opened_fault signs text (Some inside) e at h = inside_fault signs text inside (sign_in (skip_white inside)) e (after_is 40 (skip_white text) inside at) refl h
 
 rest_fault : (signs : Signs) (text : List ℕ) (e : RelationFault) → relation_in signs text ≡ Err e → (e ≡ BadRelation) ⊎ ((e ≡ BadVersion) × StatesBadVersion signs text)
-unfolding relation_in
-rest_fault signs text e h =
+rest_fault signs text e read =
+    let h = sym (relation_is signs text) ∙ read in
     let inside = within_parentheses signs (after_char 40 (skip_white text)) in
     ⊎_elim
     (λ (yes : list_all is_white text ≡ true). absurd (let never : ◌≡◌ {A = Result (Option Relation) RelationFault} (Ok None) (Err e) = sym (cond-true (list_all is_white text) (Ok None) inside yes) ∙ h in cc))
@@ -189,14 +190,14 @@ rest_fault signs text e h =
     (cases_Bool (list_all is_white text))
 
 rest_fault_is_read : (signs : Signs) (text : List ℕ) → StatesBadVersion signs text → relation_in signs text ≡ Err BadVersion
-unfolding relation_in
 rest_fault_is_read signs text s =
     let inside = s.within ++ (s.sign ++ s.after) in
     let holds_more : list_all is_white text ≡ false = ap (list_all is_white) s.written ∙ list_all-append is_white s.between (40 ∷ inside) ∙ and_right (list_all is_white s.between) false refl in
     let opening : skip_white text ≡ 40 ∷ inside = ap skip_white s.written ∙ skipped s.between (40 ∷ inside) s.whites.0 refl in
-    let front : skip_white inside ≡ s.sign ++ s.after = skipped s.within (s.sign ++ s.after) s.whites.1 (sign_is_not_white s.op s.sign s.after s.signed) in
+    let front : skip_white inside ≡ s.sign ++ s.after = skipped s.within (s.sign ++ s.after) s.whites.1 (sign_is_not_white s.op s.sign s.after (sign_of s.op s.sign s.signed)) in
     let sign : sign_in (skip_white inside) ≡ Some (s.op, s.after) = ap sign_in front ∙ longest_is_read s.op s.sign s.after s.signed s.longest in
-    cond-false (list_all is_white text) (Ok None) (within_parentheses signs (after_char 40 (skip_white text))) holds_more
+    relation_is signs text
+    ∙ cond-false (list_all is_white text) (Ok None) (within_parentheses signs (after_char 40 (skip_white text))) holds_more
     ∙ ap (λ (ys : List ℕ). within_parentheses signs (after_char 40 ys)) opening
     ∙ ap (relation_of signs) sign
     ∙ cond-true (allows signs s.op) (version_in s.after >>= of_op s.op) (Err BadRelation) s.allowed
@@ -219,8 +220,8 @@ behind_fault signs name rest e h = ⊎_elim
 
 -- which fault a text has
 alternative_fault : (signs : Signs) (text : List ℕ) (e : RelationFault) → alternative_in signs text ≡ Err e → ((e ≡ BadName) × HasBadName text) ⊎ ((e ≡ BadRelation) ⊎ ((e ≡ BadVersion) × HasBadVersion signs text))
-unfolding alternative_in
-alternative_fault signs text e h =
+alternative_fault signs text e read =
+    let h = sym (alternative_is signs text) ∙ read in
     let t = skip_white text in
     let name = before_first ends_name t in
     let rest = drop (position_or_len ends_name t) t in
@@ -258,13 +259,13 @@ alternative_fault signs text e h =
     }
 
 bad_name_is_read : (signs : Signs) (text : List ℕ) → HasBadName text → alternative_in signs text ≡ Err BadName
-unfolding alternative_in
 bad_name_is_read signs text b =
     let t = skip_white text in
     let name = before_first ends_name t in
     let rest = drop (position_or_len ends_name t) t in
     let further : List ℕ → Result Alternative RelationFault = λ (left : List ℕ). relation_in signs left >>= of_name name in
-    cond-false (is_package_name name) (after_qualifier rest >>= further) (Err BadName) (ap is_package_name (word_is_read ends_name text b.word b.rest b.is_word) ∙ b.unnamed)
+    alternative_is signs text
+    ∙ cond-false (is_package_name name) (after_qualifier rest >>= further) (Err BadName) (ap is_package_name (word_is_read ends_name text b.word b.rest b.is_word) ∙ b.unnamed)
 
 bad_version_is_read : (signs : Signs) (text : List ℕ) → HasBadVersion signs text → alternative_in signs text ≡ Err BadVersion
 bad_version_is_read signs text b =

@@ -6,10 +6,11 @@ use Rattle.std.proofs.lemmas.List.{append-nil, take-append-drop}
 use Rattle.std.proofs.lemmas.List.Folds.{list_all-append}
 use Rattle.deb_control.specs.Text.{is_white}
 use Rattle.deb_control.specs.Relations.{◌>>=◌, is_package_name, skip_white, after_char, ends_name, version_in}
-use Rattle.deb_control.specs.Binary.{source_version, after_source, source_in}
+use Rattle.deb_control.specs.Binary.{source_in}
 use Rattle.deb_control.specs.Spelling.{SpellsVersion, SpellsSource, IsWhite}
 use Rattle.deb_control.specs.declared.fault.RelationFault.{RelationFault}
 use Rattle.deb_control.specs.declared.fault.RelationFault.TheVariants.{BadName}
+use Rattle.deb_control.proofs.Forms.{source_version, after_source, source_is}
 use Rattle.deb_control.proofs.Fronts.{front_passes, none_in_front, front_is, behind_is, none_in_front_of}
 use Rattle.deb_control.proofs.SpellingLemmas.{IsClosed, went_on, passed, same_value, white_and_rest, skipped, white_ends_name, after_is, version_read, version_is_read, name_is_not_white, name_goes_on}
 
@@ -48,12 +49,11 @@ rest_read binary name rest source h =
     (cases_Bool (list_all is_white rest))
 
 source_read : (binary text : List ℕ) (source : List ℕ × List ℕ) → source_in binary text ≡ Ok source → SpellsSource binary text source
-unfolding source_in
 source_read binary text source h =
     let t = skip_white text in
     let name = before_first ends_name t in
     let rest = drop (position_or_len ends_name t) t in
-    let read = rest_read binary name rest source h in
+    let read = rest_read binary name rest source (sym (source_is binary text) ∙ h) in
     let cut : t ≡ name ++ rest = sym (take-append-drop (position_or_len ends_name t) t) in
     record {
       before = take_while is_white text;
@@ -93,13 +93,13 @@ rest_ends_name rest version binary (inr s) =
     ap (prefix_len goes) s.written ∙ none_in_front_of goes is_white white_ends_name s.before (40 ∷ inside) s.whites.0 (none_in_front goes 40 inside refl)
 
 source_is_read : (binary text : List ℕ) (source : List ℕ × List ℕ) → SpellsSource binary text source → source_in binary text ≡ Ok source
-unfolding source_in
 source_is_read binary text source s =
     let goes : ℕ → Bool = λ (c : ℕ). not (ends_name c) in
     let t : skip_white text ≡ source.0 ++ s.rest = ap skip_white s.written ∙ skipped s.before (source.0 ++ s.rest) s.white (name_is_not_white source.0 s.rest s.named) in
     let chars : list_all goes source.0 ≡ true = name_goes_on source.0 s.named in
     let none : prefix_len goes s.rest ≡ 0 = rest_ends_name s.rest source.1 binary s.ended in
-    ap (λ (ys : List ℕ). after_source binary (before_first ends_name ys) (drop (position_or_len ends_name ys) ys)) t
+    source_is binary text
+    ∙ ap (λ (ys : List ℕ). after_source binary (before_first ends_name ys) (drop (position_or_len ends_name ys) ys)) t
     ∙ ap (λ (ys : List ℕ). after_source binary ys (drop (position_or_len ends_name (source.0 ++ s.rest)) (source.0 ++ s.rest))) (front_is goes source.0 s.rest chars none)
     ∙ ap (λ (ys : List ℕ). after_source binary source.0 ys) (behind_is goes source.0 s.rest chars none)
     ∙ rest_is_read binary source.0 s.rest source.1 s.named s.ended

@@ -1,14 +1,16 @@
 -- A text is read exactly where it is spelled.
 use Rattle.std.proofs.Common.{◌≡◌, ℕ, zero, suc, ◌+◌, Bool, true, false, cond, not, ◌&&◌, ◌⊎◌, ◌↔◌, nat_le, List, [], ◌∷◌, ◌++◌, length, take, drop, get_or, codes, Option, Some, None, Result, Ok, Err, refl, sym, ap, ◌∙◌, subst, inl, inr, ⊎_elim, one-add, arith, eqb, eqb-true}
-use Rattle.std.specs.List.{list_all, take_while, prefix_len, position_or_len, before_first, slice_split}
+use Rattle.std.specs.List.{list_all, take_while, prefix_len, position_or_len, before_first, slice_split, AllZip}
 use Rattle.std.proofs.lemmas.Bool.{cases_Bool, cond-true, cond-false, and_parts, and_from, and_right, false_from_ne_true, eq-eqb}
 use Rattle.std.proofs.lemmas.Bool.Decides.{nat_tests}
 use Rattle.std.proofs.lemmas.List.{append-nil, take-append-drop}
 use Rattle.std.proofs.lemmas.List.Folds.{list_all-append}
 use Rattle.deb_control.specs.Text.{is_white}
-use Rattle.deb_control.specs.Relations.{◌>>=◌, each_in, is_package_name, is_package_char, is_version, is_lower_or_digit, is_qualifier_char, is_equal, allows, skip_white, after_char, ends_name, ends_version, after_run_of_one, after_qualifier, less_sign, greater_sign, sign_in, closes, version_then, version_in, relation_of, within_parentheses, relation_in, named, alternative_in, items, clause_in, clauses_in, provision_of, provision_in, provisions_in, is_bar}
+use Rattle.deb_control.specs.Results.{each_of}
+use Rattle.deb_control.specs.Relations.{◌>>=◌, is_package_name, is_package_char, is_version, is_lower_or_digit, is_qualifier_char, allows, skip_white, after_char, ends_name, ends_version, after_qualifier, sign_in, version_in, relation_in, alternative_in, items, clause_in, clauses_in, provision_of, provision_in, provisions_in, is_bar}
+use Rattle.deb_control.specs.steps.ClauseSteps.{less_sign, greater_sign, sign_by}
 use Rattle.deb_control.specs.FirstFault.{IsLongest}
-use Rattle.deb_control.specs.Spelling.{IsWhite, IsQualifier, IsSign, SpellsRelation, SpellsRest, SpellsAlternative, EachSpells, SpellsClause, as_alternative, SpellsProvision}
+use Rattle.deb_control.specs.Spelling.{IsWhite, IsQualifier, IsSign, SpellsRelation, SpellsRest, SpellsAlternative, SpellsClause, as_alternative, SpellsProvision}
 use Rattle.deb_control.specs.declared.fault.RelationFault.{RelationFault}
 use Rattle.deb_control.specs.declared.fault.RelationFault.TheVariants.{BadName, BadVersion, BadRelation}
 use Rattle.deb_control.specs.declared.relation.Op.{Op}
@@ -19,6 +21,8 @@ use Rattle.deb_control.specs.declared.relation.Relation.{Relation}
 use Rattle.deb_control.specs.declared.relation.Alternative.{Alternative}
 use Rattle.deb_control.specs.declared.relation.Provision.{Provision}
 use Rattle.deb_version.specs.Text.{is_upstream_byte}
+use Rattle.deb_control.proofs.Signs.{sign_is, IsSignOf, sign_of, is_sign}
+use Rattle.deb_control.proofs.Forms.{closes, version_then, version_is, relation_of, within_parentheses, relation_is, named, alternative_is, after_run_of_one}
 use Rattle.deb_control.proofs.Fronts.{front_passes, none_in_front, front_is, behind_is, pass_wider, none_in_front_of}
 use Rattle.deb_control.proofs.VersionChars.{version_passes, empty_is_no_version, goes_on, is_not_white, is_sign_char, is_not_sign, white_is_not_sign}
 
@@ -138,12 +142,16 @@ qualifier_is_read (c ∷ (d ∷ ds)) rest h colon none =
 
 -- Signs.
 
+-- the longest sign: the next character doesn't continue it
+abbrev pub IsLongestOf : List ℕ → List ℕ → Type 0
+IsLongestOf sign after = (c : ℕ) (more : List ℕ) (op : Op) → after ≡ c ∷ more → IsSignOf op (sign ++ c ∷ []) → ⊥
+
 -- the longest sign in front of a text, and what follows it
 abbrev pub IsSplit : List ℕ → Op × List ℕ → Type 0
-IsSplit text found = (sign : List ℕ) × (text ≡ sign ++ found.1) × IsSign found.0 sign × IsLongest sign found.1
+IsSplit text found = (sign : List ℕ) × (text ≡ sign ++ found.1) × IsSignOf found.0 sign × IsLongestOf sign found.1
 
 -- no sign has three characters
-too_long : (op : Op) (a b c : ℕ) → IsSign op (a ∷ b ∷ c ∷ []) → ⊥
+too_long : (op : Op) (a b c : ℕ) → IsSignOf op (a ∷ b ∷ c ∷ []) → ⊥
 too_long Below a b c h = absurd cc
 too_long AtMost a b c (inl h) = absurd cc
 too_long AtMost a b c (inr h) = absurd cc
@@ -160,7 +168,7 @@ abbrev second_of : List ℕ → ℕ
 second_of text = get_or text 1 0
 
 -- the signs of two characters
-goes_on_with : (op : Op) (a c : ℕ) → IsSign op (a ∷ c ∷ []) → ((a ≡ 60) × ((c ≡ 60) ⊎ (c ≡ 61))) ⊎ ((a ≡ 62) × ((c ≡ 62) ⊎ (c ≡ 61)))
+goes_on_with : (op : Op) (a c : ℕ) → IsSignOf op (a ∷ c ∷ []) → ((a ≡ 60) × ((c ≡ 60) ⊎ (c ≡ 61))) ⊎ ((a ≡ 62) × ((c ≡ 62) ⊎ (c ≡ 61)))
 goes_on_with Below a c h = inl (ap head_of h, inl (ap second_of h))
 goes_on_with AtMost a c (inl h) = inl (ap head_of h, inr (ap second_of h))
 goes_on_with AtMost a c (inr h) = absurd cc
@@ -173,7 +181,7 @@ apart : (c n : ℕ) → eqb c n ≡ false → c ≡ n → ⊥
 apart c n other same = absurd (let never : true ≡ false = sym (eq-eqb c n same) ∙ other in cc)
 
 -- a sign of one character is the longest before any other than itself and `=`
-short_is_longest : (a c : ℕ) (cs : List ℕ) → eqb c a ≡ false → eqb c 61 ≡ false → IsLongest (a ∷ []) (c ∷ cs)
+short_is_longest : (a c : ℕ) (cs : List ℕ) → eqb c a ≡ false → eqb c 61 ≡ false → IsLongestOf (a ∷ []) (c ∷ cs)
 short_is_longest a c cs once other d more op cut sign =
     let same : c ≡ d = ap head_of cut in
     ⊎_elim
@@ -182,16 +190,16 @@ short_is_longest a c cs once other d more op cut sign =
     (goes_on_with op a d sign)
 
 -- a sign of two characters is the longest, and so are `=` and any at the end
-two_are_longest : (a b : ℕ) (cs : List ℕ) → IsLongest (a ∷ b ∷ []) cs
+two_are_longest : (a b : ℕ) (cs : List ℕ) → IsLongestOf (a ∷ b ∷ []) cs
 two_are_longest a b cs d more op cut sign = too_long op a b d sign
 
-equal_is_longest : (cs : List ℕ) → IsLongest (61 ∷ []) cs
+equal_is_longest : (cs : List ℕ) → IsLongestOf (61 ∷ []) cs
 equal_is_longest cs d more op cut sign = ⊎_elim
     (λ (less : (61 ≡ 60) × ((d ≡ 60) ⊎ (d ≡ 61))). let never : 61 ≡ 60 = less.0 in omega arith)
     (λ (greater : (61 ≡ 62) × ((d ≡ 62) ⊎ (d ≡ 61))). let never : 61 ≡ 62 = greater.0 in omega arith)
     (goes_on_with op 61 d sign)
 
-end_is_longest : (sign : List ℕ) → IsLongest sign []
+end_is_longest : (sign : List ℕ) → IsLongestOf sign []
 end_is_longest sign d more op cut longer = absurd cc
 
 less_split : (cs : List ℕ) → IsSplit (60 ∷ cs) (less_sign cs)
@@ -218,10 +226,10 @@ same_found : (a b : Op × List ℕ) → Some a ≡ Some b → a ≡ b
 same_found a b h = cc
 
 -- a sign that is read stands in front of what is left
-pub sign_read : (text : List ℕ) (found : Op × List ℕ) → sign_in text ≡ Some found → IsSplit text found
-unfolding sign_in
-sign_read [] found h = absurd cc
-sign_read (c ∷ cs) found h =
+split_by : (text : List ℕ) (found : Op × List ℕ) → sign_by text ≡ Some found → IsSplit text found
+unfolding sign_by
+split_by [] found h = absurd cc
+split_by (c ∷ cs) found h =
     let greater : Option (Op × List ℕ) = cond (eqb c 62) (Some (greater_sign cs)) None in
     let equal : Option (Op × List ℕ) = cond (eqb c 61) (Some (Equal, cs)) greater in
     ⊎_elim
@@ -247,30 +255,38 @@ sign_read (c ∷ cs) found h =
     (cases_Bool (eqb c 61)))
     (cases_Bool (eqb c 60))
 
+pub sign_read : (text : List ℕ) (found : Op × List ℕ) → sign_in text ≡ Some found → IsSplit text found
+sign_read text found h = split_by text found (sym (sign_is text) ∙ h)
+
 -- the longest sign is read
-longest_less : (rest : List ℕ) → IsLongest (codes "<") rest → less_sign rest ≡ (AtMost, rest)
+longest_less : (rest : List ℕ) → IsLongestOf (codes "<") rest → less_sign rest ≡ (AtMost, rest)
 longest_less [] longest = refl
 longest_less (c ∷ cs) longest =
     let once : eqb c 60 ≡ false = false_from_ne_true (eqb c 60) (λ (yes : eqb c 60 ≡ true). longest c cs Below refl (ap (λ (x : ℕ). 60 ∷ x ∷ []) (eqb-true c 60 yes))) in
     let other : eqb c 61 ≡ false = false_from_ne_true (eqb c 61) (λ (yes : eqb c 61 ≡ true). longest c cs AtMost refl (inl (ap (λ (x : ℕ). 60 ∷ x ∷ []) (eqb-true c 61 yes)))) in
     rw (once, other) refl
 
-longest_greater : (rest : List ℕ) → IsLongest (codes ">") rest → greater_sign rest ≡ (AtLeast, rest)
+longest_greater : (rest : List ℕ) → IsLongestOf (codes ">") rest → greater_sign rest ≡ (AtLeast, rest)
 longest_greater [] longest = refl
 longest_greater (c ∷ cs) longest =
     let once : eqb c 62 ≡ false = false_from_ne_true (eqb c 62) (λ (yes : eqb c 62 ≡ true). longest c cs Above refl (ap (λ (x : ℕ). 62 ∷ x ∷ []) (eqb-true c 62 yes))) in
     let other : eqb c 61 ≡ false = false_from_ne_true (eqb c 61) (λ (yes : eqb c 61 ≡ true). longest c cs AtLeast refl (inl (ap (λ (x : ℕ). 62 ∷ x ∷ []) (eqb-true c 61 yes)))) in
     rw (once, other) refl
 
+longest_by : (op : Op) (sign rest : List ℕ) → IsSignOf op sign → IsLongestOf sign rest → sign_by (sign ++ rest) ≡ Some (op, rest)
+unfolding sign_by
+longest_by Below sign rest h longest = ap (λ (s : List ℕ). sign_by (s ++ rest)) h
+longest_by AtMost sign rest (inl h) longest = ap (λ (s : List ℕ). sign_by (s ++ rest)) h
+longest_by AtMost sign rest (inr h) longest = ap (λ (s : List ℕ). sign_by (s ++ rest)) h ∙ ap Some (longest_less rest (subst (λ (s : List ℕ). IsLongestOf s rest) h longest))
+longest_by Equal sign rest h longest = ap (λ (s : List ℕ). sign_by (s ++ rest)) h
+longest_by AtLeast sign rest (inl h) longest = ap (λ (s : List ℕ). sign_by (s ++ rest)) h
+longest_by AtLeast sign rest (inr h) longest = ap (λ (s : List ℕ). sign_by (s ++ rest)) h ∙ ap Some (longest_greater rest (subst (λ (s : List ℕ). IsLongestOf s rest) h longest))
+longest_by Above sign rest h longest = ap (λ (s : List ℕ). sign_by (s ++ rest)) h
+
 pub longest_is_read : (op : Op) (sign rest : List ℕ) → IsSign op sign → IsLongest sign rest → sign_in (sign ++ rest) ≡ Some (op, rest)
-unfolding sign_in
-longest_is_read Below sign rest h longest = ap (λ (s : List ℕ). sign_in (s ++ rest)) h
-longest_is_read AtMost sign rest (inl h) longest = ap (λ (s : List ℕ). sign_in (s ++ rest)) h
-longest_is_read AtMost sign rest (inr h) longest = ap (λ (s : List ℕ). sign_in (s ++ rest)) h ∙ ap Some (longest_less rest (subst (λ (s : List ℕ). IsLongest s rest) h longest))
-longest_is_read Equal sign rest h longest = ap (λ (s : List ℕ). sign_in (s ++ rest)) h
-longest_is_read AtLeast sign rest (inl h) longest = ap (λ (s : List ℕ). sign_in (s ++ rest)) h
-longest_is_read AtLeast sign rest (inr h) longest = ap (λ (s : List ℕ). sign_in (s ++ rest)) h ∙ ap Some (longest_greater rest (subst (λ (s : List ℕ). IsLongest s rest) h longest))
-longest_is_read Above sign rest h longest = ap (λ (s : List ℕ). sign_in (s ++ rest)) h
+longest_is_read op sign rest h longest =
+    sign_is (sign ++ rest)
+    ∙ longest_by op sign rest (sign_of op sign h) (λ c more o cut longer. longest c more o cut (is_sign o (sign ++ c ∷ []) longer))
 
 fails_in_front : (q : ℕ → Bool) (c : ℕ) (cs : List ℕ) → prefix_len q (c ∷ cs) ≡ 0 → q c ≡ false
 fails_in_front q c cs none = false_from_ne_true (q c)
@@ -279,7 +295,7 @@ fails_in_front q c cs none = false_from_ne_true (q c)
     omega arith)
 
 -- each character of a sign but the first goes on with one of a sign
-sign_goes_on : (op : Op) (sign : List ℕ) (c : ℕ) → IsSign op (sign ++ c ∷ []) → (sign ≡ []) ⊎ (is_sign_char c ≡ true)
+sign_goes_on : (op : Op) (sign : List ℕ) (c : ℕ) → IsSignOf op (sign ++ c ∷ []) → (sign ≡ []) ⊎ (is_sign_char c ≡ true)
 sign_goes_on op [] c h = inl refl
 sign_goes_on op (a ∷ []) c h = inr (⊎_elim
     (λ (less : (a ≡ 60) × ((c ≡ 60) ⊎ (c ≡ 61))). ⊎_elim (λ (twice : c ≡ 60). ap is_sign_char twice) (λ (equal : c ≡ 61). ap is_sign_char equal) less.1)
@@ -288,7 +304,7 @@ sign_goes_on op (a ∷ []) c h = inr (⊎_elim
 sign_goes_on op (a ∷ (b ∷ [])) c h = absurd (too_long op a b c h)
 sign_goes_on op (a ∷ (b ∷ (d ∷ ds))) c h = absurd (longer op h)
   where
-    longer : (o : Op) → IsSign o (a ∷ b ∷ d ∷ (ds ++ c ∷ [])) → ⊥
+    longer : (o : Op) → IsSignOf o (a ∷ b ∷ d ∷ (ds ++ c ∷ [])) → ⊥
     longer Below e = absurd cc
     longer AtMost (inl e) = absurd cc
     longer AtMost (inr e) = absurd cc
@@ -297,7 +313,7 @@ sign_goes_on op (a ∷ (b ∷ (d ∷ ds))) c h = absurd (longer op h)
     longer AtLeast (inr e) = absurd cc
     longer Above e = absurd cc
 
-sign_has_some : (op : Op) → IsSign op [] → ⊥
+sign_has_some : (op : Op) → IsSignOf op [] → ⊥
 sign_has_some Below h = absurd cc
 sign_has_some AtMost (inl h) = absurd cc
 sign_has_some AtMost (inr h) = absurd cc
@@ -307,19 +323,19 @@ sign_has_some AtLeast (inr h) = absurd cc
 sign_has_some Above h = absurd cc
 
 -- before what begins with no character of a sign, a sign is the longest
-ends_sign : (op : Op) (sign rest : List ℕ) → IsSign op sign → prefix_len is_sign_char rest ≡ 0 → IsLongest sign rest
+ends_sign : (op : Op) (sign rest : List ℕ) → IsSignOf op sign → prefix_len is_sign_char rest ≡ 0 → IsLongestOf sign rest
 ends_sign op sign rest signed none c more longer cut sign_more =
     let fails : is_sign_char c ≡ false = fails_in_front is_sign_char c more (ap (prefix_len is_sign_char) (sym cut) ∙ none) in
     ⊎_elim
-    (λ (empty : sign ≡ []). sign_has_some op (subst (IsSign op) empty signed))
+    (λ (empty : sign ≡ []). sign_has_some op (subst (IsSignOf op) empty signed))
     (λ (passes : is_sign_char c ≡ true). absurd (let never : false ≡ true = sym fails ∙ passes in cc))
     (sign_goes_on longer sign c sign_more)
 
-sign_is_read : (op : Op) (sign rest : List ℕ) → IsSign op sign → prefix_len is_sign_char rest ≡ 0 → sign_in (sign ++ rest) ≡ Some (op, rest)
-sign_is_read op sign rest h none = longest_is_read op sign rest h (ends_sign op sign rest h none)
+sign_is_read : (op : Op) (sign rest : List ℕ) → IsSignOf op sign → prefix_len is_sign_char rest ≡ 0 → sign_in (sign ++ rest) ≡ Some (op, rest)
+sign_is_read op sign rest h none = sign_is (sign ++ rest) ∙ longest_by op sign rest h (ends_sign op sign rest h none)
 
 -- a sign begins with no white
-pub sign_is_not_white : (op : Op) (sign rest : List ℕ) → IsSign op sign → prefix_len is_white (sign ++ rest) ≡ 0
+pub sign_is_not_white : (op : Op) (sign rest : List ℕ) → IsSignOf op sign → prefix_len is_white (sign ++ rest) ≡ 0
 sign_is_not_white Below sign rest h = ap (λ (s : List ℕ). prefix_len is_white (s ++ rest)) h
 sign_is_not_white AtMost sign rest (inl h) = ap (λ (s : List ℕ). prefix_len is_white (s ++ rest)) h
 sign_is_not_white AtMost sign rest (inr h) = ap (λ (s : List ℕ). prefix_len is_white (s ++ rest)) h
@@ -344,12 +360,11 @@ end_read None h = absurd cc
 end_read (Some rest) h = (rest, refl, h)
 
 pub version_read : (text version : List ℕ) → version_in text ≡ Ok version → IsClosed text version
-unfolding version_in
 version_read text version h =
     let t = skip_white text in
     let word = before_first ends_version t in
     let rest = drop (position_or_len ends_version t) t in
-    let good = passed (is_version word) (cond (closes (after_char 41 (skip_white rest))) (Ok word) (Err BadRelation)) BadVersion version h in
+    let good = passed (is_version word) (cond (closes (after_char 41 (skip_white rest))) (Ok word) (Err BadRelation)) BadVersion version (sym (version_is text) ∙ h) in
     let ended = passed (closes (after_char 41 (skip_white rest))) (Ok word) BadRelation version good.1 in
     let end = end_read (after_char 41 (skip_white rest)) ended.0 in
     let closed : skip_white rest ≡ 41 ∷ end.0 = after_is 41 (skip_white rest) end.0 end.1 in
@@ -378,14 +393,14 @@ closed_is_read version behind after good white last =
     cond-true (is_version version) _ _ good ∙ cond-true (closes (after_char 41 (skip_white (behind ++ 41 ∷ after)))) _ _ closes_it
 
 pub version_is_read : (text version : List ℕ) → IsClosed text version → version_in text ≡ Ok version
-unfolding version_in
 version_is_read text version s =
     let goes : ℕ → Bool = λ (c : ℕ). not (ends_version c) in
     let more = s.behind ++ 41 ∷ s.after in
     let t : skip_white text ≡ version ++ more = ap skip_white s.written ∙ skipped s.between (version ++ more) s.whites.0 (version_is_not_white version more s.versioned) in
     let chars : list_all goes version ≡ true = pass_wider goes is_upstream_byte goes_on version (version_passes version s.versioned) in
     let none : prefix_len goes more ≡ 0 = none_in_front_of goes is_white white_ends_version s.behind (41 ∷ s.after) s.whites.1 (none_in_front goes 41 s.after refl) in
-    ap (λ (ys : List ℕ). version_then (before_first ends_version ys) (drop (position_or_len ends_version ys) ys)) t
+    version_is text
+    ∙ ap (λ (ys : List ℕ). version_then (before_first ends_version ys) (drop (position_or_len ends_version ys) ys)) t
     ∙ ap (λ (ys : List ℕ). version_then ys (drop (position_or_len ends_version (version ++ more)) (version ++ more))) (front_is goes version more chars none)
     ∙ ap (λ (ys : List ℕ). version_then version ys) (behind_is goes version more chars none)
     ∙ closed_is_read version s.behind s.after s.versioned s.whites.1 s.whites.2
@@ -432,15 +447,16 @@ relation_stands signs text inside op left version opening allowed cut closed = r
       white_and_rest text
       ∙ ap (λ (ys : List ℕ). take_while is_white text ++ ys) (opening ∙ ap (λ (ys : List ℕ). 40 ∷ ys) (white_and_rest inside ∙ ap (λ (ys : List ℕ). take_while is_white inside ++ ys) (cut.1 ∙ ap (λ (ys : List ℕ). cut.0 ++ ys) closed.written)));
   whites = (front_passes is_white text, front_passes is_white inside, closed.whites.0, closed.whites.1, closed.whites.2);
-  signed = cut.2;
+  signed = is_sign op cut.0 cut.2;
   allowed = allowed;
   versioned = closed.versioned;
 }
 
 -- what follows a name is spelled, if it is read
 rest_read : (signs : Signs) (text : List ℕ) (o : Option Relation) → relation_in signs text ≡ Ok o → SpellsRest signs text o
-unfolding relation_in
-rest_read signs text o h = ⊎_elim
+rest_read signs text o read =
+    let h = sym (relation_is signs text) ∙ read in
+    ⊎_elim
     (λ (yes : list_all is_white text ≡ true).
     let none : ◌≡◌ {A = Option Relation} None o = same_value None o (sym (cond-true (list_all is_white text) (Ok None) (within_parentheses signs (after_char 40 (skip_white text))) yes) ∙ h) in
     subst (SpellsRest signs text) none yes)
@@ -453,29 +469,28 @@ rest_read signs text o h = ⊎_elim
 
 -- what is spelled after a name is read
 relation_is_read : (signs : Signs) (text : List ℕ) (r : Relation) → SpellsRelation signs text r → relation_in signs text ≡ Ok (Some r)
-unfolding relation_in
 relation_is_read signs text r s =
     let end = r.version ++ (s.behind ++ 41 ∷ s.after) in
     let left = s.between ++ end in
     let inside = s.within ++ (s.sign ++ left) in
     let holds_more : list_all is_white text ≡ false = ap (list_all is_white) s.written ∙ list_all-append is_white s.before (40 ∷ inside) ∙ and_right (list_all is_white s.before) false refl in
     let opening : skip_white text ≡ 40 ∷ inside = ap skip_white s.written ∙ skipped s.before (40 ∷ inside) s.whites.0 refl in
-    let sign_front : skip_white inside ≡ s.sign ++ left = skipped s.within (s.sign ++ left) s.whites.1 (sign_is_not_white r.op s.sign left s.signed) in
+    let sign_front : skip_white inside ≡ s.sign ++ left = skipped s.within (s.sign ++ left) s.whites.1 (sign_is_not_white r.op s.sign left (sign_of r.op s.sign s.signed)) in
     let none_behind : prefix_len is_sign_char (s.behind ++ 41 ∷ s.after) ≡ 0 = none_in_front_of is_sign_char is_white white_is_not_sign s.behind (41 ∷ s.after) s.whites.3 refl in
     let none_here : prefix_len is_sign_char end ≡ 0 = none_in_front_of is_sign_char is_upstream_byte is_not_sign r.version (s.behind ++ 41 ∷ s.after) (version_passes r.version s.versioned) none_behind in
     let none : prefix_len is_sign_char left ≡ 0 = none_in_front_of is_sign_char is_white white_is_not_sign s.between end s.whites.2 none_here in
-    let sign : sign_in (skip_white inside) ≡ Some (r.op, left) = ap sign_in sign_front ∙ sign_is_read r.op s.sign left s.signed none in
+    let sign : sign_in (skip_white inside) ≡ Some (r.op, left) = ap sign_in sign_front ∙ sign_is_read r.op s.sign left (sign_of r.op s.sign s.signed) none in
     let of_version : List ℕ → Result (Option Relation) RelationFault = λ (version : List ℕ). Ok (Some (record { op = r.op; version = version })) in
     let version : version_in left ≡ Ok r.version = version_is_read left r.version (record { between = s.between; behind = s.behind; after = s.after; written = refl; whites = (s.whites.2, s.whites.3, s.whites.4); versioned = s.versioned }) in
-    cond-false (list_all is_white text) _ _ holds_more
+    relation_is signs text
+    ∙ cond-false (list_all is_white text) _ _ holds_more
     ∙ ap (λ (ys : List ℕ). within_parentheses signs (after_char 40 ys)) opening
     ∙ ap (relation_of signs) sign
     ∙ cond-true (allows signs r.op) (version_in left >>= of_version) (Err BadRelation) s.allowed
     ∙ ap (λ (v : Result (List ℕ) RelationFault). v >>= of_version) version
 
 rest_is_read : (signs : Signs) (text : List ℕ) (o : Option Relation) → SpellsRest signs text o → relation_in signs text ≡ Ok o
-unfolding relation_in
-rest_is_read signs text None white = cond-true (list_all is_white text) _ _ white
+rest_is_read signs text None white = relation_is signs text ∙ cond-true (list_all is_white text) _ _ white
 rest_is_read signs text (Some r) s = relation_is_read signs text r s
 
 -- what follows a name begins with white or `(`, if it is not empty
@@ -508,14 +523,13 @@ in_three : (front name text t rest end : List ℕ) → text ≡ front ++ t → t
 in_three front name text t rest end first second third = first ∙ ap (λ (ys : List ℕ). front ++ ys) (second ∙ ap (λ (ys : List ℕ). name ++ ys) third)
 
 alternative_read : (signs : Signs) (text : List ℕ) (a : Alternative) → alternative_in signs text ≡ Ok a → SpellsAlternative signs text a
-unfolding alternative_in
 alternative_read signs text a h =
     let t = skip_white text in
     let name = before_first ends_name t in
     let rest = drop (position_or_len ends_name t) t in
     let whole : Option Relation → Result Alternative RelationFault = λ (o : Option Relation). Ok (record { name = name; relation = o }) in
     let further : List ℕ → Result Alternative RelationFault = λ (more : List ℕ). relation_in signs more >>= whole in
-    let good = passed (is_package_name name) (after_qualifier rest >>= further) BadName a h in
+    let good = passed (is_package_name name) (after_qualifier rest >>= further) BadName a (sym (alternative_is signs text) ∙ h) in
     let behind = went_on (after_qualifier rest) further a good.1 in
     let relation = went_on (relation_in signs behind.0) whole a behind.2 in
     let qualifier = qualifier_read rest behind.0 behind.1 in
@@ -542,7 +556,6 @@ of_name name o = Ok (record { name = name; relation = o })
 
 -- a text with a name and a qualifier in front is read up to what follows them, which begins with white or `(`
 pub name_is_read : (signs : Signs) (text before name qualifier rest : List ℕ) → text ≡ before ++ (name ++ (qualifier ++ rest)) → IsWhite before → is_package_name name ≡ true → IsQualifier qualifier → ((q : ℕ → Bool) → ((c : ℕ) → is_white c ≡ true → q c ≡ false) → q 40 ≡ false → prefix_len q rest ≡ 0) → alternative_in signs text ≡ (relation_in signs rest >>= of_name name)
-unfolding alternative_in
 name_is_read signs text before name qualifier rest written white good qualified begins =
     let goes : ℕ → Bool = λ (c : ℕ). not (ends_name c) in
     let more = qualifier ++ rest in
@@ -551,7 +564,8 @@ name_is_read signs text before name qualifier rest written white good qualified 
     let chars : list_all goes name ≡ true = name_goes_on name good in
     let none : prefix_len goes more ≡ 0 = qualifier_ends_name qualifier rest qualified (begins goes white_ends_name refl) in
     let read : after_qualifier more ≡ Ok rest = qualifier_is_read qualifier rest qualified (begins (λ (c : ℕ). eqb c 58) white_is_no_colon refl) (begins is_qualifier_char white_is_no_qualifier refl) in
-    ap (λ (ys : List ℕ). named signs (before_first ends_name ys) (drop (position_or_len ends_name ys) ys)) t
+    alternative_is signs text
+    ∙ ap (λ (ys : List ℕ). named signs (before_first ends_name ys) (drop (position_or_len ends_name ys) ys)) t
     ∙ ap (λ (ys : List ℕ). named signs ys (drop (position_or_len ends_name (name ++ more)) (name ++ more))) (front_is goes name more chars none)
     ∙ ap (λ (ys : List ℕ). named signs name ys) (behind_is goes name more chars none)
     ∙ cond-true (is_package_name name) (after_qualifier more >>= further) (Err BadName) good
@@ -565,24 +579,22 @@ alternative_is_read signs text a s =
 -- Lists.
 
 module _ {A : Type 0} (read : List ℕ → Result A RelationFault) (Spells : List ℕ → A → Type 0) where
-  each_read : ((text : List ℕ) (value : A) → read text ≡ Ok value → Spells text value) → (texts : List (List ℕ)) (values : List A) → each_in read texts ≡ Ok values → EachSpells Spells texts values
-  unfolding each_in
+  each_read : ((text : List ℕ) (value : A) → read text ≡ Ok value → Spells text value) → (texts : List (List ℕ)) (values : List A) → each_of read texts ≡ Ok values → AllZip Spells texts values
   each_read one [] [] h = tt
   each_read one [] (value ∷ values) h = absurd cc
   each_read one (text ∷ texts) values h =
-      let further : A → Result (List A) RelationFault = λ (value : A). each_in read texts >>= λ (more : List A). Ok (value ∷ more) in
+      let further : A → Result (List A) RelationFault = λ (value : A). each_of read texts >>= λ (more : List A). Ok (value ∷ more) in
       let first = went_on (read text) further values h in
       let joined : List A → Result (List A) RelationFault = λ (more : List A). Ok (first.0 ∷ more) in
-      let rest = went_on (each_in read texts) joined values first.2 in
-      subst (EachSpells Spells (text ∷ texts)) (same_value (first.0 ∷ rest.0) values rest.2) (one text first.0 first.1, each_read one texts rest.0 rest.1)
+      let rest = went_on (each_of read texts) joined values first.2 in
+      subst (AllZip Spells (text ∷ texts)) (same_value (first.0 ∷ rest.0) values rest.2) (one text first.0 first.1, each_read one texts rest.0 rest.1)
 
-  each_is_read : ((text : List ℕ) (value : A) → Spells text value → read text ≡ Ok value) → (texts : List (List ℕ)) (values : List A) → EachSpells Spells texts values → each_in read texts ≡ Ok values
-  unfolding each_in
+  each_is_read : ((text : List ℕ) (value : A) → Spells text value → read text ≡ Ok value) → (texts : List (List ℕ)) (values : List A) → AllZip Spells texts values → each_of read texts ≡ Ok values
   each_is_read one [] [] s = refl
   each_is_read one [] (value ∷ values) s = absurd s
   each_is_read one (text ∷ texts) [] s = absurd s
   each_is_read one (text ∷ texts) (value ∷ values) s =
-      let further : A → Result (List A) RelationFault = λ (first : A). each_in read texts >>= λ (more : List A). Ok (first ∷ more) in
+      let further : A → Result (List A) RelationFault = λ (first : A). each_of read texts >>= λ (more : List A). Ok (first ∷ more) in
       ap (λ (r : Result A RelationFault). r >>= further) (one text value s.0)
       ∙ ap (λ (r : Result (List A) RelationFault). r >>= λ (more : List A). Ok (value ∷ more)) (each_is_read one texts values s.1)
 
@@ -594,13 +606,13 @@ clause_is_read : (text : List ℕ) (clause : List Alternative) → SpellsClause 
 unfolding clause_in
 clause_is_read text clause s = each_is_read (alternative_in Any) (SpellsAlternative Any) (alternative_is_read Any) (slice_split is_bar text) clause s
 
-pub clauses_law : (text : List ℕ) (clauses : List (List Alternative)) → (clauses_in text ≡ Ok clauses) ↔ EachSpells SpellsClause (items text) clauses
+pub clauses_law : (text : List ℕ) (clauses : List (List Alternative)) → (clauses_in text ≡ Ok clauses) ↔ AllZip SpellsClause (items text) clauses
 unfolding clauses_in
 clauses_law text clauses = (each_read clause_in SpellsClause clause_read (items text) clauses, each_is_read clause_in SpellsClause clause_is_read (items text) clauses)
 
 -- Provisions.
 
-equal_alone : (op : Op) → is_equal op ≡ true → op ≡ Equal
+equal_alone : (op : Op) → allows EqualAlone op ≡ true → op ≡ Equal
 equal_alone Below h = absurd cc
 equal_alone AtMost h = absurd cc
 equal_alone Equal h = refl
@@ -632,6 +644,6 @@ provision_is_read text p s =
     ap (λ (r : Result Alternative RelationFault). r >>= whole) (alternative_is_read EqualAlone text (as_alternative p) s)
     ∙ ap Ok (given_back p.name p.version)
 
-pub provisions_law : (text : List ℕ) (provisions : List Provision) → (provisions_in text ≡ Ok provisions) ↔ EachSpells SpellsProvision (items text) provisions
+pub provisions_law : (text : List ℕ) (provisions : List Provision) → (provisions_in text ≡ Ok provisions) ↔ AllZip SpellsProvision (items text) provisions
 unfolding provisions_in
 provisions_law text provisions = (each_read provision_in SpellsProvision provision_read (items text) provisions, each_is_read provision_in SpellsProvision provision_is_read (items text) provisions)

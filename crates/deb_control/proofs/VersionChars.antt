@@ -5,7 +5,8 @@ use Rattle.std.specs.List.{list_all, after_first, before_last, after_last}
 use Rattle.std.specs.Str.Parse.{digits_value}
 use Rattle.std.proofs.lemmas.Bool.{cases_Bool, cond-true, cond-false, and_parts}
 use Rattle.std.proofs.lemmas.Bool.Decides.{nat_tests}
-use Rattle.deb_version.specs.Text.{is_colon, is_hyphen, has_epoch, epoch_text, is_epoch, after_epoch, has_revision, upstream_in, revision_in, upstream_of, revision_of, is_revision_byte, is_upstream_byte, has_bad_epoch, has_bad_byte, first_fault, version_fault}
+use Rattle.deb_version.specs.Text.{is_colon, is_hyphen, has_epoch, epoch_text, is_epoch, after_epoch, has_revision, upstream_of, revision_of, is_revision_byte, is_upstream_byte, version_fault}
+use Rattle.deb_version.specs.steps.Split.{first_fault, upstream_in, revision_in, has_bad_epoch, has_bad_byte}
 use Rattle.deb_control.specs.Text.{is_white}
 use Rattle.deb_control.specs.Relations.{is_version, ends_version}
 use Rattle.deb_control.proofs.Fronts.{pass_wider, pass_round_first, pass_round_last}
@@ -63,7 +64,7 @@ whole_passes text good rest = ⊎_elim
 
 -- each character of a version is one that an upstream version may have
 pub version_passes : (text : List ℕ) → is_version text ≡ true → list_all is_upstream_byte text ≡ true
-unfolding is_version version_fault upstream_of revision_of
+unfolding is_version version_fault first_fault upstream_of revision_of
 version_passes text h =
     let tests = no_fault (length text == 0) (nat_lt 256 (length text)) (has_bad_epoch text) (length (upstream_of text) == 0) (length (revision_of text) == 0) (has_bad_byte (upstream_of text) (revision_of text)) h in
     let both = and_parts (list_all is_upstream_byte (upstream_of text)) (list_all is_revision_byte (revision_of text)) (not_false _ tests.1) in

@@ -1,11 +1,13 @@
 -- Each paragraph that is read is well formed.
 use Rattle.std.proofs.Common.{◌≡◌, ℕ, Bool, true, false, cond, not, List, [], ◌∷◌, ◌++◌, Option, Some, None, refl, sym, ◌∙◌, ⊎_elim}
-use Rattle.std.specs.List.{filter, slice_split, take_while}
+use Rattle.std.specs.List.{filter, slice_split, take_while, AllByRecursion}
 use Rattle.std.specs.Str.{is_utf8}
 use Rattle.std.proofs.lemmas.Bool.{cases_Bool, cond-true, cond-false}
+use Rattle.std.specs.Option.{option_or}
 use Rattle.deb_control.specs.Text.{lines, is_blank_line, continues}
-use Rattle.deb_control.specs.Paragraphs.{Field, Reading, not_empty, is_field_name, has_name, has_colon, name_in, field_of, fields, line_fault, or_else, first_fault, paragraph_lines, reading_of, reading_of_text, reading, unless_bad}
-use Rattle.deb_control.specs.WellFormed.{AreWellNamed, IsWellFormed, AllWellFormed}
+use Rattle.deb_control.specs.steps.ReaderSteps.{has_colon, unless_bad}
+use Rattle.deb_control.specs.Paragraphs.{Field, Reading, not_empty, is_field_name, has_name, name_in, field_of, fields, line_fault, first_fault, paragraph_lines, reading_of, reading_of_text, reading}
+use Rattle.deb_control.specs.WellFormed.{AreWellNamed, IsWellFormed}
 use Rattle.deb_control.specs.declared.fault.ParagraphFault.{ParagraphFault}
 use Rattle.deb_control.specs.declared.fault.ParagraphFault.TheVariants.{NoColon, BadName, RepeatedField, FirstLineContinues}
 
@@ -20,7 +22,7 @@ good_line names line e = from_tests (has_colon line) (is_field_name (name_in lin
     from_tests true false r q = cc
     from_tests false b r q = cc
 
-both_none : (a b : Option ParagraphFault) → or_else a b ≡ None → (a ≡ None) × (b ≡ None)
+both_none : (a b : Option ParagraphFault) → option_or a b ≡ None → (a ≡ None) × (b ≡ None)
 both_none None b e = (refl, e)
 both_none (Some f) b e = cc
 
@@ -58,21 +60,21 @@ well_formed line after e =
     let named : AreWellNamed [] (cond (continues line) (fields after) (field_of line (take_while continues after) ∷ fields after)) = well_named [] (line ∷ after) e in
     rw no (rw no at named)
 
-unless_bad_keeps : (o : Option ParagraphFault) (p : List Field) (r : Reading) → (o ≡ None → IsWellFormed p) → AllWellFormed r.paragraphs → AllWellFormed (unless_bad o p r).paragraphs
+unless_bad_keeps : (o : Option ParagraphFault) (p : List Field) (r : Reading) → (o ≡ None → IsWellFormed p) → AllByRecursion IsWellFormed r.paragraphs → AllByRecursion IsWellFormed (unless_bad o p r).paragraphs
 unless_bad_keeps None p r h a = (h refl, a)
 unless_bad_keeps (Some f) p r h a = tt
 
-runs_well_formed : (qs : List (List (List ℕ))) → AllWellFormed (reading_of (filter not_empty qs)).paragraphs
+runs_well_formed : (qs : List (List (List ℕ))) → AllByRecursion IsWellFormed (reading_of (filter not_empty qs)).paragraphs
 unfolding reading_of
 runs_well_formed [] = tt
 runs_well_formed ([] ∷ qs) = runs_well_formed qs
 runs_well_formed ((line ∷ after) ∷ qs) = unless_bad_keeps (first_fault [] (line ∷ after)) (fields (line ∷ after)) (reading_of (filter not_empty qs)) (well_formed line after) (runs_well_formed qs)
 
-text_well_formed : (text : List ℕ) → AllWellFormed (reading_of_text text).paragraphs
+text_well_formed : (text : List ℕ) → AllByRecursion IsWellFormed (reading_of_text text).paragraphs
 unfolding reading_of_text paragraph_lines
 text_well_formed text = runs_well_formed (slice_split is_blank_line (lines text))
 
-pub reads_well_formed : (bytes : List ℕ) → AllWellFormed (reading bytes).paragraphs
+pub reads_well_formed : (bytes : List ℕ) → AllByRecursion IsWellFormed (reading bytes).paragraphs
 unfolding reading
 reads_well_formed bytes = ⊎_elim
     (λ (yes : is_utf8 bytes ≡ true). rw yes (text_well_formed bytes))

@@ -1,15 +1,11 @@
 pub mod Text
-pub mod LineFronts
+pub mod Results
 pub mod Paragraphs
 pub mod Reader
-pub mod ReaderSteps
 pub mod Alternatives
 pub mod Relations
-pub mod RelationAnswers
-pub mod ClauseSteps
 pub mod Binary
-pub mod BinaryAnswers
-pub mod BinarySteps
 pub mod WellFormed
 pub mod Spelling
 pub mod FirstFault
+pub mod steps

@@ -1,11 +1,12 @@
 -- The paragraphs of a text of control data, and its first bad line (Debian Policy 5.1).
 use Rattle.std.specs.Prelude.{ℕ, Bool, true, false, not, ◌&&◌, ◌==◌, nat_le, if◌then◌else◌, List, [], ◌∷◌, ◌++◌, Option, Some, None}
 use Rattle.std.specs.List.{list_all, list_any, filter, find, slice_split, take_while, before_first, after_first, join_with_byte}
-use Rattle.std.specs.Option.{option_map}
+use Rattle.std.specs.Option.{option_map, option_map_or, option_or}
 use Rattle.std.specs.Borrow.{Bor}
 use Rattle.std.specs.Str.{is_utf8, str_eq_ignore_ascii_case}
 use Rattle.deb_version.specs.Characters.{char}
-use Rattle.deb_control.specs.Text.{is_colon, lines, is_blank_line, continues, trim_white}
+use Rattle.deb_version.specs.Text.{is_colon, first_held}
+use Rattle.deb_control.specs.Text.{lines, is_blank_line, continues, trim_white}
 use Rattle.deb_control.specs.declared.fault.ParagraphFault.{ParagraphFault}
 use Rattle.deb_control.specs.declared.fault.ParagraphFault.TheVariants.{NotUtf8, NoColon, BadName, FirstLineContinues, RepeatedField}
 
@@ -35,10 +36,6 @@ is_field_name (c ∷ cs) = not (c == char "#") && not (c == char "-") && list_al
 abbrev pub name_in : List ℕ → List ℕ
 name_in line = before_first is_colon line
 
--- whether the line has a colon at all
-abbrev pub has_colon : List ℕ → Bool
-has_colon line = list_any is_colon line
-
 -- The field that a line begins. Its value includes the lines that continue it, without the white at both ends.
 unfoldable pub field_of : List ℕ → List (List ℕ) → Field
 field_of line continued = (name_in line, trim_white (after_first is_colon (join_with_byte (char "\n") (line ∷ continued))))
@@ -55,21 +52,15 @@ has_name names name = list_any (λ n. str_eq_ignore_ascii_case n name) names
 -- the fault of a line that begins a field, after fields with these names in its paragraph
 unfoldable pub line_fault : List (List ℕ) → List ℕ → Option ParagraphFault
 line_fault names line =
-    if not (has_colon line) then Some NoColon
-    else (if not (is_field_name (name_in line)) then Some BadName
-    else (if has_name names (name_in line) then Some RepeatedField else None))
-
--- the first, unless it is None
-abbrev pub or_else : {X : Type 0} → Option X → Option X → Option X
-or_else None other = other
-or_else (Some x) other = Some x
+    first_held ((not (list_any is_colon line), NoColon) ∷ (not (is_field_name (name_in line)), BadName)
+    ∷ (has_name names (name_in line), RepeatedField) ∷ [])
 
 -- the fault of the first bad line among a paragraph's lines, after fields of these names
 unfoldable pub first_fault : List (List ℕ) → List (List ℕ) → Option ParagraphFault
 first_fault names [] = None
 first_fault names (line ∷ after) =
     if continues line then (if not_empty names then first_fault names after else Some FirstLineContinues)
-    else or_else (line_fault names line) (first_fault (names ++ name_in line ∷ []) after)
+    else option_or (line_fault names line) (first_fault (names ++ name_in line ∷ []) after)
 
 -- the lines of each paragraph: the longest runs of lines that aren't blank
 unfoldable pub paragraph_lines : List (List ℕ) → List (List (List ℕ))
@@ -92,15 +83,10 @@ refusing fault = record { paragraphs = []; refusal = Some fault }
 abbrev pub then_read : List Field → Reading → Reading
 then_read paragraph rest = record { paragraphs = paragraph ∷ rest.paragraphs; refusal = rest.refusal }
 
--- a paragraph and the rest, unless the paragraph has a bad line: then only its refusal
-abbrev pub unless_bad : Option ParagraphFault → List Field → Reading → Reading
-unless_bad None paragraph rest = then_read paragraph rest
-unless_bad (Some fault) paragraph rest = refusing fault
-
--- the paragraphs in turn, up to one with a bad line
+-- the paragraphs in turn, up to one with a bad line: of that only the refusal
 unfoldable pub reading_of : List (List (List ℕ)) → Reading
 reading_of [] = ended
-reading_of (p ∷ ps) = unless_bad (first_fault [] p) (fields p) (reading_of ps)
+reading_of (p ∷ ps) = option_map_or refusing (first_fault [] p) (then_read (fields p) (reading_of ps))
 
 -- the content of a text in UTF-8
 unfoldable pub reading_of_text : List ℕ → Reading

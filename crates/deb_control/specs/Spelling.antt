@@ -2,15 +2,15 @@
 -- 5.6.1, 7.1, 7.2 and 7.5). The definitions of Relations and Binary read a text from the left, to find its first fault.
 -- The laws say that both agree.
 use Rattle.std.specs.Prelude.{◌≡◌, ℕ, true, List, [], ◌∷◌, ◌++◌, Option, Some, None, Ok, ◌⊎◌, ◌↔◌, ⊤, codes}
-use Rattle.std.specs.List.{list_all, slice_split}
+use Rattle.std.specs.List.{list_all, slice_split, AllZip, IsAmong}
 use Rattle.std.specs.Option.{option_map}
 use Rattle.deb_version.specs.Characters.{char}
 use Rattle.deb_control.specs.Text.{is_white}
 use Rattle.deb_control.specs.Paragraphs.{not_empty}
-use Rattle.deb_control.specs.Relations.{is_package_name, is_version, is_qualifier_char, allows, is_bar, items, clauses_in, provisions_in}
+use Rattle.deb_control.specs.Relations.{is_package_name, is_version, is_qualifier_char, known_signs, allows, is_bar, items, clauses_in, provisions_in}
 use Rattle.deb_control.specs.Binary.{source_in}
 use Rattle.deb_control.specs.declared.relation.Op.{Op}
-use Rattle.deb_control.specs.declared.relation.Op.TheVariants.{Below, AtMost, Equal, AtLeast, Above}
+use Rattle.deb_control.specs.declared.relation.Op.TheVariants.{Equal}
 use Rattle.deb_control.specs.declared.relation.Signs.{Signs}
 use Rattle.deb_control.specs.declared.relation.Signs.TheVariants.{Any, EqualAlone}
 use Rattle.deb_control.specs.declared.relation.Relation.{Relation}
@@ -26,13 +26,9 @@ abbrev pub IsQualifier : List ℕ → Type 0
 IsQualifier [] = ⊤
 IsQualifier (c ∷ word) = (c ≡ char ":") × (not_empty word ≡ true) × (list_all is_qualifier_char word ≡ true)
 
--- the signs of a relation; two of them have an old form
+-- a sign with this meaning
 abbrev pub IsSign : Op → List ℕ → Type 0
-IsSign Below sign = sign ≡ codes "<<"
-IsSign AtMost sign = (sign ≡ codes "<=") ⊎ (sign ≡ codes "<")
-IsSign Equal sign = sign ≡ codes "="
-IsSign AtLeast sign = (sign ≡ codes ">=") ⊎ (sign ≡ codes ">")
-IsSign Above sign = sign ≡ codes ">>"
+IsSign op sign = IsAmong known_signs (sign, op)
 
 -- A text spells a relation: `(`, a sign, a version and `)`, with white before and after each, or none.
 pub record SpellsRelation (signs : Signs) (text : List ℕ) (relation : Relation) : Type 0 where
@@ -64,16 +60,9 @@ pub record SpellsAlternative (signs : Signs) (text : List ℕ) (alternative : Al
   pub qualified : IsQualifier qualifier
   pub ended : SpellsRest signs rest alternative.relation
 
--- these texts spell these values, one for one
-abbrev pub EachSpells : {A : Type 0} → (List ℕ → A → Type 0) → List (List ℕ) → List A → Type 0
-EachSpells Spells [] [] = ⊤
-EachSpells Spells [] (value ∷ values) = ⊥
-EachSpells Spells (text ∷ texts) [] = ⊥
-EachSpells Spells (text ∷ texts) (value ∷ values) = Spells text value × EachSpells Spells texts values
-
 -- a text spells a clause: its alternatives are the parts between the `|`
 abbrev pub SpellsClause : List ℕ → List Alternative → Type 0
-SpellsClause text clause = EachSpells (SpellsAlternative Any) (slice_split is_bar text) clause
+SpellsClause text clause = AllZip (SpellsAlternative Any) (slice_split is_bar text) clause
 
 -- the alternative with the spelling of a provision
 abbrev pub as_alternative : Provision → Alternative
@@ -85,11 +74,11 @@ SpellsProvision text provision = SpellsAlternative EqualAlone text (as_alternati
 
 -- The law: a text is read as clauses exactly if its items spell them.
 abbrev pub ReadsSpelledClauses : Type 0
-ReadsSpelledClauses = (text : List ℕ) (clauses : List (List Alternative)) → (clauses_in text ≡ Ok clauses) ↔ EachSpells SpellsClause (items text) clauses
+ReadsSpelledClauses = (text : List ℕ) (clauses : List (List Alternative)) → (clauses_in text ≡ Ok clauses) ↔ AllZip SpellsClause (items text) clauses
 
 -- The law: a text is read as provisions exactly if its items spell them.
 abbrev pub ReadsSpelledProvisions : Type 0
-ReadsSpelledProvisions = (text : List ℕ) (provisions : List Provision) → (provisions_in text ≡ Ok provisions) ↔ EachSpells SpellsProvision (items text) provisions
+ReadsSpelledProvisions = (text : List ℕ) (provisions : List Provision) → (provisions_in text ≡ Ok provisions) ↔ AllZip SpellsProvision (items text) provisions
 
 -- A text spells the version of a source: `(`, a version and `)`, with white before and after each, or none.
 pub record SpellsVersion (text version : List ℕ) : Type 0 where

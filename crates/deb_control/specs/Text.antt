@@ -15,17 +15,9 @@ is_white c = is_blank c || c == char "\n"
 abbrev pub is_line_feed : ℕ → Bool
 is_line_feed c = c == char "\n"
 
--- a colon, which ends a field's name
-abbrev pub is_colon : ℕ → Bool
-is_colon c = c == char ":"
-
--- a text without the white at its end
-abbrev pub trim_end_white : List ℕ → List ℕ
-trim_end_white text = take (length text - suffix_len is_white text) text
-
 -- a text without the white at its two ends
 unfoldable pub trim_white : List ℕ → List ℕ
-trim_white text = trim_end_white (drop (prefix_len is_white text) text)
+trim_white text = let rest = drop (prefix_len is_white text) text in take (length rest - suffix_len is_white rest) rest
 
 -- the lines of a text: the parts between its line feeds
 unfoldable pub lines : List ℕ → List (List ℕ)

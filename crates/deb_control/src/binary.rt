@@ -4,11 +4,11 @@ ghost use Rattle.std.specs.Prelude.{◌≡◌, ◌⊎◌, ◌++◌, true, IfOk, 
 ghost use Rattle.std.specs.List.{list_all};
 ghost use Rattle.std.specs.Str.{bytes_eq};
 ghost use Rattle.deb_control.specs.Paragraphs.{value_of};
-ghost use Rattle.deb_control.specs.RelationAnswers.{Gives as GivesPart};
-ghost use Rattle.deb_control.specs.BinaryAnswers.{Gives, GivesBy};
+ghost use Rattle.deb_control.specs.steps.RelationAnswers.{Gives as GivesPart};
+ghost use Rattle.deb_control.specs.steps.BinaryAnswers.{Gives, GivesBy};
 ghost use Rattle.deb_control.specs.Relations.{is_qualifier_char, is_version, clauses_in, provisions_in};
-ghost use Rattle.deb_control.specs.Binary.{field_name, required, optional, of_field, is_architecture, source_in, source_of, binary_of};
-ghost use Rattle.deb_control.specs.BinarySteps.{needs_in, needs_same, binary_by};
+ghost use Rattle.deb_control.specs.Binary.{field_name, required, optional, of_field, is_architecture, source_in, binary_of};
+ghost use Rattle.deb_control.specs.steps.BinarySteps.{needs_in, needs_same, binary_by, source_of};
 ghost use Rattle.deb_control.specs.declared.fault.BinaryField.TheVariants.{Source, Provides};
 
 use crate::fault::{BinaryFault, BinaryField, RelationFault};
@@ -97,7 +97,7 @@ impl Binary {
 }
 
 /// The binary that a paragraph describes, or its first fault. Known clauses are shared.
-#[tactic(auto, unfolding(crate::specs::BinarySteps::binary_by))]
+#[tactic(auto, unfolding(crate::specs::steps::BinarySteps::binary_by))]
 fn read_binary(
     alloc: Global,
     paragraph: &Paragraph<'_>,
@@ -179,7 +179,7 @@ fn needs(
 }
 
 /// The clauses of Pre-Depends, then those of Depends.
-#[tactic(auto, unfolding(crate::specs::BinarySteps::needs_in))]
+#[tactic(auto, unfolding(crate::specs::steps::BinarySteps::needs_in))]
 fn read_needs(alloc: Global, paragraph: &Paragraph<'_>) -> Result<Clauses, BinaryFault>
     ensures { Gives result (needs_in paragraph.now) }
 {

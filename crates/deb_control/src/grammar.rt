@@ -3,10 +3,10 @@
 ghost use Rattle.std.specs.Prelude.{◌≡◌, ◌<◌, ◌≤◌, ◌==◌, ◌⊎◌, ◌∷◌, [], true, false, length, drop, IfSome, MatchOption, MatchResult, Ok, Err};
 ghost use Rattle.std.specs.List.{list_all, slice_split, position, position_or_len, before_first, prefix_len};
 ghost use Rattle.std.specs.Option.{option_map, option_map_or};
-ghost use Rattle.deb_control.specs.RelationAnswers.{Gives, GivesBy};
-ghost use Rattle.deb_control.specs.Relations.{is_package_name, is_lower_or_digit, is_package_char, is_version, ends_name, ends_version, is_qualifier_char, after_qualifier, less_sign, greater_sign, sign_in, version_in, relation_in, alternative_in, clause_in, clauses_in, provision_in, provisions_in};
+ghost use Rattle.deb_control.specs.steps.RelationAnswers.{Gives, GivesBy};
+ghost use Rattle.deb_control.specs.Relations.{is_package_name, is_lower_or_digit, is_package_char, is_version, ends_name, ends_version, is_qualifier_char, after_qualifier, sign_in, version_in, relation_in, alternative_in, clause_in, clauses_in, provision_in, provisions_in};
 ghost use Rattle.deb_control.specs.declared.fault.RelationFault.TheVariants.{BadVersion, NoMemory as OutOfMemory};
-ghost use Rattle.deb_control.specs.ClauseSteps.{only_one, is_package};
+ghost use Rattle.deb_control.specs.steps.ClauseSteps.{only_one, is_package, less_sign, greater_sign, sign_by};
 
 use crate::fault::RelationFault;
 use crate::owned::Text;
@@ -239,9 +239,16 @@ fn qualifier_len(bytes: &[u8]) -> usize
 }
 
 /// The sign of a relation, and the rest after it.
-#[tactic(auto, unfolding(crate::specs::Relations::sign_in))]
 fn read_sign(text: &str) -> Option<(Op, &str)>
     ensures { option_map (λ x. (x.0, x.1.now)) result ≡ sign_in text.now }
+{
+    sign_by_characters(text)
+}
+
+/// The sign at the front by its first two characters, and the rest after it.
+#[tactic(auto, unfolding(crate::specs::steps::ClauseSteps::sign_by))]
+fn sign_by_characters(text: &str) -> Option<(Op, &str)>
+    ensures { option_map (λ x. (x.0, x.1.now)) result ≡ sign_by text.now }
 {
     if let Some(rest) = strip_char(text, b'<') {
         return Some(read_less(rest));

@@ -7,7 +7,7 @@ ghost use Rattle.std.specs.Str.{str_eq_ignore_ascii_case};
 ghost use Rattle.deb_control.specs.Text.{is_blank_line, continues};
 ghost use Rattle.deb_control.specs.Paragraphs.{shown, is_name_char, has_name, reading, reading_of_text, ended, refusing, then_read, value_of};
 ghost use Rattle.deb_control.specs.Reader.{RefusedBy};
-ghost use Rattle.deb_control.specs.ReaderSteps.{line_in_front, may_name, is_named, IsFieldCut, IsFieldEnd, IsNameEnd, NameRead, NameRefused, FieldRead};
+ghost use Rattle.deb_control.specs.steps.ReaderSteps.{line_in_front, may_name, is_named, IsFieldCut, IsFieldEnd, IsNameEnd, NameRead, NameRefused, FieldRead};
 
 use crate::fault::ParagraphFault;
 use crate::text::{begins_blank, begins_continuing, index_of, split_around, trim_white};

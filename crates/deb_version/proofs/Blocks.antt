@@ -11,7 +11,8 @@ use Rattle.std.specs.declared.cmp.Ordering.TheVariants.{Less, Equal, Greater}
 use Rattle.std.proofs.lemmas.Bool.{false≢true}
 use Rattle.std.specs.Ordering.{is_ne, ordering_then, nat_cmp, int_cmp}
 use Rattle.deb_version.proofs.Runs.{position_first, position_later}
-use Rattle.deb_version.specs.Key.{weight, is_non_digit, text_run, from_digits, digit_run, after_block, block_key, blocks_key, key, key_cmp, part_cmp}
+use Rattle.deb_version.specs.Key.{weight, is_non_digit, from_digits, after_block, block_key, blocks_key, key, key_cmp, part_cmp}
+use Rattle.deb_version.specs.steps.Digits.{text_run, digit_run}
 
 pub then_assoc : (o p q : Ordering) → ordering_then (ordering_then o p) q ≡ ordering_then o (ordering_then p q)
 then_assoc Less p q = refl

@@ -9,9 +9,9 @@ use Rattle.std.specs.Str.Parse.{digits_value}
 use Rattle.std.specs.declared.cmp.Ordering.{Ordering}
 use Rattle.std.specs.declared.cmp.Ordering.TheVariants.{Equal}
 use Rattle.std.specs.Ordering.{is_ne, ordering_then, nat_cmp, int_cmp}
-use Rattle.deb_version.specs.Digits.{leading_digits, after_digits}
-use Rattle.deb_version.specs.Front.{rank, front_rank}
-use Rattle.deb_version.specs.Key.{weight, text_run, from_digits, key_cmp, part_cmp}
+use Rattle.deb_version.specs.steps.Digits.{leading_digits, after_digits, text_run}
+use Rattle.deb_version.specs.steps.Front.{rank, front_rank}
+use Rattle.deb_version.specs.Key.{weight, from_digits, key_cmp, part_cmp}
 use Rattle.deb_version.proofs.Runs.{position_first, position_later}
 use Rattle.deb_version.proofs.Blocks.{then_assoc, part_step, answer_decides}
 

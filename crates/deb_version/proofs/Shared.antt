@@ -8,7 +8,7 @@ use Rattle.std.specs.Char.{is_ascii_digit, digit_value}
 use Rattle.std.specs.Str.Parse.{digits_value_after}
 use Rattle.std.specs.declared.cmp.Ordering.{Ordering}
 use Rattle.std.specs.Ordering.{ordering_then, nat_cmp, int_cmp}
-use Rattle.deb_version.specs.Digits.{leading_digits, after_digits}
+use Rattle.deb_version.specs.steps.Digits.{leading_digits, after_digits}
 use Rattle.deb_version.specs.Key.{weight, is_non_digit, part_cmp}
 use Rattle.deb_version.proofs.Runs.{position_first, position_later}
 use Rattle.deb_version.proofs.Front.{stops_at_digit, text_step, digits_step}

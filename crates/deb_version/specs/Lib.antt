@@ -1,10 +1,6 @@
 pub mod Characters
-pub mod Digits
 pub mod Key
-pub mod Front
 pub mod Text
 pub mod SmallString
-pub mod Split
 pub mod Order
-pub mod Laws
-pub mod Examples
+pub mod steps

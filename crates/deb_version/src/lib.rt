@@ -37,7 +37,7 @@ impl Drop for Version {
 impl Model for Version {
     ghost use Rattle.std.specs.Prelude.{List, ℕ};
     ghost use Rattle.deb_version.specs.Text.{IsVersion};
-    ghost use Rattle.deb_version.specs.Split.{IsSplit};
+    ghost use Rattle.deb_version.specs.steps.Split.{IsSplit};
 
     ghost Value = { List ℕ };
 

@@ -3,8 +3,8 @@ ghost use Rattle.std.specs.Prelude.{◌≡◌, ◌≤◌, drop, length};
 ghost use Rattle.std.specs.List.{position};
 ghost use Rattle.std.specs.Str.Parse.{digits_value};
 ghost use Rattle.std.specs.Ordering.{nat_cmp};
-ghost use Rattle.deb_version.specs.Digits.{AreDigits, is_not_zero, leading_digits, after_digits, significant};
-ghost use Rattle.deb_version.specs.Front.{rank, front_rank};
+ghost use Rattle.deb_version.specs.steps.Digits.{AreDigits, is_not_zero, leading_digits, after_digits, significant};
+ghost use Rattle.deb_version.specs.steps.Front.{rank, front_rank};
 ghost use Rattle.deb_version.specs.Key.{is_non_digit, part_cmp};
 
 use std::cmp::Ordering;

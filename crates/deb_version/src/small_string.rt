@@ -2,7 +2,8 @@
 
 ghost use Rattle.std.specs.Prelude.{◌≡◌, ◌≤◌, length, IfOk, IsOk};
 ghost use Rattle.std.specs.String.{string_bytes};
-ghost use Rattle.deb_version.specs.SmallString.{bytes_of, IsText};
+ghost use Rattle.deb_version.specs.SmallString.{bytes_of};
+ghost use Rattle.deb_version.specs.steps.SmallString.{IsText};
 
 use std::alloc::{AllocError, Global};
 use std::marker::Model;
@@ -29,7 +30,8 @@ pub struct SmallString {
 
 impl Model for SmallString {
     ghost use Rattle.std.specs.Prelude.{List, ℕ};
-    ghost use Rattle.deb_version.specs.SmallString.{bytes_of, IsText};
+    ghost use Rattle.deb_version.specs.SmallString.{bytes_of};
+    ghost use Rattle.deb_version.specs.steps.SmallString.{IsText};
 
     ghost Value = { List ℕ };
 
@@ -76,7 +78,7 @@ impl SmallString {
     }
 
     /// The string as a slice.
-    #[tactic(auto, unfolding(crate::specs::SmallString::IsText))]
+    #[tactic(auto, unfolding(crate::specs::steps::SmallString::IsText))]
     pub fn as_str(&self) -> &str
         ensures { result.now ≡ self.now }
     {

@@ -3,9 +3,9 @@ ghost use Rattle.std.specs.Prelude.{◌≡◌, ◌==◌, ◌+◌, ◌*◌, ◌^�
 ghost use Rattle.std.specs.List.{position, list_any, list_all, before_last, after_last};
 ghost use Rattle.std.specs.Char.{is_ascii_digit, digit_value};
 ghost use Rattle.std.specs.Str.Parse.{digits_value};
-ghost use Rattle.deb_version.specs.Split.{IsSplit, revision_behind};
+ghost use Rattle.deb_version.specs.steps.Split.{IsSplit, revision_behind, first_fault, has_bad_epoch, has_bad_byte, upstream_in, revision_in};
 ghost use Rattle.deb_version.specs.Order.{version_cmp};
-ghost use Rattle.deb_version.specs.Text.{is_colon, is_hyphen, is_epoch, has_bad_epoch, has_bad_byte, epoch_of, after_epoch, upstream_of, revision_of, upstream_in, revision_in, is_upstream_byte, is_revision_byte, first_fault, version_fault, IsVersion};
+ghost use Rattle.deb_version.specs.Text.{is_colon, is_hyphen, is_epoch, epoch_of, after_epoch, upstream_of, revision_of, is_upstream_byte, is_revision_byte, version_fault, IsVersion};
 
 use super::faults::VersionFault;
 use super::parts::order_parts;
@@ -121,7 +121,7 @@ fn parts_at(rest: &[u8], upstream_len: usize) -> (&[u8], &[u8])
 }
 
 /// The fault of an upstream version and a revision.
-#[tactic(auto, unfolding(crate::specs::Text::first_fault))]
+#[tactic(auto, unfolding(crate::specs::steps::Split::first_fault))]
 fn parts_fault(upstream: &[u8], revision: &[u8]) -> Option<VersionFault>
     ensures { result ≡ first_fault false false false (length upstream.now == 0) (length revision.now == 0) (has_bad_byte upstream.now revision.now) }
 {

@@ -1,3 +1,3 @@
 pub mod Service
-pub mod Status
 pub mod Told
+pub mod steps

@@ -1,7 +1,7 @@
 //! Hints that are proposed for the next run, and notes on them.
 
 ghost use Rattle.std.specs.Prelude.{◌≡◌, length};
-ghost use Rattle.office_cli.specs.Told.{status_of_proposal};
+ghost use Rattle.office_cli.specs.steps.Told.{status_of_proposal};
 
 use crate::status::ExitStatus;
 use crate::telling::{print_text, refuse};

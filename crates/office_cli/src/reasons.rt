@@ -2,7 +2,7 @@
 //! is asked.
 
 ghost use Rattle.std.specs.Prelude.{◌≡◌, if◌then◌else◌, IfOk};
-ghost use Rattle.office_cli.specs.Told.{IsAsked};
+ghost use Rattle.office_cli.specs.steps.Told.{IsAsked};
 ghost use Rattle.office_core_facts.specs.State.{IsSound, state_of};
 
 use crate::status::ExitStatus;

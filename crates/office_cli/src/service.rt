@@ -3,7 +3,8 @@
 ghost use Rattle.std.specs.Prelude.{◌≡◌};
 ghost use Rattle.std.specs.IoError.{error_kind};
 ghost use Rattle.office_http_requests.specs.Routes.{office_routes};
-ghost use Rattle.office_cli.specs.Service.{fault_by, status_of_service};
+ghost use Rattle.office_cli.specs.Service.{status_of_service};
+ghost use Rattle.office_cli.specs.steps.Service.{fault_by};
 
 use crate::clients::serve_clients;
 use mio::net::TcpListener;

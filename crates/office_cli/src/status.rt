@@ -1,7 +1,7 @@
 //! The exit statuses of the program.
 
 ghost use Rattle.std.specs.Prelude.{◌≡◌};
-ghost use Rattle.office_cli.specs.Status.{code_of};
+ghost use Rattle.office_cli.specs.steps.Status.{code_of};
 
 /// How the program ends.
 #[derive(Clone, Copy, Debug, PartialEq, Eq)]

@@ -2,7 +2,8 @@
 //! waits for, the version.
 
 ghost use Rattle.std.specs.Prelude.{◌≡◌, IfOk};
-ghost use Rattle.office_cli.specs.Told.{IsReportText, status_of_awaited};
+ghost use Rattle.office_cli.specs.Told.{IsReportText};
+ghost use Rattle.office_cli.specs.steps.Told.{status_of_awaited};
 ghost use Rattle.office_core_facts.specs.State.{IsSound, state_of};
 
 use crate::status::ExitStatus;

@@ -13,7 +13,9 @@ use Rattle.clap.specs.Kinds.{Kinds, or_else}
 use Rattle.clap.specs.Simple.{App, Shape, argument_words, built, built_leaf, entered, inherited, label_of, names_of, rows_at, subcommand_of}
 use Rattle.clap.specs.Walk.{Names, Row, Text, Waiting, Walk, after_step, answers_to, finished, idle, nothing_held, option, positional, settled, stop_after, subcommand_met, subcommand_or_other, value, walk, walk_from, walked, walked_from}
 use Rattle.office_cli_words.specs.Program as program
-use Rattle.office_cli_words.specs.Asked.{Asked, ToCheck, ToExport, ToTellHints, ToTellRuns, ToTellVersion, asked_by, breaks_in, command_in, command_words_in, compare_in, if_faultless, lint_in, mail_in, order_in, propose_in, replay_in, report_in, serve_in, stored_in, try_in, waiting_in, why_in, words_in}
+use Rattle.office_cli_words.specs.steps.ProgramSteps as steps
+use Rattle.office_cli_words.specs.Asked.{Asked, ToCheck, ToExport, ToTellHints, ToTellRuns, ToTellVersion, command_in, command_words_in, compare_in, if_faultless, replay_in, serve_in, stored_in, words_in}
+use Rattle.office_cli_words.specs.steps.AskedSteps.{asked_by, breaks_in, lint_in, mail_in, order_in, propose_in, report_in, try_in, waiting_in, why_in}
 use Rattle.office_cli_words.specs.Laws.{OldWordsStay, old_words_in, one_of_three}
 use Rattle.office_cli_words.proofs.Walks.{never_none, no_kinds}
 
@@ -133,8 +135,8 @@ abbrev new_leaf : App → Shape
 new_leaf a = built_leaf (inherited three.top a.top)
 
 abbrev new_shapes : List Shape
-new_shapes = new_leaf program.waiting ∷ new_leaf program.report ∷ new_leaf program.runs ∷ new_leaf program.mail ∷ new_leaf program.export ∷ new_leaf program.check ∷ new_leaf program.why ∷ new_leaf program.tries
-    ∷ new_leaf program.lint ∷ new_leaf program.order ∷ new_leaf program.hints ∷ new_leaf program.propose ∷ new_leaf program.breaks ∷ []
+new_shapes = new_leaf steps.waiting ∷ new_leaf steps.report ∷ new_leaf (steps.looking (codes "runs")) ∷ new_leaf steps.mail ∷ new_leaf (steps.looking (codes "export")) ∷ new_leaf (steps.looking (codes "check")) ∷ new_leaf steps.why ∷ new_leaf steps.tries
+    ∷ new_leaf steps.lint ∷ new_leaf steps.order ∷ new_leaf (steps.looking (codes "hints")) ∷ new_leaf steps.propose ∷ new_leaf steps.breaks ∷ []
 
 abbrev plain_name : Text → Text × List Text
 plain_name name = (name, [])
@@ -248,7 +250,7 @@ command_same name rows ask is =
     go x y z rest false false false some = absurd (cc)
 
 command_stays : (words : List Text) (ask : Asked) → old_words_in words ≡ Some ask → command_words_in words ≡ Some ask
-unfolding program.of_three program.of_five program.of_nine program.of_eleven program.of_fifteen program.office command_words_in
+unfolding program.of_three program.office command_words_in
 command_stays words ask is =
     let parts = faultless_parts (fault_of program.of_three words) (option_and_then (λ found. one_of_three found.0 found.1) (subcommand_of program.of_three words)) ask is in
     let found = found_parts (subcommand_of program.of_three words) ask parts.1 in

@@ -6,7 +6,8 @@ use Rattle.clap.specs.declared.error.Error.{Error}
 use Rattle.clap.specs.declared.error.kind.ErrorKind.{ErrorKind}
 use Rattle.clap.specs.declared.error.kind.ErrorKind.TheVariants as kind
 use Rattle.office_cli_words.specs.Program.{office}
-use Rattle.office_cli_words.specs.Asked.{Asked, Gives, asked_by, command_words_in, if_faultless}
+use Rattle.office_cli_words.specs.Asked.{Asked, Gives, command_words_in, if_faultless}
+use Rattle.office_cli_words.specs.steps.AskedSteps.{asked_by}
 use Rattle.office_cli_words.specs.declared.WordsFault.{WordsFault}
 use Rattle.office_cli_words.specs.declared.WordsFault.TheVariants.{NoMemory, Usage}
 

@@ -7,11 +7,14 @@ use Rattle.clap.specs.Facts.{explicit_source}
 use Rattle.clap.specs.Takes.{is_given}
 use Rattle.clap.specs.declared.error.kind.ErrorKind.TheVariants as kind
 use Rattle.clap.specs.Faults.{built_fault, check_fault, defaults_fault, entered_fault, fault_of, level_fault, settle_fault, walk_fault}
+use Rattle.clap.specs.Words.{new_rule}
 use Rattle.clap.specs.Kinds.{check_kinds, or_else}
 use Rattle.clap.specs.Simple.{App, Shape, argument_words, built, built_leaf, entered, filled, help_rule, inherited, label_of, names_of, rows_at, subcommand_of, with_index}
 use Rattle.clap.specs.Walk.{Row, Rule, Text, all_of, answers_to, finished, first_of, has_row, nothing_held, rows_after, settled, stop_after, walk, walk_from, with_default}
 use Rattle.office_cli_words.specs.Program as program
-use Rattle.office_cli_words.specs.Asked.{Asked, ToCheck, ToExport, ToLint, ToPropose, ToReplay, ToTellBreaks, ToTellHints, ToTellMail, ToTellOrder, ToTellRuns, ToTellWaiting, ToTellWhy, ToTry, asked_by, command_in, compare_of, is_set, number_in, number_of, of_store, of_values, report_from, serve_of, stored_in}
+use Rattle.office_cli_words.specs.steps.ProgramSteps as steps
+use Rattle.office_cli_words.specs.Asked.{Asked, ToCheck, ToExport, ToLint, ToPropose, ToReplay, ToTellBreaks, ToTellHints, ToTellMail, ToTellOrder, ToTellRuns, ToTellWaiting, ToTellWhy, ToTry, command_in, compare_of, is_set, number_in, number_of, report_by, serve_of, stored_in}
+use Rattle.office_cli_words.specs.steps.AskedSteps.{asked_by}
 use Rattle.office_cli_words.proofs.Walks.{EachKeeps, never_none, no_kinds}
 use Rattle.office_cli_words.proofs.Values.{Good, HasFirst, fits, default_there, given_all, given_first, keeps_flag, keeps_help, keeps_value, keeps_values, level_leaves, no_default, numbers_accepted, row_first}
 
@@ -33,7 +36,7 @@ compare_read (Some v1) None v2 a b c = absurd b
 compare_read (Some v1) (Some op) None a b c = absurd c
 
 compare_reads : Reads (leaf program.compare)
-unfolding program.of_three program.of_five program.of_nine program.of_eleven program.of_fifteen program.office
+unfolding program.of_three program.office
 compare_reads words none =
     let rows = rows_after (leaf program.compare).rules [] words in
     let keeps : EachKeeps Good false (leaf program.compare).rules = (
@@ -55,7 +58,7 @@ replay_read (Some conf) rows a = refl
 replay_read None rows a = absurd a
 
 replay_reads : Reads (leaf program.replay)
-unfolding program.of_three program.of_five program.of_nine program.of_eleven program.of_fifteen program.office
+unfolding program.of_three program.office
 replay_reads words none =
     let rows = rows_after (leaf program.replay).rules [] words in
     let keeps : EachKeeps Good false (leaf program.replay).rules = (
@@ -72,35 +75,39 @@ waiting_read : (conf : Option Text) (rows : List Row) → HasFirst (codes "conf"
 waiting_read (Some conf) rows a = refl
 waiting_read None rows a = absurd a
 
-waiting_reads : Reads (leaf program.waiting)
-unfolding program.of_three program.of_five program.of_nine program.of_eleven program.of_fifteen program.office
+waiting_reads : Reads (leaf steps.waiting)
+unfolding program.of_three program.office
 waiting_reads words none =
-    let rows = rows_after (leaf program.waiting).rules [] words in
-    let keeps : EachKeeps Good false (leaf program.waiting).rules = (
+    let rows = rows_after (leaf steps.waiting).rules [] words in
+    let keeps : EachKeeps Good false (leaf steps.waiting).rules = (
       keeps_value false (ready 1 program.conf) refl refl refl (λ values fine. refl),
       (
         keeps_value false (ready 1 program.db) refl refl refl (λ values fine. refl),
         (keeps_help false (ready 1 help_rule) refl, tt),
       ),
     ) in
-    let left = level_leaves (leaf program.waiting) words keeps (refl, (refl, (refl, tt))) none in
+    let left = level_leaves (leaf steps.waiting) words keeps (refl, (refl, (refl, tt))) none in
     waiting_read (first_of (codes "conf") rows) rows (given_first (codes "conf") rows left.0 (left.1.0 refl))
 
-report_read : (conf db run word : Option Text) → HasFirst (codes "conf") conf → HasFirst (codes "db") db → HasFirst (codes "RUN") run
-    → is_some (report_from conf db run word) ≡ true
-report_read (Some conf) (Some db) (Some run) word a b c = refl
-report_read None db run word a b c = absurd a
-report_read (Some conf) None run word a b c = absurd b
-report_read (Some conf) (Some db) None word a b c = absurd c
+store_read : (ask : Text → Text → Asked) (conf db : Option Text) → HasFirst (codes "conf") conf → HasFirst (codes "db") db
+    → is_some (option_and_then (λ (f : Text). option_map (ask f) db) conf) ≡ true
+store_read ask (Some conf) (Some db) a b = refl
+store_read ask None db a b = absurd a
+store_read ask (Some conf) None a b = absurd b
 
-report_reads : Reads (leaf program.report)
-unfolding program.of_three program.of_five program.of_nine program.of_eleven program.of_fifteen program.office
+report_read : (conf db run word : Option Text) → HasFirst (codes "conf") conf → HasFirst (codes "db") db → HasFirst (codes "RUN") run
+    → is_some (option_and_then (λ (r : Text). option_and_then (λ (f : Text). option_map (report_by r word f) db) conf) run) ≡ true
+report_read conf db (Some run) word a b c = store_read (report_by run word) conf db a b
+report_read conf db None word a b c = absurd c
+
+report_reads : Reads (leaf steps.report)
+unfolding program.of_three program.office
 report_reads words none =
-    let rows = rows_after (leaf program.report).rules [] words in
-    let keeps : EachKeeps Good false (leaf program.report).rules = (
+    let rows = rows_after (leaf steps.report).rules [] words in
+    let keeps : EachKeeps Good false (leaf steps.report).rules = (
       keeps_value false (ready 1 (program.place (codes "RUN"))) refl refl refl (λ values fine. refl),
       (
-        keeps_value false (ready 2 program.told) refl refl refl (λ values fine. refl),
+        keeps_value false (ready 2 (new_rule (codes "REPORT"))) refl refl refl (λ values fine. refl),
         (
           keeps_value false (ready 3 program.conf) refl refl refl (λ values fine. refl),
           (
@@ -110,73 +117,68 @@ report_reads words none =
         ),
       ),
     ) in
-    let left = level_leaves (leaf program.report) words keeps (refl, (refl, (refl, (refl, (refl, tt))))) none in
+    let left = level_leaves (leaf steps.report) words keeps (refl, (refl, (refl, (refl, (refl, tt))))) none in
     report_read (first_of (codes "conf") rows) (first_of (codes "db") rows) (first_of (codes "RUN") rows) (first_of (codes "REPORT") rows)
     (given_first (codes "conf") rows left.0 (left.1.1.1.0 refl)) (given_first (codes "db") rows left.0 (left.1.1.1.1.0 refl)) (given_first (codes "RUN") rows left.0 (left.1.0 refl))
 
-store_read : (ask : Text → Text → Asked) (conf db : Option Text) → HasFirst (codes "conf") conf → HasFirst (codes "db") db → is_some (of_store ask conf db) ≡ true
-store_read ask (Some conf) (Some db) a b = refl
-store_read ask None db a b = absurd a
-store_read ask (Some conf) None a b = absurd b
-
 -- a command that takes a setup and a store, whatever its name
-looking_reads : (name : Text) (ask : Text → Text → Asked) (words : List Text) → level_fault (leaf (program.looking name)) [] nothing_held words false [] ≡ []
-    → is_some (stored_in ask (rows_after (leaf (program.looking name)).rules [] words)) ≡ true
-unfolding program.of_three program.of_five program.of_nine program.of_eleven program.of_fifteen program.office
+looking_reads : (name : Text) (ask : Text → Text → Asked) (words : List Text) → level_fault (leaf (steps.looking name)) [] nothing_held words false [] ≡ []
+    → is_some (stored_in ask (rows_after (leaf (steps.looking name)).rules [] words)) ≡ true
+unfolding program.of_three program.office
 looking_reads name ask words none =
-    let rows = rows_after (leaf (program.looking name)).rules [] words in
-    let keeps : EachKeeps Good false (leaf (program.looking name)).rules = (
+    let rows = rows_after (leaf (steps.looking name)).rules [] words in
+    let keeps : EachKeeps Good false (leaf (steps.looking name)).rules = (
       keeps_value false (ready 1 program.conf) refl refl refl (λ values fine. refl),
       (
         keeps_value false (ready 1 program.stored) refl refl refl (λ values fine. refl),
         (keeps_help false (ready 1 help_rule) refl, tt),
       ),
     ) in
-    let left = level_leaves (leaf (program.looking name)) words keeps (refl, (refl, (refl, tt))) none in
+    let left = level_leaves (leaf (steps.looking name)) words keeps (refl, (refl, (refl, tt))) none in
     store_read ask (first_of (codes "conf") rows) (first_of (codes "db") rows) (given_first (codes "conf") rows left.0 (left.1.0 refl)) (given_first (codes "db") rows left.0 (left.1.1.0 refl))
 
-runs_reads : Reads (leaf program.runs)
-unfolding program.of_three program.of_five program.of_nine program.of_eleven program.of_fifteen program.office
+runs_reads : Reads (leaf (steps.looking (codes "runs")))
+unfolding program.of_three program.office
 runs_reads words none = looking_reads (codes "runs") ToTellRuns words none
 
-export_reads : Reads (leaf program.export)
-unfolding program.of_three program.of_five program.of_nine program.of_eleven program.of_fifteen program.office
+export_reads : Reads (leaf (steps.looking (codes "export")))
+unfolding program.of_three program.office
 export_reads words none = looking_reads (codes "export") ToExport words none
 
-check_reads : Reads (leaf program.check)
-unfolding program.of_three program.of_five program.of_nine program.of_eleven program.of_fifteen program.office
+check_reads : Reads (leaf (steps.looking (codes "check")))
+unfolding program.of_three program.office
 check_reads words none = looking_reads (codes "check") ToCheck words none
 
-mail_reads : Reads (leaf program.mail)
-unfolding program.of_three program.of_five program.of_nine program.of_eleven program.of_fifteen program.office
+mail_reads : Reads (leaf steps.mail)
+unfolding program.of_three program.office
 mail_reads words none =
-    let rows = rows_after (leaf program.mail).rules [] words in
-    let keeps : EachKeeps Good false (leaf program.mail).rules = (
+    let rows = rows_after (leaf steps.mail).rules [] words in
+    let keeps : EachKeeps Good false (leaf steps.mail).rules = (
       keeps_value false (ready 1 program.conf) refl refl refl (λ values fine. refl),
       (
         keeps_value false (ready 1 program.stored) refl refl refl (λ values fine. refl),
         (
-          keeps_flag false (ready 1 program.listed) (codes "true") [] refl refl (λ values. refl),
+          keeps_flag false (ready 1 (program.flag (codes "list"))) (codes "true") [] refl refl (λ values. refl),
           (keeps_help false (ready 1 help_rule) refl, tt),
         ),
       ),
     ) in
-    let left = level_leaves (leaf program.mail) words keeps (refl, (refl, (refl, (refl, tt)))) none in
+    let left = level_leaves (leaf steps.mail) words keeps (refl, (refl, (refl, (refl, tt)))) none in
     store_read (ToTellMail (is_set (codes "list") rows)) (first_of (codes "conf") rows) (first_of (codes "db") rows)
     (given_first (codes "conf") rows left.0 (left.1.0 refl)) (given_first (codes "db") rows left.0 (left.1.1.0 refl))
 
-values_read : (ask : Text → List Text → Asked) (conf : Option Text) (values : Option (List Text)) → HasFirst (codes "conf") conf → is_some values ≡ true → is_some (of_values ask conf values) ≡ true
+values_read : (ask : Text → List Text → Asked) (conf : Option Text) (values : Option (List Text)) → HasFirst (codes "conf") conf → is_some values ≡ true → is_some (option_and_then (λ (f : Text). option_map (ask f) values) conf) ≡ true
 values_read ask (Some conf) (Some values) a b = refl
 values_read ask None values a b = absurd a
 values_read ask (Some conf) None a b = absurd (cc)
 
-why_reads : Reads (leaf program.why)
-unfolding program.of_three program.of_five program.of_nine program.of_eleven program.of_fifteen program.office
+why_reads : Reads (leaf steps.why)
+unfolding program.of_three program.office
 why_reads words none =
-    let rows = rows_after (leaf program.why).rules [] words in
+    let rows = rows_after (leaf steps.why).rules [] words in
     let run_rule = ready 2 program.run in
-    let keeps : EachKeeps Good false (leaf program.why).rules = (
-      keeps_values false (ready 1 (program.places (codes "SOURCE"))) refl refl refl (λ values fine. refl),
+    let keeps : EachKeeps Good false (leaf steps.why).rules = (
+      keeps_values false (ready 1 (program.several (program.place (codes "SOURCE")))) refl refl refl (λ values fine. refl),
       (
         keeps_value false (ready 2 program.conf) refl refl refl (λ values fine. refl),
         (
@@ -184,38 +186,38 @@ why_reads words none =
           (
             keeps_value false run_rule refl refl refl (λ values fine. numbers_accepted run_rule 1 999_999_999 values (omega arith) refl fine),
             (
-              keeps_flag false (ready 2 program.hinted) (codes "true") [] refl refl (λ values. refl),
+              keeps_flag false (ready 2 (program.flag (codes "hint"))) (codes "true") [] refl refl (λ values. refl),
               (keeps_help false (ready 2 help_rule) refl, tt),
             ),
           ),
         ),
       ),
     ) in
-    let left = level_leaves (leaf program.why) words keeps (refl, (refl, (refl, (refl, (refl, (refl, tt)))))) none in
+    let left = level_leaves (leaf steps.why) words keeps (refl, (refl, (refl, (refl, (refl, (refl, tt)))))) none in
     values_read (λ conf sources. ToTellWhy (is_set (codes "hint") rows) conf (first_of (codes "db") rows) (number_of (codes "run") rows) sources) (first_of (codes "conf") rows) (all_of (codes "SOURCE") rows)
     (given_first (codes "conf") rows left.0 (left.1.1.0 refl)) (given_all (codes "SOURCE") rows (left.1.0 refl))
 
-try_reads : Reads (leaf program.tries)
-unfolding program.of_three program.of_five program.of_nine program.of_eleven program.of_fifteen program.office
+try_reads : Reads (leaf steps.tries)
+unfolding program.of_three program.office
 try_reads words none =
-    let rows = rows_after (leaf program.tries).rules [] words in
-    let keeps : EachKeeps Good false (leaf program.tries).rules = (
-      keeps_values false (ready 1 (program.places (codes "HINT"))) refl refl refl (λ values fine. refl),
+    let rows = rows_after (leaf steps.tries).rules [] words in
+    let keeps : EachKeeps Good false (leaf steps.tries).rules = (
+      keeps_values false (ready 1 (program.several (program.place (codes "HINT")))) refl refl refl (λ values fine. refl),
       (
         keeps_value false (ready 2 program.conf) refl refl refl (λ values fine. refl),
         (
           keeps_value false (ready 2 program.db) refl refl refl (λ values fine. refl),
           (
-            keeps_value false (ready 2 program.day) refl refl refl (λ values fine. refl),
+            keeps_value false (ready 2 (program.option (codes "day"))) refl refl refl (λ values fine. refl),
             (
-              keeps_flag false (ready 2 program.all) (codes "true") [] refl refl (λ values. refl),
+              keeps_flag false (ready 2 (program.flag (codes "all"))) (codes "true") [] refl refl (λ values. refl),
               (keeps_help false (ready 2 help_rule) refl, tt),
             ),
           ),
         ),
       ),
     ) in
-    let left = level_leaves (leaf program.tries) words keeps (refl, (refl, (refl, (refl, (refl, (refl, tt)))))) none in
+    let left = level_leaves (leaf steps.tries) words keeps (refl, (refl, (refl, (refl, (refl, (refl, tt)))))) none in
     values_read (λ conf hints. ToTry (is_set (codes "all") rows) conf (first_of (codes "db") rows) (first_of (codes "day") rows) hints) (first_of (codes "conf") rows) (all_of (codes "HINT") rows)
     (given_first (codes "conf") rows left.0 (left.1.1.0 refl)) (given_all (codes "HINT") rows (left.1.0 refl))
 
@@ -223,28 +225,28 @@ lint_read : (conf : Option Text) → HasFirst (codes "conf") conf → is_some (o
 lint_read (Some conf) a = refl
 lint_read None a = absurd a
 
-lint_reads : Reads (leaf program.lint)
-unfolding program.of_three program.of_five program.of_nine program.of_eleven program.of_fifteen program.office
+lint_reads : Reads (leaf steps.lint)
+unfolding program.of_three program.office
 lint_reads words none =
-    let rows = rows_after (leaf program.lint).rules [] words in
-    let keeps : EachKeeps Good false (leaf program.lint).rules = (
+    let rows = rows_after (leaf steps.lint).rules [] words in
+    let keeps : EachKeeps Good false (leaf steps.lint).rules = (
       keeps_value false (ready 1 program.conf) refl refl refl (λ values fine. refl),
       (keeps_help false (ready 1 help_rule) refl, tt),
     ) in
-    let left = level_leaves (leaf program.lint) words keeps (refl, (refl, tt)) none in
+    let left = level_leaves (leaf steps.lint) words keeps (refl, (refl, tt)) none in
     lint_read (first_of (codes "conf") rows) (given_first (codes "conf") rows left.0 (left.1.0 refl))
 
 order_read : (day conf db : Option Text) → HasFirst (codes "day") day → HasFirst (codes "conf") conf → HasFirst (codes "db") db
-    → is_some (option_and_then (λ (day : Text). of_store (ToTellOrder day) conf db) day) ≡ true
+    → is_some (option_and_then (λ (d : Text). option_and_then (λ (f : Text). option_map (ToTellOrder d f) db) conf) day) ≡ true
 order_read (Some day) conf db a b c = store_read (ToTellOrder day) conf db b c
 order_read None conf db a b c = absurd a
 
-order_reads : Reads (leaf program.order)
-unfolding program.of_three program.of_five program.of_nine program.of_eleven program.of_fifteen program.office
+order_reads : Reads (leaf steps.order)
+unfolding program.of_three program.office
 order_reads words none =
-    let rows = rows_after (leaf program.order).rules [] words in
-    let keeps : EachKeeps Good false (leaf program.order).rules = (
-      keeps_value false (ready 1 program.dated) refl refl refl (λ values fine. refl),
+    let rows = rows_after (leaf steps.order).rules [] words in
+    let keeps : EachKeeps Good false (leaf steps.order).rules = (
+      keeps_value false (ready 1 (program.needed (codes "day"))) refl refl refl (λ values fine. refl),
       (
         keeps_value false (ready 1 program.conf) refl refl refl (λ values fine. refl),
         (
@@ -253,12 +255,12 @@ order_reads words none =
         ),
       ),
     ) in
-    let left = level_leaves (leaf program.order) words keeps (refl, (refl, (refl, (refl, tt)))) none in
+    let left = level_leaves (leaf steps.order) words keeps (refl, (refl, (refl, (refl, tt)))) none in
     order_read (first_of (codes "day") rows) (first_of (codes "conf") rows) (first_of (codes "db") rows)
     (given_first (codes "day") rows left.0 (left.1.0 refl)) (given_first (codes "conf") rows left.0 (left.1.1.0 refl)) (given_first (codes "db") rows left.0 (left.1.1.1.0 refl))
 
-hints_reads : Reads (leaf program.hints)
-unfolding program.of_three program.of_five program.of_nine program.of_eleven program.of_fifteen program.office
+hints_reads : Reads (leaf (steps.looking (codes "hints")))
+unfolding program.of_three program.office
 hints_reads words none = looking_reads (codes "hints") ToTellHints words none
 
 propose_read : (conf : Option Text) (rows : List Row) → HasFirst (codes "conf") conf
@@ -266,36 +268,36 @@ propose_read : (conf : Option Text) (rows : List Row) → HasFirst (codes "conf"
 propose_read (Some conf) rows a = refl
 propose_read None rows a = absurd a
 
-propose_reads : Reads (leaf program.propose)
-unfolding program.of_three program.of_five program.of_nine program.of_eleven program.of_fifteen program.office
+propose_reads : Reads (leaf steps.propose)
+unfolding program.of_three program.office
 propose_reads words none =
-    let rows = rows_after (leaf program.propose).rules [] words in
-    let keeps : EachKeeps Good false (leaf program.propose).rules = (
-      keeps_values false (ready 1 program.sources) refl refl refl (λ values fine. refl),
+    let rows = rows_after (leaf steps.propose).rules [] words in
+    let keeps : EachKeeps Good false (leaf steps.propose).rules = (
+      keeps_values false (ready 1 (program.several (new_rule (codes "SOURCE")))) refl refl refl (λ values fine. refl),
       (
         keeps_value false (ready 2 program.conf) refl refl refl (λ values fine. refl),
         (
           keeps_value false (ready 2 program.db) refl refl refl (λ values fine. refl),
           (
-            keeps_value false (ready 2 program.day) refl refl refl (λ values fine. refl),
+            keeps_value false (ready 2 (program.option (codes "day"))) refl refl refl (λ values fine. refl),
             (
-              keeps_flag false (ready 2 program.all) (codes "true") [] refl refl (λ values. refl),
+              keeps_flag false (ready 2 (program.flag (codes "all"))) (codes "true") [] refl refl (λ values. refl),
               (keeps_help false (ready 2 help_rule) refl, tt),
             ),
           ),
         ),
       ),
     ) in
-    let left = level_leaves (leaf program.propose) words keeps (refl, (refl, (refl, (refl, (refl, (refl, tt)))))) none in
+    let left = level_leaves (leaf steps.propose) words keeps (refl, (refl, (refl, (refl, (refl, (refl, tt)))))) none in
     propose_read (first_of (codes "conf") rows) rows (given_first (codes "conf") rows left.0 (left.1.1.0 refl))
 
-breaks_reads : Reads (leaf program.breaks)
-unfolding program.of_three program.of_five program.of_nine program.of_eleven program.of_fifteen program.office
+breaks_reads : Reads (leaf steps.breaks)
+unfolding program.of_three program.office
 breaks_reads words none =
-    let rows = rows_after (leaf program.breaks).rules [] words in
+    let rows = rows_after (leaf steps.breaks).rules [] words in
     let run_rule = ready 2 program.run in
-    let keeps : EachKeeps Good false (leaf program.breaks).rules = (
-      keeps_values false (ready 1 (program.places (codes "CHANGE"))) refl refl refl (λ values fine. refl),
+    let keeps : EachKeeps Good false (leaf steps.breaks).rules = (
+      keeps_values false (ready 1 (program.several (program.place (codes "CHANGE")))) refl refl refl (λ values fine. refl),
       (
         keeps_value false (ready 2 program.conf) refl refl refl (λ values fine. refl),
         (
@@ -307,7 +309,7 @@ breaks_reads words none =
         ),
       ),
     ) in
-    let left = level_leaves (leaf program.breaks) words keeps (refl, (refl, (refl, (refl, (refl, tt))))) none in
+    let left = level_leaves (leaf steps.breaks) words keeps (refl, (refl, (refl, (refl, (refl, tt))))) none in
     values_read (λ conf changes. ToTellBreaks conf (first_of (codes "db") rows) (number_of (codes "run") rows) changes) (first_of (codes "conf") rows) (all_of (codes "CHANGE") rows)
     (given_first (codes "conf") rows left.0 (left.1.1.0 refl)) (given_all (codes "CHANGE") rows (left.1.0 refl))
 
@@ -332,7 +334,7 @@ reads_one true h = refl
 reads_one false h = h
 
 serve_reads : Reads (leaf program.serve)
-unfolding program.of_three program.of_five program.of_nine program.of_eleven program.of_fifteen program.office
+unfolding program.of_three program.office
 serve_reads words none =
     let rows = rows_after (leaf program.serve).rules [] words in
     let port_rule = ready 1 program.port in
@@ -346,7 +348,7 @@ serve_reads words none =
           (
             keeps_value false connections_rule refl refl refl (λ values fine. numbers_accepted connections_rule 0 1_000_000 values (omega arith) refl fine),
             (
-              keeps_values false (ready 1 program.host) refl refl refl (λ values fine. refl),
+              keeps_values false (ready 1 (program.several (program.option (codes "host")))) refl refl refl (λ values fine. refl),
               (keeps_help false (ready 1 help_rule) refl, tt),
             ),
           ),
@@ -359,9 +361,9 @@ serve_reads words none =
     let settled_first = (settled (leaf program.serve).rules (walk (leaf program.serve).rules [] nothing_held words).held).rows in
     let before = with_default (with_default (with_default settled_first (ready 1 program.conf)) port_rule) (ready 1 program.db) in
     let after = with_default before connections_rule in
-    let hosted : with_default after (ready 1 program.host) ≡ after = no_default after (ready 1 program.host) refl in
-    let there : has_row (codes "connections") (with_default (with_default after (ready 1 program.host)) (ready 1 help_rule)) ≡ true =
-    subst (λ (r : List Row). has_row (codes "connections") r ≡ true) (sym (no_default (with_default after (ready 1 program.host)) (ready 1 help_rule) refl ∙ hosted))
+    let hosted : with_default after (ready 1 (program.several (program.option (codes "host")))) ≡ after = no_default after (ready 1 (program.several (program.option (codes "host")))) refl in
+    let there : has_row (codes "connections") (with_default (with_default after (ready 1 (program.several (program.option (codes "host"))))) (ready 1 help_rule)) ≡ true =
+    subst (λ (r : List Row). has_row (codes "connections") r ≡ true) (sym (no_default (with_default after (ready 1 (program.several (program.option (codes "host"))))) (ready 1 help_rule) refl ∙ hosted))
     (default_there before connections_rule (codes "1000000") refl) in
     let connections = number_there (codes "connections") (first_of (codes "connections") rows) (λ v h. reads_one (is_some (number_in v)) h) (row_first (codes "connections") rows left.0 there) in
     serve_some (first_of (codes "conf") rows) (option_and_then number_in (first_of (codes "port") rows)) (first_of (codes "db") rows) (option_and_then number_in (first_of (codes "connections") rows))
@@ -420,6 +422,6 @@ command_reads a words required each none =
 
 -- words in which clap finds no fault ask for something
 pub taken_words_ask : (words : List Text) → fault_of program.office words ≡ [] → is_some (asked_by (subcommand_of program.office words)) ≡ true
-unfolding program.of_three program.of_five program.of_nine program.of_eleven program.of_fifteen program.office
+unfolding program.of_three program.office
 taken_words_ask words none =
     command_reads (built program.office) (argument_words program.office words) refl (compare_reads, (replay_reads, (serve_reads, (waiting_reads, (report_reads, (runs_reads, (mail_reads, (export_reads, (check_reads, (why_reads, (try_reads, (lint_reads, (order_reads, (hints_reads, (propose_reads, (breaks_reads, tt)))))))))))))))) none

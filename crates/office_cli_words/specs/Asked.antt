@@ -11,7 +11,7 @@ use Rattle.office_cli_words.specs.Program.{office}
 use Rattle.office_cli_words.specs.declared.Words.{Words}
 use Rattle.office_cli_words.specs.declared.WordsFault.{WordsFault}
 use Rattle.office_cli_words.specs.declared.WordsFault.TheVariants.{NoMemory, Usage}
-use Rattle.office_cli_words.specs.declared.Words.TheVariants.{Compare, Replay, Serve, Waiting, Report, UnknownReport, Runs, Mail, Export, Check, Why, Try, Lint, Order, Hints, Propose, Breaks, Version}
+use Rattle.office_cli_words.specs.declared.Words.TheVariants.{Compare, Replay, Serve, Waiting, Report, UnknownReport, Runs, Mail, Export, Check, Why, Try, Lint, Order, Hints, Propose, Breaks}
 use Rattle.office_cli_words.specs.declared.reports.Report.{Report as ReportName}
 use Rattle.office_cli_words.specs.declared.reports.Report.TheVariants.{Testing, Unstable, Excuses, Update}
 
@@ -100,7 +100,23 @@ abbrev pub report_of : Text → Option Text → Option ReportName
 report_of word None = report_alone word
 report_of run (Some word) = option_and_then (run_report word) (run_in run)
 
--- what was given to each command
+-- what is asked for the setup in a file
+abbrev pub for_setup : (Text → Asked) → List Row → Option Asked
+for_setup ask rows = option_map ask (first_of (codes "conf") rows)
+
+-- what is asked of the store in a file, for the setup in another
+abbrev pub stored_in : (Text → Text → Asked) → List Row → Option Asked
+stored_in ask rows = option_and_then (λ (conf : Text). option_map (ask conf) (first_of (codes "db") rows)) (first_of (codes "conf") rows)
+
+-- what is asked of the values under a name, for the setup in a file
+abbrev pub of_values : (Text → List Text → Asked) → Text → List Row → Option Asked
+of_values ask id rows = option_and_then (λ (conf : Text). option_map (ask conf) (all_of id rows)) (first_of (codes "conf") rows)
+
+-- whether a flag is set
+abbrev pub is_set : Text → List Row → Bool
+is_set id rows = option_map_or (λ value. bytes_eq value (codes "true")) (first_of id rows) false
+
+-- what was given to each of the first three commands
 abbrev pub compare_of : Option Text → Option Text → Option Text → Option Asked
 compare_of (Some v1) (Some op) (Some v2) = Some (ToCompare v1 op v2)
 compare_of _ _ _ = None
@@ -113,89 +129,36 @@ abbrev pub compare_in : List Row → Option Asked
 compare_in rows = compare_of (first_of (codes "V1") rows) (first_of (codes "OP") rows) (first_of (codes "V2") rows)
 
 abbrev pub replay_in : List Row → Option Asked
-replay_in rows = option_map (λ conf. ToReplay conf (first_of (codes "db") rows)) (first_of (codes "conf") rows)
+replay_in rows = for_setup (λ conf. ToReplay conf (first_of (codes "db") rows)) rows
 
 abbrev pub serve_in : List Row → Option Asked
 serve_in rows =
     serve_of (first_of (codes "conf") rows) (number_of (codes "port") rows) (first_of (codes "db") rows) (number_of (codes "connections") rows) (unwrap_or (all_of (codes "host") rows) [])
 
-abbrev pub waiting_in : List Row → Option Asked
-waiting_in rows = option_map (λ conf. ToTellWaiting conf (first_of (codes "db") rows)) (first_of (codes "conf") rows)
+-- the report that two words name, or the refusal of the words
+abbrev pub report_by : Text → Option Text → Text → Text → Asked
+report_by run word conf db = option_map_or (ToReport conf db) (report_of run word) (ToRefuseReport run word)
 
-abbrev pub asked_report : Text → Text → Text → Option Text → Option ReportName → Asked
-asked_report conf db run word (Some report) = ToReport conf db report
-asked_report conf db run word None = ToRefuseReport run word
-
-abbrev pub report_from : Option Text → Option Text → Option Text → Option Text → Option Asked
-report_from (Some conf) (Some db) (Some run) word = Some (asked_report conf db run word (report_of run word))
-report_from _ _ _ _ = None
-
-abbrev pub report_in : List Row → Option Asked
-report_in rows = report_from (first_of (codes "conf") rows) (first_of (codes "db") rows) (first_of (codes "RUN") rows) (first_of (codes "REPORT") rows)
-
--- what is asked of the store in a file, for the setup in another
-abbrev pub of_store : (Text → Text → Asked) → Option Text → Option Text → Option Asked
-of_store ask (Some conf) (Some db) = Some (ask conf db)
-of_store ask _ _ = None
-
-abbrev pub stored_in : (Text → Text → Asked) → List Row → Option Asked
-stored_in ask rows = of_store ask (first_of (codes "conf") rows) (first_of (codes "db") rows)
-
--- whether a flag is set
-abbrev pub is_set : Text → List Row → Bool
-is_set id rows = option_map_or (λ value. bytes_eq value (codes "true")) (first_of id rows) false
-
-abbrev pub mail_in : List Row → Option Asked
-mail_in rows = stored_in (ToTellMail (is_set (codes "list") rows)) rows
-
--- what is asked of some values, for the setup in a file
-abbrev pub of_values : (Text → List Text → Asked) → Option Text → Option (List Text) → Option Asked
-of_values ask (Some conf) (Some values) = Some (ask conf values)
-of_values ask _ _ = None
-
-abbrev pub why_in : List Row → Option Asked
-why_in rows = of_values (λ conf sources. ToTellWhy (is_set (codes "hint") rows) conf (first_of (codes "db") rows) (number_of (codes "run") rows) sources) (first_of (codes "conf") rows) (all_of (codes "SOURCE") rows)
-
-abbrev pub try_in : List Row → Option Asked
-try_in rows = of_values (λ conf hints. ToTry (is_set (codes "all") rows) conf (first_of (codes "db") rows) (first_of (codes "day") rows) hints) (first_of (codes "conf") rows) (all_of (codes "HINT") rows)
-
-abbrev pub lint_in : List Row → Option Asked
-lint_in rows = option_map ToLint (first_of (codes "conf") rows)
-
-abbrev pub order_in : List Row → Option Asked
-order_in rows = option_and_then (λ (day : Text). stored_in (ToTellOrder day) rows) (first_of (codes "day") rows)
-
-abbrev pub propose_in : List Row → Option Asked
-propose_in rows =
-    option_map (λ (conf : Text). ToPropose (is_set (codes "all") rows) conf (first_of (codes "db") rows) (first_of (codes "day") rows) (unwrap_or (all_of (codes "SOURCE") rows) []))
-    (first_of (codes "conf") rows)
-
-abbrev pub breaks_in : List Row → Option Asked
-breaks_in rows = of_values (λ conf changes. ToTellBreaks conf (first_of (codes "db") rows) (number_of (codes "run") rows) changes) (first_of (codes "conf") rows) (all_of (codes "CHANGE") rows)
-
+-- what each command asks for, by what it is given
 abbrev pub command_in : Text → List Row → Option Asked
 command_in name rows =
     if bytes_eq name (codes "compare") then compare_in rows
     else if bytes_eq name (codes "replay") then replay_in rows
     else if bytes_eq name (codes "serve") then serve_in rows
-    else if bytes_eq name (codes "waiting") then waiting_in rows
-    else if bytes_eq name (codes "report") then report_in rows
+    else if bytes_eq name (codes "waiting") then for_setup (λ conf. ToTellWaiting conf (first_of (codes "db") rows)) rows
+    else if bytes_eq name (codes "report") then option_and_then (λ (run : Text). stored_in (report_by run (first_of (codes "REPORT") rows)) rows) (first_of (codes "RUN") rows)
     else if bytes_eq name (codes "runs") then stored_in ToTellRuns rows
-    else if bytes_eq name (codes "mail") then mail_in rows
+    else if bytes_eq name (codes "mail") then stored_in (ToTellMail (is_set (codes "list") rows)) rows
     else if bytes_eq name (codes "export") then stored_in ToExport rows
     else if bytes_eq name (codes "check") then stored_in ToCheck rows
-    else if bytes_eq name (codes "why") then why_in rows
-    else if bytes_eq name (codes "try") then try_in rows
-    else if bytes_eq name (codes "lint") then lint_in rows
-    else if bytes_eq name (codes "order") then order_in rows
+    else if bytes_eq name (codes "why") then of_values (λ conf. ToTellWhy (is_set (codes "hint") rows) conf (first_of (codes "db") rows) (number_of (codes "run") rows)) (codes "SOURCE") rows
+    else if bytes_eq name (codes "try") then of_values (λ conf. ToTry (is_set (codes "all") rows) conf (first_of (codes "db") rows) (first_of (codes "day") rows)) (codes "HINT") rows
+    else if bytes_eq name (codes "lint") then for_setup ToLint rows
+    else if bytes_eq name (codes "order") then option_and_then (λ (day : Text). stored_in (ToTellOrder day) rows) (first_of (codes "day") rows)
     else if bytes_eq name (codes "hints") then stored_in ToTellHints rows
-    else if bytes_eq name (codes "propose") then propose_in rows
-    else if bytes_eq name (codes "breaks") then breaks_in rows
+    else if bytes_eq name (codes "propose") then for_setup (λ conf. ToPropose (is_set (codes "all") rows) conf (first_of (codes "db") rows) (first_of (codes "day") rows) (unwrap_or (all_of (codes "SOURCE") rows) [])) rows
+    else if bytes_eq name (codes "breaks") then of_values (λ conf. ToTellBreaks conf (first_of (codes "db") rows) (number_of (codes "run") rows)) (codes "CHANGE") rows
     else None
-
--- by the command that the words name and what they give it
-abbrev pub asked_by : Option (Text × List Row) → Option Asked
-asked_by entered = option_and_then (λ found. command_in found.0 found.1) entered
 
 -- what clap makes of words counts if it finds no fault in them
 abbrev pub if_faultless : Kinds → Option Asked → Option Asked
@@ -204,7 +167,7 @@ if_faultless (kind ∷ more) found = None
 
 -- what words ask for as clap's definition reads them in the program's command
 unfoldable pub command_words_in : List Text → Option Asked
-command_words_in words = if_faultless (fault_of office words) (asked_by (subcommand_of office words))
+command_words_in words = if_faultless (fault_of office words) (option_and_then (λ found. command_in found.0 found.1) (subcommand_of office words))
 
 -- the one word `--version`, after the program's name
 abbrev pub asks_version : List Text → Bool

@@ -28,19 +28,15 @@ holds_at Same order = is_eq order
 holds_at AtLeast order = is_ge order
 holds_at Above order = is_gt order
 
--- whether a comparison holds for two compared texts, or which of them is no version
-abbrev pub judged : Comparison → Result Ordering CompareFault → Result Bool Refusal
-judged comparison (Ok order) = Ok (holds_at comparison order)
-judged comparison (Err fault) = Err (Version fault)
-
--- for a known comparison
-abbrev pub known : Option Comparison → Result Ordering CompareFault → Result Bool Refusal
-known None compared = Err UnknownComparison
-known (Some comparison) compared = judged comparison compared
+-- whether a comparison, if it is known, holds for two compared texts, or which of them is no version
+abbrev pub judged : Option Comparison → Result Ordering CompareFault → Result Bool Refusal
+judged None compared = Err UnknownComparison
+judged (Some comparison) (Ok order) = Ok (holds_at comparison order)
+judged (Some comparison) (Err fault) = Err (Version fault)
 
 -- the answer to V1 OP V2: an unknown OP is refused before V1, and V1 before V2
 abbrev pub answer : List ℕ → List ℕ → List ℕ → Result Bool Refusal
-answer v1 op v2 = known (comparison_of op) (text_cmp v1 v2)
+answer v1 op v2 = judged (comparison_of op) (text_cmp v1 v2)
 
 -- the exit status for an answer
 abbrev pub status_of : Result Bool Refusal → ℕ

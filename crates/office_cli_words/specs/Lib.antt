@@ -3,3 +3,4 @@ pub mod Asked
 pub mod Compare
 pub mod Laws
 pub mod Program
+pub mod steps

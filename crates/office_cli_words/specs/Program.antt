@@ -1,5 +1,5 @@
 -- The program's command line: a command of clap with a subcommand for each task.
-use Rattle.std.specs.Prelude.{codes, Some, true, [], ◌∷◌}
+use Rattle.std.specs.Prelude.{codes, fold, List, Some, true, [], ◌∷◌}
 use Rattle.clap.specs.Words.{App, Rule, Text, new_app, new_rule, with_rule, with_subcommand}
 use Rattle.clap.specs.declared.builder.action.ArgAction.TheVariants.{Append, SetTrue}
 use Rattle.clap.specs.declared.builder.value_parser.ValueParser.TheVariants.{Unsigned}
@@ -8,9 +8,9 @@ use Rattle.clap.specs.declared.builder.value_parser.ValueParser.TheVariants.{Uns
 abbrev pub place : Text → Rule
 place id = record (new_rule id) { required = true }
 
--- the same, and more may follow it
-abbrev pub places : Text → Rule
-places id = record (place id) { action = Some Append }
+-- a value that may be given several times
+abbrev pub several : Rule → Rule
+several rule = record rule { action = Some Append }
 
 -- `--NAME VALUE`, which may be given once
 abbrev pub option : Text → Rule
@@ -20,12 +20,19 @@ option id = record (new_rule id) { long = Some id; value_names = 1 }
 abbrev pub needed : Text → Rule
 needed id = record (option id) { required = true }
 
--- `--conf F` and `--db F`
+-- `--NAME` without a value
+abbrev pub flag : Text → Rule
+flag id = record (new_rule id) { long = Some id; action = Some SetTrue }
+
+-- `--conf F`, and `--db F`, which some commands need
 abbrev pub conf : Rule
 conf = needed (codes "conf")
 
 abbrev pub db : Rule
 db = option (codes "db")
+
+abbrev pub stored : Rule
+stored = needed (codes "db")
 
 -- `--port N`, from 1 to 65,535
 abbrev pub port : Rule
@@ -33,138 +40,56 @@ port = record (needed (codes "port")) { parser = Some (Unsigned 1 65_535) }
 
 -- `--connections C`, from 0 to 1,000,000; as many if it isn't given
 abbrev pub connections : Rule
-connections = record (option (codes "connections")) {
-  parser = Some (Unsigned 0 1_000_000);
-  defaults = codes "1000000" ∷ [];
-}
+connections = record (option (codes "connections")) { parser = Some (Unsigned 0 1_000_000); defaults = codes "1000000" ∷ [] }
 
--- `compare V1 OP V2`
-abbrev pub compare : App
-compare = with_rule (with_rule (with_rule (new_app (codes "compare")) (place (codes "V1"))) (place (codes "OP"))) (place (codes "V2"))
-
--- `replay --conf F [--db F]`
-abbrev pub replay : App
-replay = with_rule (with_rule (new_app (codes "replay")) conf) db
-
--- `--host NAME`, which may be given several times
-abbrev pub host : Rule
-host = record (option (codes "host")) { action = Some Append }
-
--- `serve --conf F --port N [--db F] [--connections C] [--host NAME]..`
-abbrev pub serve : App
-serve = with_rule (with_rule (with_rule (with_rule (with_rule (new_app (codes "serve")) conf) port) db) connections) host
-
--- `waiting --conf F [--db F]`
-abbrev pub waiting : App
-waiting = with_rule (with_rule (new_app (codes "waiting")) conf) db
-
--- `report RUN [REPORT] --conf F --db F`: an optional value names the report of a run
-abbrev pub told : Rule
-told = new_rule (codes "REPORT")
-
-abbrev pub stored : Rule
-stored = needed (codes "db")
-
-abbrev pub report : App
-report = with_rule (with_rule (with_rule (with_rule (new_app (codes "report")) (place (codes "RUN"))) told) conf) stored
-
--- `NAME --conf F --db F`: a command that looks at the store in a file
-abbrev pub looking : Text → App
-looking name = with_rule (with_rule (new_app name) conf) stored
-
--- `runs`, `export` and `check`, which accept no more
-abbrev pub runs : App
-runs = looking (codes "runs")
-
-abbrev pub export : App
-export = looking (codes "export")
-
-abbrev pub check : App
-check = looking (codes "check")
-
--- `mail --conf F --db F [--list]`
-abbrev pub listed : Rule
-listed = record (new_rule (codes "list")) { long = Some (codes "list"); action = Some SetTrue }
-
-abbrev pub mail : App
-mail = with_rule (looking (codes "mail")) listed
-
--- `why SOURCE.. --conf F [--db F] [--run K]`, where K is a run's number; with `--hint` the values are hints' numbers
+-- `--run K`, where K is a run's number
 abbrev pub run : Rule
 run = record (option (codes "run")) { parser = Some (Unsigned 1 999_999_999) }
 
-abbrev pub hinted : Rule
-hinted = record (new_rule (codes "hint")) { long = Some (codes "hint"); action = Some SetTrue }
+-- a command with its values and options
+abbrev pub command : Text → List Rule → App
+command name rules = fold with_rule (new_app name) rules
 
-abbrev pub why : App
-why = with_rule (with_rule (with_rule (with_rule (with_rule (new_app (codes "why")) (places (codes "SOURCE"))) conf) db) run) hinted
+-- `compare V1 OP V2`
+abbrev pub compare : App
+compare = command (codes "compare") (place (codes "V1") ∷ place (codes "OP") ∷ place (codes "V2") ∷ [])
 
--- `try HINT.. --conf F [--db F] [--day DAY] [--all]`
-abbrev pub day : Rule
-day = option (codes "day")
+-- `replay --conf F [--db F]`
+abbrev pub replay : App
+replay = command (codes "replay") (conf ∷ db ∷ [])
 
-abbrev pub all : Rule
-all = record (new_rule (codes "all")) { long = Some (codes "all"); action = Some SetTrue }
-
-abbrev pub tries : App
-tries = with_rule (with_rule (with_rule (with_rule (with_rule (new_app (codes "try")) (places (codes "HINT"))) conf) db) day) all
-
--- `lint --conf F`
-abbrev pub lint : App
-lint = with_rule (new_app (codes "lint")) conf
-
--- `order --day DAY --conf F --db F`
-abbrev pub dated : Rule
-dated = needed (codes "day")
-
-abbrev pub order : App
-order = with_rule (with_rule (with_rule (new_app (codes "order")) dated) conf) stored
-
--- `hints`, which needs a setup and a store
-abbrev pub hints : App
-hints = looking (codes "hints")
-
--- `propose [SOURCE..] --conf F [--db F] [--day DAY] [--all]`
-abbrev pub sources : Rule
-sources = record (new_rule (codes "SOURCE")) { action = Some Append }
-
-abbrev pub propose : App
-propose = with_rule (with_rule (with_rule (with_rule (with_rule (new_app (codes "propose")) sources) conf) db) day) all
-
--- `breaks CHANGE.. --conf F [--db F] [--run K]`
-abbrev pub breaks : App
-breaks = with_rule (with_rule (with_rule (with_rule (new_app (codes "breaks")) (places (codes "CHANGE"))) conf) db) run
+-- `serve --conf F --port N [--db F] [--connections C] [--host NAME]..`
+abbrev pub serve : App
+serve = command (codes "serve") (conf ∷ port ∷ db ∷ connections ∷ several (option (codes "host")) ∷ [])
 
 -- `office COMMAND ..`: a command has to be named, and no words at all are a call for help
 abbrev pub bare : App
 bare = record (new_app (codes "office")) {
-  top = record (new_app (codes "office")).top {
-    subcommand_required = true;
-    arg_required_else_help = true;
-    disable_help_subcommand = true;
-  };
+  top = record (new_app (codes "office")).top { subcommand_required = true; arg_required_else_help = true; disable_help_subcommand = true };
 }
+
+-- a command with these subcommands
+abbrev pub with_commands : App → List App → App
+with_commands whole parts = fold (λ (app part : App). with_subcommand app part.top) whole parts
 
 -- the command that only compares, replays and serves
 unfoldable pub of_three : App
-of_three = with_subcommand (with_subcommand (with_subcommand bare compare.top) replay.top) serve.top
+of_three = with_commands bare (compare ∷ replay ∷ serve ∷ [])
 
--- the command that also prints what a run waits for and each report
-unfoldable pub of_five : App
-of_five = with_subcommand (with_subcommand of_three waiting.top) report.top
-
--- the command that also prints runs and mail, exports mail, and checks a store
-unfoldable pub of_nine : App
-of_nine = with_subcommand (with_subcommand (with_subcommand (with_subcommand of_five runs.top) mail.top) export.top) check.top
-
--- the command that also prints what a run said of sources, and tries hints
-unfoldable pub of_eleven : App
-of_eleven = with_subcommand (with_subcommand of_nine why.top) tries.top
-
--- the command that also tells which messages of a bag are refused, the next order, the hints in force, and hints that move groups
-unfoldable pub of_fifteen : App
-of_fifteen = with_subcommand (with_subcommand (with_subcommand (with_subcommand of_eleven lint.top) order.top) hints.top) propose.top
-
--- the program's command, which also tells what changes break
+-- The program's command. `why --hint` takes numbers of hints instead of sources.
 unfoldable pub office : App
-office = with_subcommand of_fifteen breaks.top
+office = with_commands of_three (
+    command (codes "waiting") (conf ∷ db ∷ [])
+    ∷ command (codes "report") (place (codes "RUN") ∷ new_rule (codes "REPORT") ∷ conf ∷ stored ∷ [])
+    ∷ command (codes "runs") (conf ∷ stored ∷ [])
+    ∷ command (codes "mail") (conf ∷ stored ∷ flag (codes "list") ∷ [])
+    ∷ command (codes "export") (conf ∷ stored ∷ [])
+    ∷ command (codes "check") (conf ∷ stored ∷ [])
+    ∷ command (codes "why") (several (place (codes "SOURCE")) ∷ conf ∷ db ∷ run ∷ flag (codes "hint") ∷ [])
+    ∷ command (codes "try") (several (place (codes "HINT")) ∷ conf ∷ db ∷ option (codes "day") ∷ flag (codes "all") ∷ [])
+    ∷ command (codes "lint") (conf ∷ [])
+    ∷ command (codes "order") (needed (codes "day") ∷ conf ∷ stored ∷ [])
+    ∷ command (codes "hints") (conf ∷ stored ∷ [])
+    ∷ command (codes "propose") (several (new_rule (codes "SOURCE")) ∷ conf ∷ db ∷ option (codes "day") ∷ flag (codes "all") ∷ [])
+    ∷ command (codes "breaks") (several (place (codes "CHANGE")) ∷ conf ∷ db ∷ run ∷ []) ∷ []
+    )

@@ -3,7 +3,8 @@
 ghost use Rattle.std.specs.Prelude.{◌≡◌, map, IfOk};
 ghost use Rattle.std.specs.String.{string_bytes};
 ghost use Rattle.std.specs.IoError.{error_kind};
-ghost use Rattle.office_cli_words.specs.Arguments.{status_of_args, told_as};
+ghost use Rattle.office_cli_words.specs.Arguments.{status_of_args};
+ghost use Rattle.office_cli_words.specs.steps.Arguments.{told_as};
 
 use std::alloc::{AllocFailed, Global};
 use std::env::Args;

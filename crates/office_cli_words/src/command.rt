@@ -1,8 +1,9 @@
 //! The program's command as clap sees it, with its help texts.
 
-ghost use Rattle.std.specs.Prelude.{◌≡◌, IfOk, false, true};
-ghost use Rattle.clap.specs.Words.{App, Rule, app_of, new_app, rule_of, with_rule, with_subcommand};
+ghost use Rattle.std.specs.Prelude.{◌≡◌, IfOk, codes, false, true};
+ghost use Rattle.clap.specs.Words.{App, Rule, app_of, new_app, new_rule, rule_of, with_rule, with_subcommand};
 ghost use Rattle.office_cli_words.specs.Program as program;
+ghost use Rattle.office_cli_words.specs.steps.ProgramSteps as steps;
 
 use clap::builder::ValueParser;
 use clap::{Arg, ArgAction, Command};
@@ -253,7 +254,7 @@ fn stored_option<'a>(alloc: Global) -> Arg<'a>
 
 /// `--list`.
 fn list_option<'a>(alloc: Global) -> Arg<'a>
-    ensures rule { rule_of result ≡ program.listed }
+    ensures rule { rule_of result ≡ program.flag (codes "list") }
     ensures local { result.global ≡ false }
 {
     Arg::new(alloc, "list")
@@ -290,7 +291,7 @@ fn connections_option<'a>(alloc: Global) -> Arg<'a>
 
 /// `--host NAME`, which may be given several times.
 fn host_option<'a>(alloc: Global) -> Arg<'a>
-    ensures rule { rule_of result ≡ program.host }
+    ensures rule { rule_of result ≡ program.several (program.option (codes "host")) }
     ensures local { result.global ≡ false }
 {
     Arg::new(alloc, "host")
@@ -310,7 +311,7 @@ fn place<'a>(alloc: Global, id: &'a str, help: &'a str) -> Arg<'a>
 
 /// A required value, by its place; more may follow it.
 fn places<'a>(alloc: Global, id: &'a str, help: &'a str) -> Arg<'a>
-    ensures rule { rule_of result ≡ program.places id.entry.now }
+    ensures rule { rule_of result ≡ program.several (program.place id.entry.now) }
     ensures local { result.global ≡ false }
 {
     place(alloc, id, help).action(ArgAction::Append)
@@ -330,7 +331,7 @@ fn run_option<'a>(alloc: Global) -> Arg<'a>
 
 /// `--day DAY`.
 fn day_option<'a>(alloc: Global) -> Arg<'a>
-    ensures rule { rule_of result ≡ program.day }
+    ensures rule { rule_of result ≡ program.option (codes "day") }
     ensures local { result.global ≡ false }
 {
     Arg::new(alloc, "day")
@@ -341,7 +342,7 @@ fn day_option<'a>(alloc: Global) -> Arg<'a>
 
 /// `--day DAY`, required.
 fn dated_option<'a>(alloc: Global) -> Arg<'a>
-    ensures rule { rule_of result ≡ program.dated }
+    ensures rule { rule_of result ≡ program.needed (codes "day") }
     ensures local { result.global ≡ false }
 {
     Arg::new(alloc, "day")
@@ -353,7 +354,7 @@ fn dated_option<'a>(alloc: Global) -> Arg<'a>
 
 /// Optional sources, by their place.
 fn freed_place<'a>(alloc: Global) -> Arg<'a>
-    ensures rule { rule_of result ≡ program.sources }
+    ensures rule { rule_of result ≡ program.several (new_rule (codes "SOURCE")) }
     ensures local { result.global ≡ false }
 {
     Arg::new(alloc, "SOURCE")
@@ -363,7 +364,7 @@ fn freed_place<'a>(alloc: Global) -> Arg<'a>
 
 /// `--hint`.
 fn hint_option<'a>(alloc: Global) -> Arg<'a>
-    ensures rule { rule_of result ≡ program.hinted }
+    ensures rule { rule_of result ≡ program.flag (codes "hint") }
     ensures local { result.global ≡ false }
 {
     Arg::new(alloc, "hint")
@@ -374,7 +375,7 @@ fn hint_option<'a>(alloc: Global) -> Arg<'a>
 
 /// `--all`.
 fn all_option<'a>(alloc: Global) -> Arg<'a>
-    ensures rule { rule_of result ≡ program.all }
+    ensures rule { rule_of result ≡ program.flag (codes "all") }
     ensures local { result.global ≡ false }
 {
     Arg::new(alloc, "all")
@@ -385,7 +386,7 @@ fn all_option<'a>(alloc: Global) -> Arg<'a>
 
 /// The optional report of a run, by its place.
 fn told_place<'a>(alloc: Global) -> Arg<'a>
-    ensures rule { rule_of result ≡ program.told }
+    ensures rule { rule_of result ≡ new_rule (codes "REPORT") }
     ensures local { result.global ≡ false }
 {
     Arg::new(alloc, "REPORT").help(TOLD)
@@ -486,7 +487,7 @@ fn serve_command<'a>(alloc: Global) -> Result<Command<'a>, AllocError>
 
 /// `waiting --conf SETUP [--db FILE]`.
 fn waiting_command<'a>(alloc: Global) -> Result<Command<'a>, AllocError>
-    ensures { IfOk result (λ c. app_of c ≡ program.waiting) }
+    ensures { IfOk result (λ c. app_of c ≡ steps.waiting) }
 {
     let bare = named(alloc, "waiting", WAITING, AFTER_WAITING);
     let one = with_arg(bare, conf_option(alloc));
@@ -495,7 +496,7 @@ fn waiting_command<'a>(alloc: Global) -> Result<Command<'a>, AllocError>
 
 /// `report RUN [REPORT] --conf SETUP --db FILE`.
 fn report_command<'a>(alloc: Global) -> Result<Command<'a>, AllocError>
-    ensures { IfOk result (λ c. app_of c ≡ program.report) }
+    ensures { IfOk result (λ c. app_of c ≡ steps.report) }
 {
     let bare = named(alloc, "report", REPORT, AFTER_REPORT);
     let one = with_arg(bare, place(alloc, "RUN", RUN));
@@ -511,7 +512,7 @@ fn looking_command<'a>(
     about: &'a str,
     after: &'a str,
 ) -> Result<Command<'a>, AllocError>
-    ensures { IfOk result (λ c. app_of c ≡ program.looking name.entry.now) }
+    ensures { IfOk result (λ c. app_of c ≡ steps.looking name.entry.now) }
 {
     let bare = named(alloc, name, about, after);
     let one = with_arg(bare, conf_option(alloc));
@@ -520,7 +521,7 @@ fn looking_command<'a>(
 
 /// `mail --conf SETUP --db FILE [--list]`.
 fn mail_command<'a>(alloc: Global) -> Result<Command<'a>, AllocError>
-    ensures { IfOk result (λ c. app_of c ≡ program.mail) }
+    ensures { IfOk result (λ c. app_of c ≡ steps.mail) }
 {
     let looking = looking_command(alloc, "mail", MAIL, AFTER_MAIL);
     with_arg(looking, list_option(alloc))
@@ -528,7 +529,7 @@ fn mail_command<'a>(alloc: Global) -> Result<Command<'a>, AllocError>
 
 /// `why SOURCE.. --conf SETUP [--db FILE] [--run RUN] [--hint]`.
 fn why_command<'a>(alloc: Global) -> Result<Command<'a>, AllocError>
-    ensures { IfOk result (λ c. app_of c ≡ program.why) }
+    ensures { IfOk result (λ c. app_of c ≡ steps.why) }
 {
     let bare = named(alloc, "why", WHY, AFTER_WHY);
     let one = with_arg(bare, places(alloc, "SOURCE", SOURCE));
@@ -540,7 +541,7 @@ fn why_command<'a>(alloc: Global) -> Result<Command<'a>, AllocError>
 
 /// `try HINT.. --conf SETUP [--db FILE] [--day DAY] [--all]`.
 fn try_command<'a>(alloc: Global) -> Result<Command<'a>, AllocError>
-    ensures { IfOk result (λ c. app_of c ≡ program.tries) }
+    ensures { IfOk result (λ c. app_of c ≡ steps.tries) }
 {
     let bare = named(alloc, "try", TRY, AFTER_TRY);
     let one = with_arg(bare, places(alloc, "HINT", HINT));
@@ -552,7 +553,7 @@ fn try_command<'a>(alloc: Global) -> Result<Command<'a>, AllocError>
 
 /// `lint --conf SETUP`.
 fn lint_command<'a>(alloc: Global) -> Result<Command<'a>, AllocError>
-    ensures { IfOk result (λ c. app_of c ≡ program.lint) }
+    ensures { IfOk result (λ c. app_of c ≡ steps.lint) }
 {
     let bare = named(alloc, "lint", LINT, AFTER_LINT);
     with_arg(bare, conf_option(alloc))
@@ -560,7 +561,7 @@ fn lint_command<'a>(alloc: Global) -> Result<Command<'a>, AllocError>
 
 /// `order --day DAY --conf SETUP --db FILE`.
 fn order_command<'a>(alloc: Global) -> Result<Command<'a>, AllocError>
-    ensures { IfOk result (λ c. app_of c ≡ program.order) }
+    ensures { IfOk result (λ c. app_of c ≡ steps.order) }
 {
     let bare = named(alloc, "order", ORDER, AFTER_ORDER);
     let one = with_arg(bare, dated_option(alloc));
@@ -570,7 +571,7 @@ fn order_command<'a>(alloc: Global) -> Result<Command<'a>, AllocError>
 
 /// `propose [SOURCE..] --conf SETUP [--db FILE] [--day DAY] [--all]`.
 fn propose_command<'a>(alloc: Global) -> Result<Command<'a>, AllocError>
-    ensures { IfOk result (λ c. app_of c ≡ program.propose) }
+    ensures { IfOk result (λ c. app_of c ≡ steps.propose) }
 {
     let bare = named(alloc, "propose", PROPOSE, AFTER_PROPOSE);
     let one = with_arg(bare, freed_place(alloc));
@@ -582,7 +583,7 @@ fn propose_command<'a>(alloc: Global) -> Result<Command<'a>, AllocError>
 
 /// `breaks CHANGE.. --conf SETUP [--db FILE] [--run RUN]`.
 fn breaks_command<'a>(alloc: Global) -> Result<Command<'a>, AllocError>
-    ensures { IfOk result (λ c. app_of c ≡ program.breaks) }
+    ensures { IfOk result (λ c. app_of c ≡ steps.breaks) }
 {
     let bare = named(alloc, "breaks", BREAKS, AFTER_BREAKS);
     let one = with_arg(bare, places(alloc, "CHANGE", CHANGE));
@@ -614,7 +615,7 @@ fn command_of_three<'a>(alloc: Global) -> Result<Command<'a>, AllocError>
 
 /// The command that also prints what a run waits for and each report.
 fn command_of_five<'a>(alloc: Global) -> Result<Command<'a>, AllocError>
-    ensures { IfOk result (λ c. app_of c ≡ program.of_five) }
+    ensures { IfOk result (λ c. app_of c ≡ steps.of_five) }
 {
     let four = with_command(command_of_three(alloc), waiting_command(alloc));
     with_command(four, report_command(alloc))
@@ -622,7 +623,7 @@ fn command_of_five<'a>(alloc: Global) -> Result<Command<'a>, AllocError>
 
 /// The command that also prints runs and mail, exports mail, and checks a store.
 fn command_of_nine<'a>(alloc: Global) -> Result<Command<'a>, AllocError>
-    ensures { IfOk result (λ c. app_of c ≡ program.of_nine) }
+    ensures { IfOk result (λ c. app_of c ≡ steps.of_nine) }
 {
     let runs = looking_command(alloc, "runs", RUNS, AFTER_RUNS);
     let six = with_command(command_of_five(alloc), runs);
@@ -635,7 +636,7 @@ fn command_of_nine<'a>(alloc: Global) -> Result<Command<'a>, AllocError>
 
 /// The command that also prints what a run said of sources, and tries hints.
 fn command_of_eleven<'a>(alloc: Global) -> Result<Command<'a>, AllocError>
-    ensures { IfOk result (λ c. app_of c ≡ program.of_eleven) }
+    ensures { IfOk result (λ c. app_of c ≡ steps.of_eleven) }
 {
     let ten = with_command(command_of_nine(alloc), why_command(alloc));
     with_command(ten, try_command(alloc))
@@ -643,7 +644,7 @@ fn command_of_eleven<'a>(alloc: Global) -> Result<Command<'a>, AllocError>
 
 /// The command that also tells which messages of a bag are refused, the next order and hints.
 fn command_of_fifteen<'a>(alloc: Global) -> Result<Command<'a>, AllocError>
-    ensures { IfOk result (λ c. app_of c ≡ program.of_fifteen) }
+    ensures { IfOk result (λ c. app_of c ≡ steps.of_fifteen) }
 {
     let twelve = with_command(command_of_eleven(alloc), lint_command(alloc));
     let thirteen = with_command(twelve, order_command(alloc));

@@ -2,7 +2,8 @@
 
 ghost use Rattle.std.specs.Prelude.{◌≡◌, map, option_map, IfOk, [], unwrap_or};
 ghost use Rattle.clap.specs.Words.{all_of, first_of, found_of, rows_of, subcommand_rows_of};
-ghost use Rattle.office_cli_words.specs.Asked.{ToCheck, ToExport, ToTellHints, ToTellRuns, asked, asked_by, breaks_in, command_in, compare_in, is_set, lint_in, mail_in, number_of, order_in, propose_in, replay_in, report_in, report_of, serve_in, asked_report, stored_in, try_in, waiting_in, why_in};
+ghost use Rattle.office_cli_words.specs.Asked.{ToCheck, ToExport, ToTellHints, ToTellRuns, asked, command_in, compare_in, is_set, number_of, replay_in, report_by, serve_in, stored_in};
+ghost use Rattle.office_cli_words.specs.steps.AskedSteps.{asked_by, breaks_in, lint_in, mail_in, order_in, propose_in, report_in, try_in, waiting_in, why_in};
 
 use crate::Words;
 use crate::reports::{number_in, report_of};
@@ -111,7 +112,7 @@ fn waiting_words<'a>(given: &ArgMatches<'a>) -> Option<Words<'a>>
 
 /// What two words that name a report of the store in a file ask for.
 fn asked_report<'a>(conf: &'a str, db: &'a str, run: &'a str, word: Option<&'a str>) -> Words<'a>
-    ensures { asked result ≡ asked_report conf.now db.now run.now (option_map (λ text. text.now) word.entry) (report_of run.now (option_map (λ text. text.now) word.entry)) }
+    ensures { asked result ≡ report_by run.now (option_map (λ text. text.now) word.entry) conf.now db.now }
 {
     match report_of(run, word) {
         Some(report) => Words::Report { conf, db, report },
@@ -122,9 +123,9 @@ fn asked_report<'a>(conf: &'a str, db: &'a str, run: &'a str, word: Option<&'a s
 fn report_words<'a>(given: &ArgMatches<'a>) -> Option<Words<'a>>
     ensures { option_map asked result ≡ report_in (rows_of (found_of given.now)) }
 {
+    let run = text_of(given, "RUN")?;
     let conf = text_of(given, "conf")?;
     let db = text_of(given, "db")?;
-    let run = text_of(given, "RUN")?;
     Some(asked_report(conf, db, run, text_of(given, "REPORT")))
 }
 

@@ -3,20 +3,21 @@ use Rattle.std.proofs.Common.{◌≡◌, ℕ, zero, suc, ◌≤◌, ◌↔◌, B
 use Rattle.std.specs.FinMap.{get, empty, get-insert, insert}
 use Rattle.std.specs.Ordering.{is_eq}
 use Rattle.std.specs.Cmp.{tied_itself}
-use Rattle.office_mail.specs.Kept.{Kept, Place, kept_from, place_of, placed_as}
+use Rattle.office_mail.specs.Kept.{Kept, Place, kept_from, place_of}
 use Rattle.office_mail.specs.Laws.{IsOneOf}
 use Rattle.office_mail.specs.Lists.{Lists}
 use Rattle.office_mail.specs.Read.{read}
-use Rattle.office_mail.specs.Runs.{IsReady, IsReadyCount, cover, cover_of, order_at, order_in, order_in_answer, orders_to, runs}
+use Rattle.office_mail.specs.Runs.{IsReady, IsReadyCount, cover, cover_of, order_at, order_in, orders_to, runs}
 use Rattle.office_mail.specs.declared.message.MailFault.{MailFault}
 use Rattle.office_mail.specs.declared.message.Message.{Message}
 use Rattle.office_mail.specs.declared.message.RunOrder.{RunOrder}
+use Rattle.office_mail.specs.steps.ReadSteps.{placed_as, order_in_answer}
 use Rattle.office_mail.proofs.KeptFacts.{places_total, kept_from-append, kept_from-free, kept_from-Within}
-use Rattle.office_store_keeper.specs.Content.{Content, no_content}
 use Rattle.office_core_orders.proofs.ReadyCount.{IsReady-down}
 use Rattle.office_core.specs.Came.{AllCame, Came, CameBeside}
-use Rattle.office_core.specs.History.{Step, Leads, is_settled, texts_in}
-use Rattle.office_core.proofs.HistoryFacts.{came_of, leads_kept, settled_all}
+use Rattle.office_core.specs.History.{Step, Follow, is_settled, texts_in}
+use Rattle.office_core.specs.Visible.{Visible, new_office}
+use Rattle.office_core.proofs.HistoryFacts.{came_of, follow_kept, settled_all}
 use Rattle.office_core.proofs.OfficeFacts.{IsOffice-new, own_texts-kept_from, some_of}
 use Rattle.office_core.proofs.OrderTexts.{is_order}
 
@@ -106,9 +107,9 @@ all_came setup texts k ready = record {
   mail = λ s n low high. kept_came setup texts (s, n) (get (kept_from setup empty texts) (s, n)) refl (ready.mail s n low high);
 }
 
-pub finished_by : (setup : Lists) (steps : List Step) (office : Content) (k : ℕ) → Leads setup no_content steps office → is_settled steps ≡ true → AllCame setup (texts_in steps) k ↔ (k ≤ length office.reports)
+pub finished_by : (setup : Lists) (steps : List Step) (office : Visible) (k : ℕ) → Follow setup new_office steps office → is_settled steps ≡ true → AllCame setup (texts_in steps) k ↔ (k ≤ length office.reports)
 finished_by setup steps office k leads settled =
-    let kept : office.kept ≡ kept_from setup empty (texts_in steps) = leads_kept setup steps no_content office leads in
+    let kept : office.kept ≡ kept_from setup empty (texts_in steps) = follow_kept setup steps new_office office leads in
     let count : IsReadyCount setup (kept_from setup empty (texts_in steps)) (length office.reports) = subst (λ (m : Kept). IsReadyCount setup m (length office.reports)) kept (settled_all setup steps office leads settled) in (
       λ all. count.none_above k (ready_by setup (texts_in steps) k all),
       λ low. all_came setup (texts_in steps) k (IsReady-down setup (kept_from setup empty (texts_in steps)) (length office.reports) k low count.holds),
@@ -163,5 +164,5 @@ beside_all setup sent texts k beside all =
           among setup sent texts k (s, n) beside (all.mail s n low (omega (arith, cover_is, high)));
     }
 
-pub finished_beside : (setup : Lists) (sent : List (List ℕ)) (steps : List Step) (office : Content) (k : ℕ) → Leads setup no_content steps office → is_settled steps ≡ true → AllCame setup sent k → CameBeside setup sent (texts_in steps) k → k ≤ length office.reports
+pub finished_beside : (setup : Lists) (sent : List (List ℕ)) (steps : List Step) (office : Visible) (k : ℕ) → Follow setup new_office steps office → is_settled steps ≡ true → AllCame setup sent k → CameBeside setup sent (texts_in steps) k → k ≤ length office.reports
 finished_beside setup sent steps office k leads settled all beside = (finished_by setup steps office k leads settled).0 (beside_all setup sent (texts_in steps) k beside all)

@@ -15,7 +15,7 @@ use Rattle.office_core_orders.specs.declared.faults.Held.{Held}
 use Rattle.office_core_orders.specs.declared.faults.StoreFault.{StoreFault}
 use Rattle.office_core_orders.proofs.CountFacts.{some_later}
 use Rattle.office_core_facts.specs.State.{AnswersDelivery, answer_to, answer_by, answer_at, held_at}
-use Rattle.office_core.specs.Counting.{IsKept, AreKept}
+use Rattle.office_core.specs.steps.Counting.{IsKept, AreKept}
 use Rattle.office_core.specs.Together.{answers_to}
 use Rattle.office_core.proofs.OfficeFacts.{some_of}
 use Rattle.office_core.proofs.GatherFacts.{put_here}

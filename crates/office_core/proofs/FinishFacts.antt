@@ -11,7 +11,8 @@ use Rattle.office_store_keeper.specs.Content.{Content, reports_in, with_run}
 use Rattle.office_store_keeper.specs.Provenance.{AreOwnTexts}
 use Rattle.office_core_facts.specs.State.{IsOffice, KeepsFacts}
 use Rattle.testing_rules_laws.specs.Watched.{AllWatchedWork}
-use Rattle.office_core_facts.specs.Outcome.{Outcome, Testing, outcome_in, outcome_of, reports_from, reports_of, reports_to, testing_after}
+use Rattle.office_core_facts.specs.Outcome.{Outcome, Testing, outcome_of, reports_from, reports_of, reports_to, testing_after}
+use Rattle.office_core_facts.specs.steps.Outcome.{outcome_in}
 
 pub reports_to-suc : (setup : Lists) (kept : Kept) (n : ℕ) → reports_to setup kept (n + 1) ≡ reports_to setup kept n ++ reports_of setup kept (n + 1) ∷ []
 unfolding reports_to

@@ -21,7 +21,7 @@ use Rattle.office_core_orders.specs.declared.faults.DeliverFault.{DeliverFault}
 use Rattle.office_core_orders.specs.declared.faults.DeliverFault.TheVariants.{Mail, OtherText}
 use Rattle.office_core_orders.specs.declared.faults.Held.{Held}
 use Rattle.office_core_facts.specs.State.{IsOffice, answer_to, answer_by, answer_at, held_at}
-use Rattle.office_core.specs.GatherSteps.{Gathers, TakesText, letter_of, own_text, ArePlaced}
+use Rattle.office_core.specs.steps.GatherSteps.{Gathers, TakesText, letter_of, own_text, ArePlaced}
 use Rattle.office_core.specs.Together.{answers_to}
 use Rattle.office_core.proofs.OfficeFacts.{some_of, places-put, IsOffice-later}
 

@@ -26,9 +26,10 @@ use Rattle.office_store_keeper.specs.FactSet.{FactSet, count_in, facts_after, Ar
 use Rattle.office_core_facts.specs.declared.covered.KnownFacts.{KnownFacts}
 use Rattle.office_core_facts.specs.Known.{AreKnown, AreUnderWay, said_all}
 use Rattle.office_core_facts.specs.Outcome.{covered_items}
-use Rattle.office_core_orders.specs.Ready.{FirstOrders, HasEach}
+use Rattle.office_core_orders.specs.Ready.{HasEach}
+use Rattle.office_core_orders.specs.steps.Ready.{FirstOrders}
 use Rattle.office_core_facts.specs.State.{KeepsFacts}
-use Rattle.office_core_facts.specs.Walk.{said_within}
+use Rattle.office_core_facts.specs.steps.Walk.{said_within}
 use Rattle.office_core_orders.proofs.CountFacts.{some_later}
 use Rattle.office_core_facts.proofs.KeptRows.{count_is, holdable, release_by_test}
 use Rattle.office_core_facts.proofs.SaidFacts.{all_later, one_of_all}

@@ -11,7 +11,8 @@ use Rattle.testing_rules_model.specs.declared.facts.DelaysIn.{DelaysIn}
 use Rattle.testing_rules_model.specs.declared.fact_row.FactKind.TheVariants as kinds
 use Rattle.testing_rules_model.specs.declared.fact_row.FactRow.{FactRow}
 use Rattle.testing_rules_model.specs.FactLists.{FactLists}
-use Rattle.testing_rules_model.specs.FactRows.{is_kind, is_row, times, rows_of, source_row, upload_row, build_row, drop_row, bug_row, hint_row, unhint_row, delays_row}
+use Rattle.testing_rules_model.specs.FactRows.{is_kind, is_row, times, rows_of, upload_row}
+use Rattle.testing_rules_model.specs.steps.FactRows.{source_row, build_row, drop_row, bug_row, hint_row, unhint_row, delays_row}
 use Rattle.testing_rules_model.specs.Unstable.{delays_order, last_delays}
 use Rattle.testing_rules_items.proofs.Members.{none_among}
 use Rattle.testing_rules_items.specs.Words.{lesser, least}
@@ -22,8 +23,7 @@ use Rattle.testing_rules_model.proofs.First.{least-none_below}
 use Rattle.testing_rules_items.specs.declared.item.Item.{Item as Thing}
 use Rattle.testing_rules_items.specs.declared.item.Item.TheVariants.{Upload, Dropped, Build, Bug, Hint, Unhint, Delays, Nothing}
 use Rattle.office_mail.specs.declared.message.Message.{Message}
-use Rattle.office_mail.specs.declared.message.Body.{Body}
-use Rattle.office_mail.specs.declared.message.Body.TheVariants.{Item, Run}
+use Rattle.office_mail.specs.declared.message.Body.TheVariants.{Item}
 use Rattle.office_mail_setup.specs.declared.setup.Role.TheVariants.{Release}
 use Rattle.office_mail.specs.Kept.{Place}
 use Rattle.office_mail.specs.Lists.{Lists}
@@ -32,13 +32,14 @@ use Rattle.office_mail.specs.Runs.{cover}
 use Rattle.office_mail.specs.Setup.{count_of, place_of_role}
 use Rattle.office_store_keeper.specs.Content.{Content}
 use Rattle.office_store_keeper.specs.FactSet.{FactSet, count_in}
-use Rattle.office_store_keeper.specs.LastDelays.{delays_in_body, TellsDelays, IsLastTold, GetsLast, release_delays, with_last}
-use Rattle.office_store_keeper.specs.Provenance.{IsKept}
+use Rattle.office_store_keeper.specs.LastDelays.{TellsDelays, IsLastTold, GetsLast, release_delays, with_last}
+use Rattle.office_store_keeper.specs.Provenance.{IsSaid}
+use Rattle.office_store_keeper.proofs.SaidItems.{said_text, saying}
 use Rattle.office_store_keeper.proofs.FactSets.{has-insert, row_same}
 use Rattle.office_core.specs.Migrated.{without_delays, IsOfficeBefore}
-use Rattle.office_core_facts.specs.Outcome.{item_in_body, item_in_answer, item_at, covered_items}
+use Rattle.office_core_facts.specs.Outcome.{item_in_body, item_at, covered_items}
 use Rattle.office_core_facts.specs.State.{IsOffice}
-use Rattle.office_core_facts.specs.Walk.{item_of}
+use Rattle.office_core_facts.specs.steps.Walk.{item_in_answer, item_of}
 use Rattle.office_core_facts.proofs.GivenFacts.{says}
 use Rattle.office_core_facts.proofs.SaidFacts.{said_at_place, told_by_release}
 use Rattle.office_core_facts.proofs.WalkFacts.{at_place, of_text, within_place, place_within, same_messages}
@@ -185,39 +186,29 @@ module _ (setup : Lists) (content : Content) (one : count_of Release setup.sende
       let text = of_text setup p.0 (get content.kept p.0) m p.1.is in
       let among = said_at_place setup content.kept p.0 text.0 m text.1 text.2 in
       let sender : m.sender ≡ release = told_by_release setup content.kept m one office.texts among some in
-      let said = says setup content.kept m office.texts among in
       let at : p.0 ≡ (m.sender, m.number) = at_place setup (p.0, text.0) m text.2 in
       record {
         sender = sender;
         low = subst (λ (q : Place). 1 ≤ q.1) at p.1.low;
         high = subst (λ (s : ℕ). m.number ≤ cover setup content.kept (length content.reports) s) sender (subst (λ (q : Place). q.1 ≤ cover setup content.kept (length content.reports) q.0) at p.1.high);
-        tells = record {
-          message = said.message;
-          is_kept = subst (λ (s : ℕ). IsKept setup content.kept (s, m.number) said.message) sender said.is_kept;
-          tells = subst (λ (b : Body). IsSome (delays_in_body release m.number b)) (sym said.body) (some_at m.item m.sender m.number sender some);
-        };
+        tells = (m, sender, refl, says setup content.kept m office.texts among, some);
       }
-    where
-      some_at : (i : Thing) (s n : ℕ) → s ≡ release → IsSome (delays_of (record { sender = s; number = n; item = i })) → IsSome (delays_in_body release n (Item i))
-      some_at i s n same h = subst (λ (t : ℕ). IsSome (delays_of (record { sender = t; number = n; item = i }))) same h
 
   -- and what the release team tells up to its cover is among them
   there : (n : ℕ) → 1 ≤ n → n ≤ upto → TellsDelays setup content.kept n → (d : DelaysIn) × Contains (delays_in told) d × (d.number ≡ n)
-  there n low high t = go t.message.body refl t.tells
+  there n low high t =
+      let m : CoveredItem = record { sender = release; number = n; item = t.0.item } in
+      let same : t.0 ≡ m = λ i. record { sender = t.1 i; number = t.2 i; item = t.0.item } in
+      let said = said_text setup content.kept m (subst (IsSaid setup content.kept) same t.3) in
+      let place = office.places (release, n) (ap is_some said.stands) in
+      let item : item_at setup ((release, n), said.text) ≡ Some m = item_is setup (release, n) said.text (saying m) t.0.item said.reads refl in
+      let among = place_within setup content.kept (cover setup content.kept (length content.reports)) (length setup.senders) m (release, n)
+      (record { sender = place.sender; low = low; high = high; is = ap (item_of setup (release, n)) said.stands ∙ item }) in
+      let messages = same_messages setup content.kept (length content.reports) office.places in
+      from_message m (messages.0 m among) (subst (λ (x : CoveredItem). IsSome (delays_of x)) same t.4)
     where
-      go : (b : Body) → t.message.body ≡ b → IsSome (delays_in_body release n b) → (d : DelaysIn) × Contains (delays_in told) d × (d.number ≡ n)
-      go (Run order) is h = absurd (let no = h in cc)
-      go (Item i) is h =
-          let m : CoveredItem = record { sender = release; number = n; item = i } in
-          let place = office.places (release, n) (ap is_some t.is_kept.stands) in
-          let item : item_at setup ((release, n), t.is_kept.text) ≡ Some m = item_is setup (release, n) t.is_kept.text t.message i t.is_kept.says is in
-          let among = place_within setup content.kept (cover setup content.kept (length content.reports)) (length setup.senders) m (release, n)
-          (record { sender = place.sender; low = low; high = high; is = ap (item_of setup (release, n)) t.is_kept.stands ∙ item }) in
-          let messages = same_messages setup content.kept (length content.reports) office.places in
-          from_message m (messages.0 m among) h
-        where
-          from_message : (m : CoveredItem) → Contains told m → IsSome (delays_of m) → (d : DelaysIn) × Contains (delays_in told) d × (d.number ≡ m.number)
-          from_message m c h = let d = delays_are m h in (d.0, gives delays_of told m d.0 c d.1, d.2)
+      from_message : (m : CoveredItem) → Contains told m → IsSome (delays_of m) → (d : DelaysIn) × Contains (delays_in told) d × (d.number ≡ m.number)
+      from_message m c h = let d = delays_are m h in (d.0, gives delays_of told m d.0 c d.1, d.2)
 
   -- so the last delays of the facts are those
   last_are : (last : Option ℕ) (o : Option DelaysIn) → o ≡ last_delays told → IsLastTold setup content.kept upto last → map delays_row (option_to_list o) ≡ map (release_delays setup) (option_to_list last)

@@ -15,7 +15,7 @@ use Rattle.office_mail_setup.specs.declared.setup.Sender.{Sender}
 use Rattle.office_mail_setup.specs.declared.setup.Role.{Role}
 use Rattle.office_mail_setup.specs.declared.setup.Role.TheVariants.{Upload, Build, Bugs, Release, Runs}
 use Rattle.office_mail.specs.Lists.{Lists}
-use Rattle.office_mail_setup.specs.Steps.{Paragraph, needs, given, whole, first_of, rest_of}
+use Rattle.office_mail_setup.specs.WholeText.{Paragraph, needs, given, whole, first_of, rest_of}
 use Rattle.office_mail_setup.specs.Values.{number_in}
 use Rattle.office_mail.specs.Fields.{required}
 use Rattle.office_mail_setup.specs.Kinds.{kind_named, may_send}

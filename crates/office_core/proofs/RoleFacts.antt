@@ -20,9 +20,11 @@ use Rattle.office_mail_setup.specs.declared.setup.Role.{Role}
 use Rattle.office_mail_setup.specs.declared.setup.Role.TheVariants.{Upload, Build, Bugs, Release, Runs}
 use Rattle.office_mail_setup.specs.declared.setup.Sender.{Sender}
 use Rattle.office_mail_setup.specs.Kinds.{kind_named, may_send}
-use Rattle.office_mail_setup.specs.Setup.{place_of_role, role_number, same_role}
-use Rattle.office_mail_setup.specs.Steps.{Paragraph, each_of, first_of, given, needs, rest_of, whole}
-use Rattle.office_mail_setup.specs.Values.{day_in, days_in, number_in, package_in, severity_in, urgency_in, version_in}
+use Rattle.office_mail_setup.specs.Setup.{place_of_role, same_role}
+use Rattle.office_mail_setup.proofs.RoleFacts.{is_same as one_role}
+use Rattle.office_mail_setup.specs.WholeText.{Paragraph, each_of, first_of, given, needs, rest_of, whole}
+use Rattle.office_mail_setup.specs.Values.{days_in, number_in, package_in, severity_in, urgency_in, version_in}
+use Rattle.office_mail.specs.Days.{day_in}
 use Rattle.office_mail.specs.declared.message.Body.{Body}
 use Rattle.office_mail.specs.declared.message.Body.TheVariants.{Item as Saying, Run}
 use Rattle.office_mail.specs.declared.message.MailFault.{MailFault}
@@ -30,14 +32,16 @@ use Rattle.office_mail.specs.declared.message.MailFault.TheVariants.{TooLong, Ba
 use Rattle.office_mail.specs.declared.message.Message.{Message}
 use Rattle.office_mail.specs.Fields.{required, value_if_there, value_in}
 use Rattle.office_mail.specs.Hints.{hint_in}
-use Rattle.office_mail.specs.Kept.{Kept, Place, place_cmp, place_of, placed, placed_as}
+use Rattle.office_mail.specs.Kept.{Kept, Place, place_cmp, place_of, placed}
 use Rattle.office_mail.specs.Lists.{Lists}
 use Rattle.office_mail.specs.Read.{binary_in, body_of, bug_of, build_of, delays_of, drop_of, has_fields_of, hint_of, knows_archs, message_of, most_paragraphs, order_of, paragraphs_say, read, sender_from, sender_named, unhint_of, upload_of}
 use Rattle.office_mail.specs.Runs.{cover, covered, is_covered, runs}
 use Rattle.office_mail.specs.Said.{kind_of}
+use Rattle.office_mail.specs.steps.ReadSteps.{placed_as}
 use Rattle.office_mail.proofs.KeptFacts.{exact_places, places_total}
 use Rattle.office_store_keeper.specs.Provenance.{AreOwnTexts}
-use Rattle.office_core_facts.specs.Outcome.{covered_items, item_at, item_in_answer, item_in_body}
+use Rattle.office_core_facts.specs.Outcome.{covered_items, item_at, item_in_body}
+use Rattle.office_core_facts.specs.steps.Walk.{item_in_answer}
 use Rattle.office_core_facts.proofs.WalkFacts.{find_entry, get-covered, kept_by}
 use Rattle.office_core.specs.OneSender.{ButOf, DifferByRole, role_at}
 use Rattle.office_core.proofs.OrderTexts.{given_ok, needs_ok, ok_same, some_same, then_ok}
@@ -45,18 +49,8 @@ use Rattle.office_core.proofs.UnseenFacts.{cover_same}
 
 -- ---- roles
 
-abbrev of_number : ℕ → Role
-of_number n = cond (n == 0) Upload (cond (n == 1) Build (cond (n == 2) Bugs (cond (n == 3) Release Runs)))
-
-back : (role : Role) → of_number (role_number role) ≡ role
-back Upload = refl
-back Build = refl
-back Bugs = refl
-back Release = refl
-back Runs = refl
-
 is_same : (r role : Role) → same_role r role ≡ true → role ≡ r
-is_same r role e = sym (sym (back r) ∙ ap of_number (eqb-true (role_number r) (role_number role) e) ∙ back role)
+is_same r role e = sym (one_role r role e)
 
 -- the place that a name has, behind those of the first senders, and the role there
 record Stands (k : ℕ) (senders : List Sender) (p : ℕ) (role : Role) : Type 0 where

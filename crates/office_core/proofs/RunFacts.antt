@@ -8,9 +8,9 @@ use Rattle.office_mail.specs.Lists.{Lists}
 use Rattle.testing_rules_laws.specs.FactLists.{FactLists}
 use Rattle.testing_rules_laws.specs.StandsFor.{StandsFor}
 use Rattle.office_store_keeper.specs.Content.{Content}
-use Rattle.office_core_orders.specs.Ready.{FirstOrders}
+use Rattle.office_core_orders.specs.steps.Ready.{FirstOrders}
 use Rattle.office_core_facts.specs.State.{IsOffice}
-use Rattle.office_core_facts.specs.Walk.{said_within}
+use Rattle.office_core_facts.specs.steps.Walk.{said_within}
 use Rattle.office_core_facts.specs.Outcome.{Outcome, Testing, covered_items, outcome, outcome_of}
 use Rattle.office_core_facts.proofs.WalkFacts.{stands_for_covered}
 use Rattle.office_core_outcome.proofs.OutcomeFacts.{outcome_is}

@@ -7,6 +7,7 @@ use Rattle.office_mail.specs.Lists.{Lists}
 use Rattle.office_store_keeper.specs.Content.{Content}
 use Rattle.office_store_keeper.specs.declared.values.Reports.{Reports}
 use Rattle.office_core_facts.specs.State.{IsOffice}
+use Rattle.office_core.specs.Visible.{Visible, visible}
 
 -- an office that kept these deliveries, in which no sender gives one number two texts
 pub record TookTexts (setup : Lists) (texts : List (List ℕ)) (content : Content) : Type 0 where
@@ -15,7 +16,11 @@ pub record TookTexts (setup : Lists) (texts : List (List ℕ)) (content : Conten
   pub one_text : OneText setup texts
 
 -- The finished runs stay: their reports come first, and testing is as they left it unless another run finished.
-pub record RunsStand (old new : Content) : Type 0 where
+pub record RunsStay (old new : Visible) : Type 0 where
   pub more : List Reports
   pub reports : new.reports ≡ old.reports ++ more
   pub testing : length new.reports ≡ length old.reports → new.testing ≡ old.testing
+
+-- the same of stores' contents
+abbrev pub RunsStand : Content → Content → Type 0
+RunsStand old new = RunsStay (visible old) (visible new)

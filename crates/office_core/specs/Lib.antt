@@ -1,7 +1,4 @@
-pub mod Asked
 pub mod Came
-pub mod Counting
-pub mod GatherSteps
 pub mod History
 pub mod Laws
 pub mod Migrated
@@ -9,3 +6,5 @@ pub mod OneSender
 pub mod Preserves
 pub mod Together
 pub mod Unbroken
+pub mod Visible
+pub mod steps

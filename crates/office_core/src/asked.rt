@@ -6,8 +6,8 @@ ghost use Rattle.std.specs.Prelude.{◌≡◌, ℕ, None, IfOk, OnOk, IsTrue};
 ghost use Rattle.std.specs.FinMap.{get};
 ghost use Rattle.office_mail.specs.Kept.{Kept};
 ghost use Rattle.office_store_keeper.specs.Content.{IsNextNumber};
-ghost use Rattle.office_core_orders.specs.ReadsStore.{ReadsStore};
-ghost use Rattle.office_core.specs.Asked.{AreFreeFrom, IsFreeFrom};
+ghost use Rattle.office_core_orders.specs.steps.ReadsStore.{ReadsStore};
+ghost use Rattle.office_core.specs.steps.Asked.{AreFreeFrom, IsFreeFrom};
 
 use office_core_orders::{StoreFault, stored};
 use office_store_keeper::{Keeper, MailText};

@@ -4,7 +4,7 @@ ghost use Rattle.std.specs.Prelude.{IfOk, IfSome, IsSome};
 ghost use Rattle.std.specs.FinMap.{get};
 ghost use Rattle.office_mail.specs.Kept.{Kept};
 ghost use Rattle.office_core_orders.specs.Ready.{HasEach};
-ghost use Rattle.office_core.specs.Counting.{IsKept, AreKept};
+ghost use Rattle.office_core.specs.steps.Counting.{IsKept, AreKept};
 
 use crate::Reply;
 use office_core_orders::orders::make_room;

@@ -7,10 +7,10 @@ ghost use Rattle.office_store_keeper.specs.NewMail.{AreFree, with_letters, with_
 ghost use Rattle.office_mail.specs.Kept.{kept_from, place_of, IsPlace, Within};
 ghost use Rattle.office_mail.specs.Read.{read};
 ghost use Rattle.office_core_orders.specs.Counted.{Counted};
-ghost use Rattle.office_core.specs.Asked.{AreFreeFrom};
-ghost use Rattle.office_core.specs.GatherSteps.{ArePlaced, Gathers, TakesText, letter_of, own_text};
+ghost use Rattle.office_core.specs.steps.Asked.{AreFreeFrom};
+ghost use Rattle.office_core.specs.steps.GatherSteps.{ArePlaced, Gathers, TakesText, letter_of, own_text};
 ghost use Rattle.office_core.specs.Together.{AreHeldHere, answers_to};
-ghost use Rattle.office_core_orders.specs.ReadsStore.{ReadsStore};
+ghost use Rattle.office_core_orders.specs.steps.ReadsStore.{ReadsStore};
 ghost use Rattle.office_core_orders.specs.StaysTrusted.{StaysTrusted};
 ghost use Rattle.office_core_facts.specs.State.{IsOffice};
 

@@ -14,10 +14,11 @@ ghost use Rattle.office_store_keeper.specs.LastDelays.{GetsLast};
 ghost use Rattle.office_store_keeper.specs.Provenance.{AreOwnTexts};
 ghost use Rattle.office_core_orders.specs.declared.waiting_lines.Lack.{Lack};
 ghost use Rattle.office_core.specs.Came.{AllCame, CameBeside};
-ghost use Rattle.office_core.specs.History.{Step, Looked, Settled, Leads, IsByRules, Agree, coming, is_settled, texts_in};
-ghost use Rattle.office_core.specs.Laws.{RunsStand, TookTexts};
+ghost use Rattle.office_core.specs.History.{Step, Looked, Settled, Follow, Leads, IsByRules, Agree, coming, is_settled, texts_in};
+ghost use Rattle.office_core.specs.Laws.{RunsStand, RunsStay, TookTexts};
 ghost use Rattle.office_core.specs.Migrated.{IsOfficeBefore};
 ghost use Rattle.office_core.specs.OneSender.{ButOf, DifferByRole, IsUnseen, role_at};
+ghost use Rattle.office_core.specs.Visible.{Visible, new_office};
 ghost use Rattle.office_core_facts.specs.Outcome.{covered_items, outcome_of, reports_to};
 ghost use Rattle.office_core_facts.specs.State.{IsOffice, IsSound};
 ghost use Rattle.office_core_orders.specs.Waiting.{AreLacks};
@@ -34,26 +35,26 @@ pub fn empty_is_sound<K: Keeper>()
 /// each taken once in its sender's order; a settled office has finished exactly the ready runs; only finishing a run changes
 /// testing. A list of steps is any history: deliveries, settles and questions from an empty office on.
 pub fn headline()
-    ensures rules { (setup : Lists) (steps : List Step) (office : Content) → Leads setup no_content steps office → IsByRules setup (texts_in steps) office }
+    ensures rules { (setup : Lists) (steps : List Step) (office : Visible) → Follow setup new_office steps office → IsByRules setup (texts_in steps) office }
     // Neither order nor repeats matter: offices that received the same texts agree.
-    ensures order { (setup : Lists) (xs ys : List Step) (a b : Content) → Leads setup no_content xs a → Leads setup no_content ys b → OneText setup (texts_in xs) → SameTexts setup (texts_in xs) (texts_in ys) → Agree xs ys a b }
-    ensures settled { (setup : Lists) (steps : List Step) (office : Content) → Leads setup no_content steps office → is_settled steps ≡ true → IsReadyCount setup office.kept (length office.reports) }
-    ensures only { (setup : Lists) (steps : List Step) (old new : Content) → Leads setup old steps new → RunsStand old new }
+    ensures order { (setup : Lists) (xs ys : List Step) (a b : Visible) → Follow setup new_office xs a → Follow setup new_office ys b → OneText setup (texts_in xs) → SameTexts setup (texts_in xs) (texts_in ys) → Agree xs ys a b }
+    ensures settled { (setup : Lists) (steps : List Step) (office : Visible) → Follow setup new_office steps office → is_settled steps ≡ true → IsReadyCount setup office.kept (length office.reports) }
+    ensures only { (setup : Lists) (steps : List Step) (old new : Visible) → Follow setup old steps new → RunsStay old new }
 {}
 
 /// Delivered is finished. Starting empty, a settled office has finished run k exactly if all that the run needs came,
 /// whatever else came, in any order and with any repeats and losses.
 pub fn delivered()
-    ensures finished { (setup : Lists) (steps : List Step) (office : Content) (k : ℕ) → Leads setup no_content steps office → is_settled steps ≡ true → AllCame setup (texts_in steps) k ↔ (k ≤ length office.reports) }
+    ensures finished { (setup : Lists) (steps : List Step) (office : Visible) (k : ℕ) → Follow setup new_office steps office → is_settled steps ≡ true → AllCame setup (texts_in steps) k ↔ (k ≤ length office.reports) }
     // So if all that run k needs was sent and came, the run is finished. No other text, from any sender, holds it up,
     // unless it gives one of the run's own orders a second text.
-    ensures beside { (setup : Lists) (sent : List (List ℕ)) (steps : List Step) (office : Content) (k : ℕ) → Leads setup no_content steps office → is_settled steps ≡ true → AllCame setup sent k → CameBeside setup sent (texts_in steps) k → k ≤ length office.reports }
+    ensures beside { (setup : Lists) (sent : List (List ℕ)) (steps : List Step) (office : Visible) (k : ℕ) → Follow setup new_office steps office → is_settled steps ≡ true → AllCame setup sent k → CameBeside setup sent (texts_in steps) k → k ≤ length office.reports }
 {}
 
 /// If one call leads to an office, and another on from it, both together do; a call that changes nothing is a step too.
 pub fn steps_follow()
-    ensures twice { (setup : Lists) (xs ys : List Step) (a b c : Content) → Leads setup a xs b → Leads setup b ys c → Leads setup a (xs ++ ys) c }
-    ensures looked { (setup : Lists) (old new : Content) → new ≡ old → Leads setup old (Looked ∷ []) new }
+    ensures twice { (setup : Lists) (xs ys : List Step) (a b c : Visible) → Follow setup a xs b → Follow setup b ys c → Follow setup a (xs ++ ys) c }
+    ensures looked { (setup : Lists) (old new : Visible) → new ≡ old → Follow setup old (Looked ∷ []) new }
     // Whatever takes one office to another with these further texts and no fewer runs, like a replay, is such steps.
     ensures came { (setup : Lists) (texts : List (List ℕ)) (old new : Content) → IsOffice setup old → IsOffice setup new → new.kept ≡ kept_from setup old.kept texts → length old.reports ≤ length new.reports → Leads setup old (coming texts (length new.reports - length old.reports) Looked) new }
     // The last of them is a settle that answered Ok, if exactly the ready runs are finished.

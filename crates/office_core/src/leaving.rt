@@ -11,11 +11,12 @@ ghost use Rattle.office_mail.specs.Runs.{cover_of};
 ghost use Rattle.office_store_keeper.specs.FactSet.{AreHoldable, facts_after};
 ghost use Rattle.office_store_keeper.specs.Provenance.{AreOwnTexts, IsGiven, KnowsArchs};
 ghost use Rattle.office_core_facts.specs.Known.{AreKnown, AreUnderWay};
-ghost use Rattle.office_core_orders.specs.ReadsStore.{ReadsStore};
-ghost use Rattle.office_core_facts.specs.Outcome.{outcome, outcome_in, outcome_of};
-ghost use Rattle.office_core_orders.specs.Ready.{FirstOrders};
+ghost use Rattle.office_core_orders.specs.steps.ReadsStore.{ReadsStore};
+ghost use Rattle.office_core_facts.specs.Outcome.{outcome, outcome_of};
+ghost use Rattle.office_core_facts.specs.steps.Outcome.{outcome_in};
+ghost use Rattle.office_core_orders.specs.steps.Ready.{FirstOrders};
 ghost use Rattle.office_core_facts.specs.State.{IsOffice};
-ghost use Rattle.office_core_facts.specs.Walk.{said_within};
+ghost use Rattle.office_core_facts.specs.steps.Walk.{said_within};
 
 use jiff_core::civil::Date;
 use office_core_facts::covered::{KnownFacts, facts};

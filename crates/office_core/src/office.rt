@@ -61,7 +61,7 @@ pub struct Office<K: Keeper> {
 impl<K: Keeper> Model for Office<K> {
     ghost use Rattle.std.specs.Prelude.{◌≡◌, IfSome};
     ghost use Rattle.office_core_facts.specs.Known.{AreKnown};
-    ghost use Rattle.office_core_orders.specs.Ready.{IsCounted};
+    ghost use Rattle.office_core_orders.specs.steps.Ready.{IsCounted};
 
     ghost Value = { K };
 
@@ -189,6 +189,7 @@ impl<K: Keeper> Office<K> {
         ensures finished { K.is_trusted self.new → IsSound K.Keeper self.old → (state_of K.Keeper self.new).finished ≡ (state_of K.Keeper self.old).finished }
         ensures testing { K.is_trusted self.new → IsSound K.Keeper self.old → (K.content self.new).testing ≡ (K.content self.old).testing }
         ensures reports { K.is_trusted self.new → IsSound K.Keeper self.old → (K.content self.new).reports ≡ (K.content self.old).reports }
+        ensures facts { K.is_trusted self.new → IsSound K.Keeper self.old → (K.content self.new).facts ≡ (K.content self.old).facts }
         ensures each { IfOk result (λ replies. IfSome replies (λ rs. length rs.items ≡ length texts.now)) }
         ensures places { IfOk result (λ replies. IfSome replies (λ rs. AreHeldHere (K.setup self.old) rs.items)) }
         ensures setup { K.setup self.new ≡ K.setup self.old }

@@ -9,7 +9,7 @@ ghost use Rattle.office_mail.specs.Setup.{place_of_role};
 ghost use Rattle.office_core_orders.specs.Counted.{Counted};
 ghost use Rattle.office_core_facts.specs.Known.{AreKnown};
 ghost use Rattle.office_core_orders.specs.StaysTrusted.{StaysTrusted};
-ghost use Rattle.office_core_orders.specs.Ready.{IsCounted};
+ghost use Rattle.office_core_orders.specs.steps.Ready.{IsCounted};
 ghost use Rattle.office_core_facts.specs.State.{IsOffice};
 
 use crate::leaving::next_outcome;

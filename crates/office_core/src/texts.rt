@@ -1,7 +1,7 @@
 //! The text of the testing that a store keeps.
 ghost use Rattle.std.specs.Prelude.{◌≡◌, IfOk, IfErr};
 ghost use Rattle.office_core_facts.specs.Outcome.{testing_text};
-ghost use Rattle.office_core_orders.specs.ReadsStore.{ReadsStore};
+ghost use Rattle.office_core_orders.specs.steps.ReadsStore.{ReadsStore};
 
 use deb_control::Text;
 use office_core_orders::{StoreFault, stored};

@@ -4,7 +4,7 @@
 ghost use Rattle.std.specs.Prelude.{◌≡◌, ◌≤◌, ℕ, IfOk, length, slice_index};
 ghost use Rattle.office_mail.specs.Lists.{Lists};
 ghost use Rattle.office_core_facts.specs.Seen.{IsUnbroken};
-ghost use Rattle.office_core_orders.specs.ReadsStore.{ReadsStore};
+ghost use Rattle.office_core_orders.specs.steps.ReadsStore.{ReadsStore};
 ghost use Rattle.office_core_orders.specs.Ready.{HasEach, HasPlaces};
 ghost use Rattle.office_core.specs.Unbroken.{AreUnbroken};
 

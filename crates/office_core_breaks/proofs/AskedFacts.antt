@@ -1,6 +1,6 @@
 -- What words ask, by a message that was read or refused.
 use Rattle.std.proofs.Common.{◌≡◌, ◌⊎◌, ⊎_elim, Result, Ok, Err, refl, subst, sym, ap, ◌∙◌}
-use Rattle.office_mail.specs.Answers.{Gives}
+use Rattle.office_mail.specs.steps.Answers.{Gives}
 use Rattle.office_mail.specs.declared.message.MailFault.{MailFault}
 use Rattle.office_mail.specs.declared.message.MailFault.TheVariants.{TooLong, BadParagraph, MissingField, UnknownSender, BadNumber, UnknownKind, WrongRole, TooManyParagraphs, UnknownArchitecture, BadValue, NoMemory}
 

@@ -15,13 +15,13 @@ use Rattle.office_mail.specs.declared.message.RunOrder.{RunOrder}
 use Rattle.office_mail.specs.Lists.{Lists}
 use Rattle.office_mail.specs.Runs.{cover, cover_of, latest_day, orders_to}
 use Rattle.office_store_keeper.specs.Content.{Content}
-use Rattle.office_core_orders.specs.Ready.{FirstOrders}
+use Rattle.office_core_orders.specs.steps.Ready.{FirstOrders}
 use Rattle.office_core_facts.specs.Outcome.{covered_items}
 use Rattle.office_core_facts.specs.State.{IsOffice}
-use Rattle.office_core_facts.specs.Walk.{said_within}
+use Rattle.office_core_facts.specs.steps.Walk.{said_within}
 use Rattle.office_core_facts.proofs.TakenFacts.{said_within-same}
 use Rattle.office_core_facts.proofs.WalkFacts.{stands_for_covered}
-use Rattle.office_core_breaks.specs.Grounds.{IsToldSome}
+use Rattle.office_core_breaks.specs.steps.Grounds.{IsToldSome}
 use Rattle.office_core_breaks.specs.Told.{IsBreaks, IsTold, IsToldOf}
 use Rattle.office_core_breaks.specs.declared.BreaksText.{BreaksText}
 use Rattle.office_core_breaks.specs.declared.asked.Question.{Question}

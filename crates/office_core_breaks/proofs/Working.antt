@@ -9,8 +9,8 @@ use Rattle.std.proofs.lemmas.Slice.Eq.{bytes_eq-Decides}
 use Rattle.testing_rules_items.specs.Words.{Text, all_place}
 use Rattle.testing_rules_model.specs.declared.suite.RowIn.{RowIn}
 use Rattle.testing_rules_model.specs.Moves.{RowAnswer, fails_on, is_row_of, is_watched_on, was_installable}
-use Rattle.testing_rules_reports.specs.LentLines.{has_line}
-use Rattle.office_core_breaks.specs.Worked.{fails_by, worked_by, working_names}
+use Rattle.testing_rules_reports.specs.steps.LentLines.{has_line}
+use Rattle.office_core_breaks.specs.steps.Worked.{fails_by, worked_by, working_names}
 
 -- equal texts are equal from either side
 same_sides : (x y : Text) → bytes_eq x y ≡ bytes_eq y x

@@ -2,13 +2,11 @@
 -- office.
 use Rattle.std.specs.Prelude.{ℕ, Bool, if◌then◌else◌, List, ◌++◌, codes, Result, Ok, Err}
 use Rattle.deb_control.specs.Relations.{is_package_name}
-use Rattle.testing_rules_items.specs.declared.item.Hint.{Hint}
-use Rattle.testing_rules_items.specs.declared.item.Hint.TheVariants.{Block, Unblock, Easy, AgeDays, Remove, BlockAll}
-use Rattle.testing_rules_items.specs.declared.item.Item.{Item}
+use Rattle.testing_rules_items.specs.declared.item.Hint.TheVariants.{Easy, Remove}
 use Rattle.testing_rules_items.specs.declared.item.Item.TheVariants.{Hint as Wish}
 use Rattle.office_mail_setup.specs.declared.field.Field.TheVariants as field
 use Rattle.office_mail.specs.declared.message.Body.{Body}
-use Rattle.office_mail.specs.declared.message.Body.TheVariants.{Item as Said, Run}
+use Rattle.office_mail.specs.declared.message.Body.TheVariants.{Item as Said}
 use Rattle.office_mail.specs.declared.message.Message.{Message}
 use Rattle.office_mail.specs.declared.message.MailFault.{MailFault}
 use Rattle.office_mail.specs.declared.message.MailFault.TheVariants.{BadValue}
@@ -24,25 +22,11 @@ use Rattle.office_core_breaks.specs.declared.asked.Question.{Question}
 unfoldable pub hint_text : Lists → List ℕ → List ℕ
 hint_text setup hint = codes "From: " ++ (name_at setup (release setup) ++ (codes "\nNumber: 1\nKind: hint\nHint: " ++ (hint ++ codes "\n")))
 
--- what a hint asks to change: a group that moves, or versions that leave
-abbrev pub change_by : Hint → Result Change MailFault
-change_by hint = elim hint [
-  | Block names ↦ Err (BadValue field.Hint)
-  | Unblock items ↦ Err (BadValue field.Hint)
-  | Easy items ↦ Ok (Group items)
-  | AgeDays days items ↦ Err (BadValue field.Hint)
-  | Remove items ↦ Ok (Removal items)
-  | BlockAll ↦ Err (BadValue field.Hint)
-]
-
--- what a message asks to change by its hint
-abbrev pub change_in_item : Item → Result Change MailFault
-change_in_item (Wish hint) = change_by hint
-change_in_item _ = Err (BadValue field.Hint)
-
+-- what a message asks to change by its hint: a group that moves, or versions that leave
 abbrev pub change_in_body : Body → Result Change MailFault
-change_in_body (Said item) = change_in_item item
-change_in_body (Run order) = Err (BadValue field.Hint)
+change_in_body (Said (Wish (Easy items))) = Ok (Group items)
+change_in_body (Said (Wish (Remove items))) = Ok (Removal items)
+change_in_body _ = Err (BadValue field.Hint)
 
 abbrev pub change_in : Result Message MailFault → Result Change MailFault
 change_in (Ok message) = change_in_body message.body

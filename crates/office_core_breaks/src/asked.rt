@@ -1,8 +1,10 @@
 //! What is asked about: that a source moves, that a group moves as one, or that versions leave.
 
 ghost use Rattle.std.specs.Prelude.{◌≡◌, ◌⊎◌, Err, IfOk};
-ghost use Rattle.office_mail.specs.Answers.{Gives};
+ghost use Rattle.office_mail.specs.steps.Answers.{Gives};
 ghost use Rattle.office_mail.specs.Read.{read};
+ghost use Rattle.office_mail.specs.declared.message.Body.TheVariants as bodies;
+ghost use Rattle.testing_rules_items.specs.declared.item.Item.TheVariants as items;
 ghost use Rattle.office_core_breaks.specs.Asked as rules;
 
 use deb_control::{Text, is_package_name};
@@ -43,7 +45,7 @@ fn hint_text(alloc: Global, setup: &Setup, hint: &str) -> Result<Text, AllocErro
 
 /// What a hint asks to change.
 fn change_by(hint: Hint) -> Result<Change, MailFault>
-    ensures { result ≡ rules.change_by hint }
+    ensures { result ≡ rules.change_in_body (bodies.Item (items.Hint hint)) }
 {
     match hint {
         Hint::Easy(items) => Ok(Change::Group(items)),
@@ -57,7 +59,7 @@ fn change_by(hint: Hint) -> Result<Change, MailFault>
 
 /// What an item asks to change by its hint.
 fn change_in_item(item: Item) -> Result<Change, MailFault>
-    ensures { result ≡ rules.change_in_item item }
+    ensures { result ≡ rules.change_in_body (bodies.Item item) }
 {
     match item {
         Item::Hint(hint) => change_by(hint),

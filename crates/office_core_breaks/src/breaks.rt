@@ -5,13 +5,13 @@ ghost use Rattle.std.specs.Prelude.{is_ok, ◌≡◌, IfOk, IfErr, IfSome, lengt
 ghost use Rattle.testing_rules_model.specs.Covered.{Covered};
 ghost use Rattle.testing_rules_model.specs.StandsFor.{StandsFor};
 ghost use Rattle.office_core_orders.specs.Counted.{Counted};
-ghost use Rattle.office_core_orders.specs.ReadsStore.{ReadsStore};
-ghost use Rattle.office_core_orders.specs.Ready.{FirstOrders};
+ghost use Rattle.office_core_orders.specs.steps.ReadsStore.{ReadsStore};
+ghost use Rattle.office_core_orders.specs.steps.Ready.{FirstOrders};
 ghost use Rattle.office_core_orders.specs.StaysTrusted.{StaysTrusted};
 ghost use Rattle.office_core_facts.specs.Known.{AreKnown};
 ghost use Rattle.office_core_facts.specs.Outcome.{covered_items};
 ghost use Rattle.office_core_facts.specs.State.{IsOffice};
-ghost use Rattle.office_core_breaks.specs.Grounds.{IsToldSome};
+ghost use Rattle.office_core_breaks.specs.steps.Grounds.{IsToldSome};
 ghost use Rattle.office_core_breaks.specs.Told.{IsBreaks};
 
 use crate::BreaksText;

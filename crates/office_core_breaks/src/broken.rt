@@ -6,10 +6,10 @@ ghost use Rattle.std.specs.Str.{bytes_eq};
 ghost use Rattle.testing_install.specs.Installable.{are_installable};
 ghost use Rattle.testing_rules_model.specs.JudgedRows.{lent, row_of};
 ghost use Rattle.testing_rules_model.specs.Moves as moves;
-ghost use Rattle.testing_rules_reports.specs.LentLines.{has_line, lent_lines};
-ghost use Rattle.testing_rules_suites.specs.JudgedRows.{answer, answers};
+ghost use Rattle.testing_rules_reports.specs.steps.LentLines.{has_line, lent_lines};
+ghost use Rattle.testing_rules_suites.specs.steps.JudgedRows.{answer, answers};
 ghost use Rattle.office_core_breaks.specs.Breaks as rules;
-ghost use Rattle.office_core_breaks.specs.Worked.{fails_by, working_names, worked_by};
+ghost use Rattle.office_core_breaks.specs.steps.Worked.{fails_by, working_names, worked_by};
 
 use deb_control::Text;
 use deb_version::NoMemory;

@@ -7,7 +7,7 @@ ghost use Rattle.testing_rules_model.specs.FactOrder.{AreBySource};
 ghost use Rattle.testing_rules_model.specs.JudgedRows.{lent, row_of};
 ghost use Rattle.testing_rules_model.specs.Moves as moves;
 ghost use Rattle.office_core_breaks.specs.Breaks as rules;
-ghost use Rattle.office_core_breaks.specs.Grounds.{known_on};
+ghost use Rattle.office_core_breaks.specs.steps.Grounds.{known_on};
 ghost use Rattle.office_core_breaks.specs.Texts as texts;
 
 use crate::asked::Change;

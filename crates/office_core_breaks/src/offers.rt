@@ -8,7 +8,7 @@ ghost use Rattle.testing_rules_model.specs.FactOrder.{AreBySource};
 ghost use Rattle.testing_rules_model.specs.JudgedRows.{lent, row_of};
 ghost use Rattle.testing_rules_refusals.specs.Lines.{package_text};
 ghost use Rattle.testing_rules_refusals.specs.Texts as texts;
-ghost use Rattle.office_core_breaks.specs.Grounds.{known_on};
+ghost use Rattle.office_core_breaks.specs.steps.Grounds.{known_on};
 
 use deb_control::Text;
 use deb_version::NoMemory;

@@ -10,7 +10,7 @@ ghost use Rattle.testing_rules_model.specs.JudgedRows.{lent};
 ghost use Rattle.testing_rules_model.specs.StandsFor.{StandsFor};
 ghost use Rattle.testing_rules_model.specs.Unstable as unstable_words;
 ghost use Rattle.office_core_breaks.specs.Breaks as rules;
-ghost use Rattle.office_core_breaks.specs.Grounds.{known_on};
+ghost use Rattle.office_core_breaks.specs.steps.Grounds.{known_on};
 ghost use Rattle.office_core_breaks.specs.Texts as texts;
 ghost use Rattle.office_core_breaks.specs.Told.{IsTold, IsToldOf, IsWhyBroken, known_for};
 

@@ -11,11 +11,11 @@ use Rattle.office_store_keeper.specs.declared.keeping.Keeper.{Ghosts}
 use Rattle.office_core_orders.specs.Counted.{Counted}
 use Rattle.office_core_orders.specs.declared.faults.StoreFault.{StoreFault}
 use Rattle.office_core_orders.specs.declared.faults.StoreFault.TheVariants as store
-use Rattle.office_core_orders.specs.ReadsStore.{ReadsStore}
+use Rattle.office_core_orders.specs.steps.ReadsStore.{ReadsStore}
 use Rattle.office_core_orders.specs.StaysTrusted.{StaysTrusted}
 use Rattle.office_core_orders.proofs.LastFacts.{risen_after, risen_before}
 use Rattle.office_core_facts.specs.State.{IsOffice}
-use Rattle.office_core_check.specs.Unread.{Asks, IsEnd, IsReadable, IsTold}
+use Rattle.office_core_check.specs.steps.Unread.{Asks, IsEnd, IsReadable, IsTold}
 use Rattle.office_core_check.specs.Whole.{CountedCheck, IsFound, is_read}
 use Rattle.office_core_check.specs.declared.Checked.{Checked}
 use Rattle.office_core_check.specs.declared.Checked.TheVariants.{Whole, Differs, Unread}

@@ -8,7 +8,8 @@ use Rattle.testing_rules_model.specs.declared.fact_row.FactRow.{FactRow}
 use Rattle.testing_rules_model.specs.declared.facts.UploadIn.{UploadIn}
 use Rattle.testing_rules_model.specs.Covered.{Covered}
 use Rattle.testing_rules_model.specs.FactLists.{FactLists}
-use Rattle.testing_rules_model.specs.FactRows.{build_row, bug_row, delays_row, drop_row, hint_row, is_row, rows_of, source_row, times, unhint_row, upload_row}
+use Rattle.testing_rules_model.specs.FactRows.{is_row, rows_of, times, upload_row}
+use Rattle.testing_rules_model.specs.steps.FactRows.{build_row, bug_row, delays_row, drop_row, hint_row, source_row, unhint_row}
 use Rattle.testing_rules_model.specs.KeptFacts.{KeptFacts}
 use Rattle.testing_rules_model.specs.Suite.{Suite}
 use Rattle.testing_rules_facts.proofs.Shifting.{parts}

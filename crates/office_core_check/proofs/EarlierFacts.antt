@@ -9,7 +9,7 @@ use Rattle.office_core_orders.specs.declared.faults.StoreFault.{StoreFault}
 use Rattle.office_core_facts.specs.State.{IsOffice}
 use Rattle.office_core_why.specs.Why.{IsWhy, IsWhyAfter}
 use Rattle.office_core_why.specs.declared.WhyText.{WhyText}
-use Rattle.office_core_check.specs.Comparing.{IsMade, IsMadeUpTo}
+use Rattle.office_core_check.specs.steps.Comparing.{IsMade, IsMadeUpTo}
 use Rattle.office_core_check.specs.Earlier.{IsAfter, IsBefore, IsToldAfter, IsToldOfRun}
 use Rattle.office_core_check.specs.Whole.{AreOfSenders, IsFinished}
 use Rattle.office_core_check.specs.declared.memory.Bounded.{Bounded}

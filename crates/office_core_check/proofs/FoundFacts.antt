@@ -17,8 +17,8 @@ use Rattle.office_core_facts.specs.Outcome.{covered_items, reports_of, testing_a
 use Rattle.office_core_facts.specs.State.{IsOffice, KeepsFacts}
 use Rattle.office_core_orders.proofs.ReadyCount.{IsReady-down}
 use Rattle.office_core_facts.proofs.ReportFacts.{report_is}
-use Rattle.office_core_check.specs.Comparing.{IsCompared, IsMade, IsReadAs, IsShort, IsUnlike, IsUnmade}
-use Rattle.office_core_check.specs.Reading.{IsFront}
+use Rattle.office_core_check.specs.steps.Comparing.{IsCompared, IsMade, IsReadAs, IsShort, IsUnlike, IsUnmade}
+use Rattle.office_core_check.specs.steps.Reading.{IsFront}
 use Rattle.office_core_check.specs.Whole.{AreOfSenders, IsDifference, IsFound, excuses_at, update_at}
 use Rattle.office_core_check.specs.declared.Checked.{Checked}
 use Rattle.office_core_check.specs.declared.Checked.TheVariants.{Whole, Differs, Unread}

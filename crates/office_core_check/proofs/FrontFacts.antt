@@ -9,7 +9,7 @@ use Rattle.office_mail.specs.Lists.{Lists}
 use Rattle.office_mail.proofs.KeptFacts.{places_total, same_kept, tied}
 use Rattle.office_store_keeper.specs.declared.values.Letter.{Letter}
 use Rattle.office_store_keeper.proofs.KeyCounts.{len_low, keys_same}
-use Rattle.office_core_check.specs.Reading.{IsFront, IsNextLetter, NoneWithin}
+use Rattle.office_core_check.specs.steps.Reading.{IsFront, IsNextLetter, NoneWithin}
 use Rattle.office_core_check.specs.Whole.{AreOfSenders}
 
 at_tie : (b : Bool) (x : List ℕ) (o : Option (List ℕ)) → b ≡ true → cond b (Some x) o ≡ Some x

@@ -5,15 +5,16 @@ use Rattle.std.specs.FinMap.{get, insert}
 use Rattle.std.proofs.lemmas.Result.{IfOk-at_ok}
 use Rattle.office_mail.specs.declared.message.Message.{Message}
 use Rattle.office_mail.specs.declared.message.MailFault.{MailFault}
-use Rattle.office_mail.specs.Kept.{IsPlace, Kept, Place, kept_from, place_of, placed, placed_as}
+use Rattle.office_mail.specs.Kept.{IsPlace, Kept, Place, kept_from, place_of, placed}
 use Rattle.office_mail.specs.Lists.{Lists}
 use Rattle.office_mail.specs.Read.{read}
+use Rattle.office_mail.specs.steps.ReadSteps.{placed_as}
 use Rattle.office_mail.proofs.KeptFacts.{kept_from-free}
 use Rattle.office_core_orders.specs.declared.faults.DeliverFault.{DeliverFault}
 use Rattle.office_core_orders.specs.declared.faults.DeliverFault.TheVariants.{OtherText}
 use Rattle.office_core_orders.specs.declared.faults.Held.{Held}
 use Rattle.office_core_facts.specs.State.{AnswersDelivery, answer_at, answer_by, answer_to, held_at}
-use Rattle.office_core_check.specs.Reading.{IsOther}
+use Rattle.office_core_check.specs.steps.Reading.{IsOther}
 use Rattle.office_core_check.proofs.FrontFacts.{put_here}
 
 -- an answer that a message is held is the one that is due

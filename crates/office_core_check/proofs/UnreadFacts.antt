@@ -11,7 +11,7 @@ use Rattle.office_store_keeper.specs.declared.faults.KeepFault.{KeepFault}
 use Rattle.office_store_keeper.specs.declared.faults.KeepFault.TheVariants.{NoMemory, Store}
 use Rattle.office_store_keeper.specs.declared.keeping.Keeper.{Ghosts}
 use Rattle.office_core_orders.proofs.LastFacts.{risen_after, risen_before}
-use Rattle.office_core_check.specs.Unread.{Asks, IsReadable}
+use Rattle.office_core_check.specs.steps.Unread.{Asks, IsReadable}
 
 counted_keeps : {T : Type 0} (old new : ℕ) (r : Result T KeepFault) → Counted old new r → (n : ℕ) → HasRisen n old → HasRisen n new
 counted_keeps old new (Ok value) e n rose = subst (HasRisen n) (sym e) rose

@@ -41,5 +41,4 @@ checked_text setup checked = checked_words setup checked ++ 10 ∷ []
 -- the exit status: 0 if the store is whole, 1 if it isn't
 abbrev pub status_of_check : Checked → ℕ
 status_of_check (Whole runs) = 0
-status_of_check (Differs difference) = 1
-status_of_check (Unread part) = 1
+status_of_check _ = 1

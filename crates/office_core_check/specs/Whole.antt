@@ -7,7 +7,7 @@ use Rattle.office_mail.specs.Lists.{Lists}
 use Rattle.office_mail.specs.Runs.{IsReady}
 use Rattle.office_store_keeper.specs.Content.{Content, item_from_one}
 use Rattle.office_store_keeper.specs.declared.faults.KeepFault.{KeepFault}
-use Rattle.office_store_keeper.specs.declared.faults.KeepFault.TheVariants.{NoMemory, Store}
+use Rattle.office_store_keeper.specs.declared.faults.KeepFault.TheVariants.{Store}
 use Rattle.office_store_keeper.specs.declared.values.Reports.{Reports}
 use Rattle.office_core_facts.specs.Outcome.{reports_of, testing_after}
 use Rattle.office_core_facts.specs.State.{IsOffice, KeepsFacts}
@@ -63,6 +63,5 @@ is_read (Err fault) = false
 -- the store counts a refusal where a row doesn't read, and where the database failed
 abbrev pub CountedCheck : ℕ → ℕ → Result Checked KeepFault → Type 0
 CountedCheck before after (Ok (Unread part)) = HasRisen before after
-CountedCheck before after (Ok found) = after ≡ before
-CountedCheck before after (Err NoMemory) = after ≡ before
 CountedCheck before after (Err (Store cause)) = HasRisen before after
+CountedCheck before after _ = after ≡ before

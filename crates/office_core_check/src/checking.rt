@@ -4,12 +4,12 @@
 ghost use Rattle.std.specs.Prelude.{◌≡◌, ◌≢◌, ◌≤◌, None, Err, IfOk, length};
 ghost use Rattle.std.specs.FinMap.{len};
 ghost use Rattle.office_store_keeper.specs.MemoryState.{content_of};
-ghost use Rattle.office_core_orders.specs.ReadsStore.{ReadsStore};
+ghost use Rattle.office_core_orders.specs.steps.ReadsStore.{ReadsStore};
 ghost use Rattle.office_core_orders.specs.StaysTrusted.{StaysTrusted};
 ghost use Rattle.office_core_facts.specs.State.{IsOffice};
-ghost use Rattle.office_core_check.specs.Comparing.{IsAnew, IsMade, IsReadAs};
-ghost use Rattle.office_core_check.specs.Reading.{IsFront};
-ghost use Rattle.office_core_check.specs.Unread.{Asks, IsEnd, IsReadable, IsTold};
+ghost use Rattle.office_core_check.specs.steps.Comparing.{IsAnew, IsMade, IsReadAs};
+ghost use Rattle.office_core_check.specs.steps.Reading.{IsFront};
+ghost use Rattle.office_core_check.specs.steps.Unread.{Asks, IsEnd, IsReadable, IsTold};
 ghost use Rattle.office_core_check.specs.Whole.{CountedCheck, IsFound, is_read};
 ghost use Rattle.office_core_check.specs.declared.Checked.TheVariants.{Whole};
 

@@ -7,8 +7,8 @@ ghost use Rattle.office_store_keeper.specs.FactSet.{rows_in};
 ghost use Rattle.office_store_keeper.specs.MemoryState.{content_of};
 ghost use Rattle.office_store_keeper.specs.declared.faults.KeepFault.{KeepFault};
 ghost use Rattle.office_core_orders.specs.declared.faults.StoreFault.TheVariants.{NoMemory};
-ghost use Rattle.office_core_orders.specs.ReadsStore.{ReadsStore};
-ghost use Rattle.office_core_check.specs.Comparing.{AreRunsCompared, IsCompared, IsRunDifference};
+ghost use Rattle.office_core_orders.specs.steps.ReadsStore.{ReadsStore};
+ghost use Rattle.office_core_check.specs.steps.Comparing.{AreRunsCompared, IsCompared, IsRunDifference};
 
 use crate::Difference;
 use crate::memory::Bounded;

@@ -7,9 +7,9 @@ ghost use Rattle.office_mail.specs.Kept.{placed};
 ghost use Rattle.office_store_keeper.specs.Content.{no_content};
 ghost use Rattle.office_store_keeper.specs.MemoryState.{content_of};
 ghost use Rattle.office_core_orders.specs.declared.faults.StoreFault.TheVariants as fault;
-ghost use Rattle.office_core_orders.specs.ReadsStore.{ReadsStore};
-ghost use Rattle.office_core_check.specs.Comparing.{IsAnew, IsTaken, IsAllTaken, IsShort, IsMade};
-ghost use Rattle.office_core_check.specs.Reading.{IsFront, IsOther};
+ghost use Rattle.office_core_orders.specs.steps.ReadsStore.{ReadsStore};
+ghost use Rattle.office_core_check.specs.steps.Comparing.{IsAnew, IsTaken, IsAllTaken, IsShort, IsMade};
+ghost use Rattle.office_core_check.specs.steps.Reading.{IsFront, IsOther};
 
 use crate::Difference;
 use crate::letters::letter_from;

@@ -7,13 +7,13 @@ ghost use Rattle.office_store_keeper.specs.Content.{Content};
 ghost use Rattle.office_store_keeper.specs.MemoryState.{content_of};
 ghost use Rattle.office_core_orders.specs.Counted.{Counted};
 ghost use Rattle.office_core_orders.specs.declared.faults.StoreFault.TheVariants as fault;
-ghost use Rattle.office_core_orders.specs.ReadsStore.{ReadsStore};
+ghost use Rattle.office_core_orders.specs.steps.ReadsStore.{ReadsStore};
 ghost use Rattle.office_core_orders.specs.StaysTrusted.{StaysTrusted};
 ghost use Rattle.office_core_facts.specs.State.{IsSound, state_of};
 ghost use Rattle.office_core_why.specs.declared.WhyText.{WhyText};
-ghost use Rattle.office_core_check.specs.Comparing.{IsAnew, IsMadeAfter, IsMadeUpTo};
+ghost use Rattle.office_core_check.specs.steps.Comparing.{IsAnew, IsMadeAfter, IsMadeUpTo};
 ghost use Rattle.office_core_check.specs.Earlier.{IsAfter, IsBefore, IsToldAfter, IsToldOfRun};
-ghost use Rattle.office_core_check.specs.Reading.{IsFront};
+ghost use Rattle.office_core_check.specs.steps.Reading.{IsFront};
 ghost use Rattle.office_core_check.specs.Whole.{AreOfSenders};
 ghost use Rattle.office_core_check.specs.declared.memory.Bounded.{Bounded};
 

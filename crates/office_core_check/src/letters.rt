@@ -3,8 +3,8 @@
 
 ghost use Rattle.std.specs.Prelude.{◌≡◌, IfOk};
 ghost use Rattle.office_store_keeper.specs.Content.{IsNextNumber, letter_at};
-ghost use Rattle.office_core_orders.specs.ReadsStore.{ReadsStore};
-ghost use Rattle.office_core_check.specs.Reading.{IsFrom, IsLetterFrom, IsNextLetter};
+ghost use Rattle.office_core_orders.specs.steps.ReadsStore.{ReadsStore};
+ghost use Rattle.office_core_check.specs.steps.Reading.{IsFrom, IsLetterFrom, IsNextLetter};
 
 use office_core_orders::StoreFault;
 use office_store_keeper::{Keeper, Letter};

@@ -2,7 +2,7 @@
 ghost use Rattle.std.specs.Prelude.{◌≡◌, Err, None, IsSome};
 ghost use Rattle.office_store_keeper.specs.declared.faults.Cause.TheVariants.{BadRow};
 ghost use Rattle.office_store_keeper.specs.declared.faults.KeepFault.TheVariants.{Store};
-ghost use Rattle.office_core_check.specs.Unread.{Asks, IsReadable};
+ghost use Rattle.office_core_check.specs.steps.Unread.{Asks, IsReadable};
 
 use crate::Part;
 use office_mail::MAX_NUMBER;

@@ -16,11 +16,11 @@ use Rattle.testing_rules_model.proofs.Sets.{first_or_rest, given_by, gives}
 use Rattle.testing_rules_model.specs.declared.facts.UploadIn.{UploadIn}
 use Rattle.testing_rules_model.specs.Covered.{Covered, CoveredItem, upload_of, uploads_in}
 use Rattle.testing_rules_model.specs.FactLists.{FactLists}
-use Rattle.testing_rules_model.specs.KeptFacts.{AreFallen}
+use Rattle.testing_rules_model.specs.steps.KeptFacts.{AreFallen}
 use Rattle.testing_rules_model.specs.SameMessages.{SameElements, HasOneOfEach}
 use Rattle.testing_rules_model.specs.StandsFor.{StandsFor}
 use Rattle.testing_rules_model.specs.Suite.{Suite}
-use Rattle.office_core_facts.specs.Taking.{IsSaidItem, TookAgain}
+use Rattle.office_core_facts.specs.steps.Taking.{IsSaidItem, TookAgain}
 use Rattle.office_core_facts.proofs.WalkFacts.{in_option}
 
 pub again_none : (names : List Text) (s : Covered) (f : FactLists) → s ≡ [] → TookAgain names s f f

@@ -8,9 +8,10 @@ use Rattle.office_mail.specs.Lists.{Lists}
 use Rattle.office_mail.specs.Kept.{Kept}
 use Rattle.office_mail.specs.Runs.{cover, cover_of, orders_to}
 use Rattle.office_store_keeper.specs.Content.{Content}
-use Rattle.office_core_orders.specs.Ready.{GoesOn, HasNumbers, HasPlaces}
+use Rattle.office_core_orders.specs.Ready.{HasNumbers, HasPlaces}
+use Rattle.office_core_orders.specs.steps.Ready.{GoesOn}
 use Rattle.office_core_facts.specs.State.{IsOffice}
-use Rattle.office_core_facts.specs.Counting.{EndsBelow}
+use Rattle.office_core_facts.specs.steps.Counting.{EndsBelow}
 use Rattle.office_core_facts.specs.Seen.{IsTrialCover, IsUnbroken, covers_all}
 
 not_there : {A : Type 0} {P : Type 0} (o : Option A) → IsSome o → o ≡ None → P

@@ -15,7 +15,7 @@ use Rattle.office_mail.specs.Runs.{is_covered}
 use Rattle.office_mail.proofs.KeptFacts.{exact_places}
 use Rattle.office_core_facts.specs.Outcome.{item_at}
 use Rattle.office_core_orders.specs.Ready.{HasPlaces}
-use Rattle.office_core_facts.specs.Walk.{item_of, said_within}
+use Rattle.office_core_facts.specs.steps.Walk.{item_of, said_within}
 use Rattle.office_core_facts.proofs.WalkFacts.{covers_place, entry_found, find_entry, kept_by, of_text, one_of_each, place_covered, place_within, some_of, within_place}
 use Rattle.office_core_facts.specs.Seen.{items_within}
 

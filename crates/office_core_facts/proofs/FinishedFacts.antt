@@ -13,11 +13,12 @@ use Rattle.office_store_keeper.specs.Content.{Content}
 use Rattle.office_store_keeper.specs.FactSet.{rows_in}
 use Rattle.office_core_orders.specs.declared.faults.StoreFault.{StoreFault}
 use Rattle.office_core_orders.proofs.ReadyCount.{orders_to-zero}
-use Rattle.office_core_orders.specs.Ready.{FirstOrders, HasEach}
+use Rattle.office_core_orders.specs.Ready.{HasEach}
+use Rattle.office_core_orders.specs.steps.Ready.{FirstOrders}
 use Rattle.office_core_facts.specs.declared.covered.KnownFacts.{KnownFacts}
 use Rattle.office_core_facts.specs.Known.{AreKnown, said_all}
 use Rattle.office_core_facts.specs.State.{IsOffice}
-use Rattle.office_core_facts.specs.Taking.{HavePutBack}
+use Rattle.office_core_facts.specs.steps.Taking.{HavePutBack}
 use Rattle.office_core_facts.proofs.RestoringFacts.{back_logs, known_whole}
 
 some_or_none : {A : Type 0} {P : Type 0} (o : Option A) → IsSome o → o ≡ None → P

@@ -11,7 +11,8 @@ use Rattle.testing_rules_model.specs.declared.fact_row.FactChanges.{FactChanges}
 use Rattle.testing_rules_model.specs.declared.facts.DelaysIn.{DelaysIn}
 use Rattle.testing_rules_model.specs.FactDifference.{IsChangedFrom, IsDifference}
 use Rattle.testing_rules_model.specs.FactLists.{FactLists}
-use Rattle.testing_rules_model.specs.FactRows.{delays_row, is_row, rows_of, times}
+use Rattle.testing_rules_model.specs.FactRows.{is_row, rows_of, times}
+use Rattle.testing_rules_model.specs.steps.FactRows.{delays_row}
 use Rattle.testing_rules_model.specs.SameMessages.{HasOneOfEach}
 use Rattle.testing_rules_model.specs.Tells.{Tells}
 use Rattle.testing_rules_model.specs.Covered.{Covered}

@@ -28,9 +28,9 @@ use Rattle.office_store_keeper.specs.FactSet.{count_in}
 use Rattle.office_core_facts.specs.declared.covered.KnownFacts.{KnownFacts}
 use Rattle.office_core_facts.specs.Known.{AreKnown, said_all}
 use Rattle.office_core_facts.specs.Outcome.{covered_items}
-use Rattle.office_core_orders.specs.Ready.{FirstOrders}
+use Rattle.office_core_orders.specs.steps.Ready.{FirstOrders}
 use Rattle.office_core_facts.specs.State.{IsOffice}
-use Rattle.office_core_facts.specs.Walk.{said_within}
+use Rattle.office_core_facts.specs.steps.Walk.{said_within}
 use Rattle.office_core_facts.proofs.SaidFacts.{one_of_all, said_at_place}
 use Rattle.office_core_facts.proofs.TakenFacts.{said_within-same}
 use Rattle.office_core_facts.proofs.WalkFacts.{of_text, one_of_each, same_messages, within_place}

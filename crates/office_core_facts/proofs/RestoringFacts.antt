@@ -27,7 +27,7 @@ use Rattle.testing_rules_model.specs.Tells.{Tells}
 use Rattle.testing_rules_model.specs.Covered.{Covered}
 use Rattle.testing_rules_facts.specs.Restored.{Given, restored, said}
 use Rattle.testing_rules_facts.specs.Uploads.{AreByMessage}
-use Rattle.testing_rules_laws.specs.Restored.{restored_all}
+use Rattle.testing_rules_laws.specs.steps.Restored.{restored_all}
 use Rattle.testing_rules_laws.proofs.AllCame.{all_came}
 use Rattle.testing_rules_laws.proofs.Said.{logged_tell, restored_tell}
 use Rattle.office_mail.specs.Kept.{Kept}
@@ -38,7 +38,7 @@ use Rattle.office_store_keeper.proofs.FactSets.{row_is, row_same}
 use Rattle.office_store_keeper.specs.FactSet.{FactSet, count_in, rows_in}
 use Rattle.office_core_facts.specs.Known.{AreUnderWay, said_all}
 use Rattle.office_core_facts.specs.Outcome.{item_at}
-use Rattle.office_core_facts.specs.Taking.{AreNear, HavePutBack, IsItemAt, IsSaidItem}
+use Rattle.office_core_facts.specs.steps.Taking.{AreNear, HavePutBack, IsItemAt, IsSaidItem}
 use Rattle.office_core_facts.proofs.SaidFacts.{said_at_place}
 
 -- one row more

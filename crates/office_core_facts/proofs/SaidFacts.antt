@@ -16,6 +16,7 @@ use Rattle.office_mail.specs.Said.{kind_of}
 use Rattle.office_mail.specs.Setup.{count_of, place_of_role}
 use Rattle.office_mail.proofs.SaidFacts as mail
 use Rattle.office_store_keeper.specs.Provenance.{AreOwnTexts}
+use Rattle.office_store_keeper.proofs.SaidItems.{said_text, saying}
 use Rattle.office_core_facts.specs.Known.{said_all}
 use Rattle.office_core_facts.specs.Outcome.{item_at}
 use Rattle.office_core_facts.proofs.GivenFacts.{says}
@@ -66,7 +67,5 @@ needs_release s n Nothing h = absurd (cc h)
 -- and are told by it, where each text is kept under its own place
 pub told_by_release : (setup : Lists) (kept : Kept) (m : CoveredItem) → count_of Release setup.senders ≡ 1 → AreOwnTexts setup kept → Contains (said_all setup kept) m → IsSome (delays_of m) → m.sender ≡ place_of_role Release setup.senders
 told_by_release setup kept m one own c h =
-    let said = says setup kept m own c in
-    let message = said.message in
-    let role : role_needed (kind_of message.body) ≡ Some Release = ap (λ b. role_needed (kind_of b)) said.body ∙ needs_release m.sender m.number m.item h in
-    sym (ap (λ (p : Place). p.0) said.is_kept.own) ∙ (mail.keeps setup said.is_kept.text message said.is_kept.says).sender Release role one
+    let said = said_text setup kept m (says setup kept m own c) in
+    (mail.keeps setup said.text (saying m) said.reads).sender Release (needs_release m.sender m.number m.item h) one

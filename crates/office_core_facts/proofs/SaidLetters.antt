@@ -11,8 +11,8 @@ use Rattle.office_mail.specs.Kept.{Kept}
 use Rattle.office_store_keeper.specs.declared.values.Letter.{Letter}
 use Rattle.office_store_keeper.specs.Content.{letter_at, letters_within}
 use Rattle.office_core_facts.specs.Outcome.{item_at}
-use Rattle.office_core_facts.specs.Taking.{AreLettersOf}
-use Rattle.office_core_facts.specs.Walk.{said_by, said_in}
+use Rattle.office_core_facts.specs.steps.Taking.{AreLettersOf}
+use Rattle.office_core_facts.specs.steps.Walk.{said_by, said_in}
 use Rattle.office_core_orders.proofs.LetterFacts.{with_number}
 use Rattle.office_core_facts.proofs.WalkFacts.{said_by-more, said_at-none, said_at-text}
 

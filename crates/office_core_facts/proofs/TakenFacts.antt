@@ -28,7 +28,7 @@ use Rattle.office_store_keeper.specs.Content.{Content}
 use Rattle.office_store_keeper.specs.FactSet.{count_in}
 use Rattle.office_core_facts.specs.Known.{AreUnderWay, said_all}
 use Rattle.office_core_facts.specs.Outcome.{item_at}
-use Rattle.office_core_facts.specs.Walk.{said_by, said_within}
+use Rattle.office_core_facts.specs.steps.Walk.{said_by, said_within}
 use Rattle.office_core_facts.proofs.SaidFacts.{said_at_place}
 use Rattle.office_core_facts.proofs.WalkFacts.{by_place, in_option, place_by, place_within, within_place, one_of_each}
 

@@ -25,8 +25,8 @@ use Rattle.office_mail.specs.Read.{read}
 use Rattle.office_mail.specs.Kept.{Kept, Place, IsPlace, place_cmp}
 use Rattle.office_mail.specs.Runs.{cover, covered, is_covered}
 use Rattle.office_mail.proofs.KeptFacts.{places_total, exact_places, tied}
-use Rattle.office_core_facts.specs.Outcome.{item_in_body, item_in_answer, item_at, covered_items}
-use Rattle.office_core_facts.specs.Walk.{item_of, said_at, said_by, said_within}
+use Rattle.office_core_facts.specs.Outcome.{item_in_body, item_at, covered_items}
+use Rattle.office_core_facts.specs.steps.Walk.{item_in_answer, item_of, said_at, said_by, said_within}
 
 some_same : {A : Type 0} (x y : A) → Some x ≡ Some y → x ≡ y
 some_same x y e = cc

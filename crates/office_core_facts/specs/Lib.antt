@@ -1,8 +1,6 @@
-pub mod Counting
 pub mod Known
 pub mod OfficeState
 pub mod Outcome
 pub mod Seen
 pub mod State
-pub mod Taking
-pub mod Walk
+pub mod steps

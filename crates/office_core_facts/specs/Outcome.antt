@@ -1,6 +1,7 @@
 -- What runs write and leave.
-use Rattle.std.specs.Prelude.{ℕ, zero, suc, List, [], ◌∷◌, ◌++◌, Option, Some, None, Result, Ok, Err}
+use Rattle.std.specs.Prelude.{ℕ, zero, suc, List, [], ◌∷◌, ◌++◌, Option, Some, None, option_and_then}
 use Rattle.std.specs.List.{filter_map}
+use Rattle.std.specs.Result.{result_ok}
 use Rattle.std.specs.FinMap.{entries}
 use Rattle.jiff_core.specs.declared.civil.date.Date.{Date}
 use Rattle.testing_rules_model.specs.declared.excuse.Excuse.{Excuse}
@@ -10,15 +11,12 @@ use Rattle.testing_rules_model.specs.Excuses.{excuses_of}
 use Rattle.testing_rules_model.specs.Updates.{update_of}
 use Rattle.testing_rules_model.specs.Updates as updates
 use Rattle.testing_rules_reports.specs.Reports as texts
-use Rattle.office_mail.specs.declared.message.Message.{Message}
-use Rattle.office_mail.specs.declared.message.MailFault.{MailFault}
 use Rattle.office_mail.specs.declared.message.Body.{Body}
 use Rattle.office_mail.specs.declared.message.Body.TheVariants.{Item, Run}
 use Rattle.office_mail.specs.Lists.{Lists}
 use Rattle.office_mail.specs.Read.{read}
 use Rattle.office_mail.specs.Kept.{Kept, Place}
 use Rattle.office_mail.specs.Runs.{orders_to, latest_day, covered}
-use Rattle.office_store_keeper.specs.declared.values.Finished.{Finished}
 use Rattle.office_store_keeper.specs.declared.values.Reports.{Reports}
 
 -- testing as the rules see it
@@ -30,13 +28,9 @@ abbrev pub item_in_body : Place → Body → Option CoveredItem
 item_in_body p (Item item) = Some (record { sender = p.0; number = p.1; item = item })
 item_in_body p (Run order) = None
 
-abbrev pub item_in_answer : Place → Result Message MailFault → Option CoveredItem
-item_in_answer p (Ok message) = item_in_body p message.body
-item_in_answer p (Err fault) = None
-
 -- what a kept text says at its place
 unfoldable pub item_at : Lists → Place × List ℕ → Option CoveredItem
-item_at setup e = item_in_answer e.0 (read setup e.1)
+item_at setup e = option_and_then (λ message. item_in_body e.0 message.body) (result_ok (read setup e.1))
 
 -- the covered messages of run k
 unfoldable pub covered_items : Lists → Kept → ℕ → Covered
@@ -48,24 +42,13 @@ pub record Outcome : Type 0 where
   pub excuses : List ℕ
   pub updates : List ℕ
 
--- the outcome in what a finished run leaves
-abbrev pub outcome_in : Finished → Outcome
-outcome_in done = record { testing = done.testing; excuses = done.excuses; updates = done.updates }
-
--- the reports on excuses and decisions, and testing as the decisions leave it
-abbrev pub reported : Lists → ℕ → Date → List Excuse → updates.Outcome → Outcome
-reported setup run date excuses update = record {
-  testing = update.suite;
-  excuses = texts.excuses_text setup.archs run date excuses;
-  updates = texts.update_text setup.archs run date update.decisions;
-}
-
 -- The rules of a run, from its number, its date, its covered messages and the testing before it. First come the
 -- excuses, then what is decided from them (Debian Developer's Reference 5.13.2).
 unfoldable pub outcome : Lists → ℕ → Date → Covered → Testing → Outcome
 outcome setup run date mail testing =
     let excuses : List Excuse = excuses_of setup.archs mail testing date in
-    reported setup run date excuses (update_of setup.archs mail excuses testing)
+    let update : updates.Outcome = update_of setup.archs mail excuses testing in
+    record { testing = update.suite; excuses = texts.excuses_text setup.archs run date excuses; updates = texts.update_text setup.archs run date update.decisions }
 
 -- nothing has run
 abbrev pub at_start : Outcome

@@ -4,10 +4,10 @@
 ghost use Rattle.std.specs.Prelude.{◌≡◌, ◌≤◌, ◌<◌, ℕ, IfOk, IfErr, IfSome, length, slice_index};
 ghost use Rattle.testing_rules_model.specs.StandsFor.{StandsFor};
 ghost use Rattle.office_mail.specs.Runs.{cover_of, orders_to};
-ghost use Rattle.office_core_orders.specs.ReadsStore.{ReadsStore};
+ghost use Rattle.office_core_orders.specs.steps.ReadsStore.{ReadsStore};
 ghost use Rattle.office_core_facts.specs.Known.{AreKnown};
 ghost use Rattle.office_core_facts.specs.State.{IsOffice};
-ghost use Rattle.office_core_facts.specs.Walk.{said_within};
+ghost use Rattle.office_core_facts.specs.steps.Walk.{said_within};
 
 use crate::covered::{KnownFacts, is_covered};
 use crate::finished::{facts_within, take_to};

@@ -2,9 +2,10 @@
 #![tactic(auto, using(office_core_orders::proofs::LastFacts::lasting))]
 
 ghost use Rattle.std.specs.Prelude.{◌≡◌, ◌≤◌, IfOk};
-ghost use Rattle.office_core_orders.specs.ReadsStore.{ReadsStore};
-ghost use Rattle.office_core_orders.specs.Ready.{GoesOn, HasNumbers};
-ghost use Rattle.office_core_facts.specs.Counting.{EndsBelow};
+ghost use Rattle.office_core_orders.specs.steps.ReadsStore.{ReadsStore};
+ghost use Rattle.office_core_orders.specs.Ready.{HasNumbers};
+ghost use Rattle.office_core_orders.specs.steps.Ready.{GoesOn};
+ghost use Rattle.office_core_facts.specs.steps.Counting.{EndsBelow};
 ghost use Rattle.office_core_facts.specs.Seen.{IsUnbroken};
 
 use office_core_orders::StoreFault;

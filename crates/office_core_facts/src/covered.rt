@@ -14,12 +14,12 @@ ghost use Rattle.office_mail.specs.Runs.{cover_of, orders_to};
 ghost use Rattle.office_store_keeper.specs.Content.{Content};
 ghost use Rattle.office_store_keeper.specs.FactSet.{rows_in};
 ghost use Rattle.office_core_facts.specs.Known.{AreKnown, AreUnderWay, said_all};
-ghost use Rattle.office_core_orders.specs.ReadsStore.{ReadsStore};
+ghost use Rattle.office_core_orders.specs.steps.ReadsStore.{ReadsStore};
 ghost use Rattle.office_core_facts.specs.Outcome.{item_at};
-ghost use Rattle.office_core_orders.specs.Ready.{FirstOrders};
+ghost use Rattle.office_core_orders.specs.steps.Ready.{FirstOrders};
 ghost use Rattle.office_core_facts.specs.State.{IsOffice};
-ghost use Rattle.office_core_facts.specs.Taking.{AreLettersOf, HavePutBack};
-ghost use Rattle.office_core_facts.specs.Walk.{said_by, said_in, said_within};
+ghost use Rattle.office_core_facts.specs.steps.Taking.{AreLettersOf, HavePutBack};
+ghost use Rattle.office_core_facts.specs.steps.Walk.{said_by, said_in, said_within};
 
 use crate::restoring::put_back;
 use crate::stretch::Stretch;

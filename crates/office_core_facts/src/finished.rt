@@ -7,12 +7,13 @@ ghost use Rattle.testing_rules_model.specs.StandsFor.{StandsFor};
 ghost use Rattle.testing_rules_model.specs.Suite.{Suite};
 ghost use Rattle.office_mail.specs.Runs.{cover_of, orders_to};
 ghost use Rattle.office_store_keeper.specs.FactSet.{rows_in};
-ghost use Rattle.office_core_orders.specs.ReadsStore.{ReadsStore};
-ghost use Rattle.office_core_orders.specs.Ready.{FirstOrders, HasEach};
+ghost use Rattle.office_core_orders.specs.steps.ReadsStore.{ReadsStore};
+ghost use Rattle.office_core_orders.specs.Ready.{HasEach};
+ghost use Rattle.office_core_orders.specs.steps.Ready.{FirstOrders};
 ghost use Rattle.office_core_facts.specs.Known.{AreKnown, said_all};
 ghost use Rattle.office_core_facts.specs.State.{IsOffice};
-ghost use Rattle.office_core_facts.specs.Taking.{HavePutBack};
-ghost use Rattle.office_core_facts.specs.Walk.{said_within};
+ghost use Rattle.office_core_facts.specs.steps.Taking.{HavePutBack};
+ghost use Rattle.office_core_facts.specs.steps.Walk.{said_within};
 
 use crate::covered::{KnownFacts, finished_facts, has_all, known_at, take_on};
 use crate::restoring::put_back;

@@ -9,8 +9,8 @@ ghost use Rattle.testing_rules_model.specs.declared.fact_row.FactRow.{FactRow as
 ghost use Rattle.office_mail.specs.Kept.{Kept, Place};
 ghost use Rattle.office_core_facts.specs.Known.{said_all};
 ghost use Rattle.office_core_facts.specs.Outcome.{item_at, item_in_body};
-ghost use Rattle.office_core_orders.specs.ReadsStore.{ReadsStore};
-ghost use Rattle.office_core_facts.specs.Taking.{AreLettersOf, AreNear, HavePutBack, IsItemAt, IsNear, IsSaidItem};
+ghost use Rattle.office_core_orders.specs.steps.ReadsStore.{ReadsStore};
+ghost use Rattle.office_core_facts.specs.steps.Taking.{AreLettersOf, AreNear, HavePutBack, IsItemAt, IsNear, IsSaidItem};
 
 use deb_control::NoMemory;
 use office_core_orders::stored::BLOCK;

@@ -19,9 +19,9 @@ ghost use Rattle.office_store_keeper.specs.Provenance.{AreOwnTexts};
 ghost use Rattle.office_core_facts.specs.Known.{AreUnderWay};
 ghost use Rattle.office_core_facts.specs.Outcome.{item_at};
 ghost use Rattle.testing_rules_facts.specs.Restored.{said};
-ghost use Rattle.office_core_orders.specs.ReadsStore.{ReadsStore};
-ghost use Rattle.office_core_facts.specs.Taking.{AreLettersOf, TookAgain};
-ghost use Rattle.office_core_facts.specs.Walk.{said_by, said_in, said_within};
+ghost use Rattle.office_core_orders.specs.steps.ReadsStore.{ReadsStore};
+ghost use Rattle.office_core_facts.specs.steps.Taking.{AreLettersOf, TookAgain};
+ghost use Rattle.office_core_facts.specs.steps.Walk.{said_by, said_in, said_within};
 
 use crate::covered::take_text;
 use crate::restoring::item_in;

@@ -22,11 +22,12 @@ use Rattle.testing_rules_model.specs.declared.suite.RowIn.{RowIn}
 use Rattle.testing_rules_model.specs.declared.update.Decision.TheVariants.{RemoveDone, RemoveRefused, EasyDone, EasyRefused, EasyNotCandidate}
 use Rattle.testing_rules_model.specs.declared.update.Offender.{Offender}
 use Rattle.testing_rules_model.specs.Excuses.{testing_version}
-use Rattle.testing_rules_model.specs.LentItems.{as_moved}
+use Rattle.testing_rules_model.specs.steps.LentItems.{as_moved}
 use Rattle.testing_rules_model.specs.Moves.{group_sources, move_group, offender_of, remove_source}
 use Rattle.testing_rules_model.specs.Suite.{Suite}
 use Rattle.testing_rules_model.specs.Unstable.{is_in_force}
-use Rattle.testing_rules_model.specs.Updates.{Outcome, decide, nothing, in_turn, removals_of, remove_version, remove_item, is_candidate, is_in_testing, is_remaining, move_as_one, move_items, move_easy, moved_alone, is_allowed_alone, accepted, single_moves, remaining, update_by}
+use Rattle.testing_rules_model.specs.Updates.{Outcome, decide, nothing, in_turn, removals_of, remove_version, remove_item, is_candidate, is_in_testing, is_remaining, move_as_one, move_items, move_easy, moved_alone, single_moves, remaining, update_by}
+use Rattle.testing_rules_model.specs.steps.Updates.{is_allowed_alone, accepted}
 use Rattle.testing_rules_model.proofs.Least.{from_filter}
 
 -- Lists.

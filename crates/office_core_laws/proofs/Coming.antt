@@ -19,7 +19,8 @@ use Rattle.testing_rules_model.specs.declared.facts.UploadIn.{UploadIn}
 use Rattle.testing_rules_model.specs.declared.suite.RowIn.{RowIn}
 use Rattle.testing_rules_model.specs.declared.suite.SourceIn.{SourceIn}
 use Rattle.testing_rules_model.specs.Covered.{Covered, uploads_in}
-use Rattle.testing_rules_model.specs.Excuses.{Ground, days_needed, age_of, excuse_on, excuses_of, ground_of, has_current, is_news, reasons_of, testing_version, is_new_bug, is_missing_on, is_blocked, is_removal_asked}
+use Rattle.testing_rules_model.specs.Excuses.{days_needed, age_of, excuses_of, has_current, is_news, reasons_of, testing_version, is_new_bug, is_missing_on, is_blocked, is_removal_asked}
+use Rattle.testing_rules_model.specs.steps.Grounds.{Ground, excuse_on, ground_of}
 use Rattle.testing_rules_model.specs.Moves.{as_source, group_sources, is_row_of, move_group, put_source, remove_source, row_cmp, row_key, source_in}
 use Rattle.testing_rules_model.specs.Suite.{Suite}
 use Rattle.testing_rules_model.specs.Unstable.{is_current, hints_by_number, place_numbers, unhints_by_number, unstable_rows, unstable_source, unstable_sources}

@@ -26,7 +26,9 @@ use Rattle.testing_rules_model.specs.declared.facts.UnhintIn.{UnhintIn}
 use Rattle.testing_rules_model.specs.declared.facts.UploadIn.{UploadIn}
 use Rattle.testing_rules_model.specs.declared.suite.RowIn.{RowIn}
 use Rattle.testing_rules_model.specs.Covered.{Covered, CoveredItem, uploads_in}
-use Rattle.testing_rules_model.specs.Excuses.{Ground, age_of, asked_days, asks_block, asks_removal, blocks, days_of, delays_in_force, excuse_on, excuses_of, excuses_on, ground_of, has_current, hinted_days, is_blocked, is_missing_on, is_new_bug, is_news, is_removal_asked, lifts_block, most_urgent, removes, testing_version, unblocks}
+use Rattle.testing_rules_model.specs.Excuses.{age_of, asked_days, asks_removal, blocks, days_of, delays_in_force, excuses_of, has_current, hinted_days, is_blocked, is_missing_on, is_new_bug, is_news, is_removal_asked, most_urgent, removes, testing_version, unblocks}
+use Rattle.testing_rules_model.specs.steps.Excuses.{asks_block, lifts_block}
+use Rattle.testing_rules_model.specs.steps.Grounds.{Ground, excuse_on, excuses_on, ground_of}
 use Rattle.testing_rules_model.specs.Suite.{Suite}
 use Rattle.testing_rules_model.specs.Unstable.{bug_states, hint_order, hints_by_number, in_force, is_in_force, last_delays, place_numbers, unhints_by_number, unstable_rows, unstable_sources}
 use Rattle.testing_rules_model.specs.Updates.{Outcome, in_turn, move_easy, move_singles, removals_of, remove_item, update_by, update_of}

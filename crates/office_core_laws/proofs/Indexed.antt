@@ -23,32 +23,29 @@ use Rattle.testing_rules_model.specs.Unstable.{unstable_rows}
 use Rattle.testing_rules_model.proofs.Least.{from_filter}
 use Rattle.testing_rules_model.proofs.Orders.{text_order}
 use Rattle.testing_rules_model.proofs.Sets.{first_or_rest, mapped_from, maps}
-use Rattle.office_core_laws.specs.FromUnstable.{AreAmong, IsFromUnstable, built_sources, suite_items, told_items}
+use Rattle.office_core_laws.specs.FromUnstable.{AreAmong, IsFromUnstable, built_sources, package_item, suite_items, told_items}
 
 abbrev source_item : SourceIn → Item
 source_item x = record { architecture = codes "source"; name = x.name; version = x.version }
 
-abbrev row_item : RowIn → Item
-row_item r = record { architecture = r.binary.architecture; name = r.binary.name; version = r.binary.version }
-
 module _ (archs : List Text) (s : Covered) (old new : Suite) (from : IsFromUnstable archs s old new) where
   source_from : (x : SourceIn) → Contains new.sources x → Contains (suite_items old) (source_item x) ⊎ Contains (told_items archs s) (source_item x)
   source_from x c = elim (from.sources x c) [
-    | inl was ↦ inl (Contains-append_left (map source_item old.sources) (map row_item old.rows) (source_item x) (maps source_item old.sources x was))
-    | inr came ↦ inr (Contains-append_left (map source_item (built_sources archs s)) (map row_item (unstable_rows archs s)) (source_item x) (maps source_item (built_sources archs s) x came))
+    | inl was ↦ inl (Contains-append_left (map source_item old.sources) (map package_item old.rows) (source_item x) (maps source_item old.sources x was))
+    | inr came ↦ inr (Contains-append_left (map source_item (built_sources archs s)) (map package_item (unstable_rows archs s)) (source_item x) (maps source_item (built_sources archs s) x came))
   ]
 
-  row_from : (r : RowIn) → Contains new.rows r → Contains (suite_items old) (row_item r) ⊎ Contains (told_items archs s) (row_item r)
+  row_from : (r : RowIn) → Contains new.rows r → Contains (suite_items old) (package_item r) ⊎ Contains (told_items archs s) (package_item r)
   row_from r c = elim (from.rows r c) [
-    | inl was ↦ inl (Contains-append_right (map source_item old.sources) (map row_item old.rows) (row_item r) (maps row_item old.rows r was))
-    | inr came ↦ inr (Contains-append_right (map source_item (built_sources archs s)) (map row_item (unstable_rows archs s)) (row_item r) (maps row_item (unstable_rows archs s) r came))
+    | inl was ↦ inl (Contains-append_right (map source_item old.sources) (map package_item old.rows) (package_item r) (maps package_item old.rows r was))
+    | inr came ↦ inr (Contains-append_right (map source_item (built_sources archs s)) (map package_item (unstable_rows archs s)) (package_item r) (maps package_item (unstable_rows archs s) r came))
   ]
 
   -- each item of the new testing is one of the old one, or unstable's
   pub item_from : (x : Item) → Contains (suite_items new) x → Contains (suite_items old) x ⊎ Contains (told_items archs s) x
-  item_from x c = elim (Contains-append_cases (map source_item new.sources) (map row_item new.rows) x c) [
+  item_from x c = elim (Contains-append_cases (map source_item new.sources) (map package_item new.rows) x c) [
     | inl source ↦ let m = mapped_from source_item new.sources x source in subst (λ y. Contains (suite_items old) y ⊎ Contains (told_items archs s) y) m.2 (source_from m.0 m.1)
-    | inr row ↦ let m = mapped_from row_item new.rows x row in subst (λ y. Contains (suite_items old) y ⊎ Contains (told_items archs s) y) m.2 (row_from m.0 m.1)
+    | inr row ↦ let m = mapped_from package_item new.rows x row in subst (λ y. Contains (suite_items old) y ⊎ Contains (told_items archs s) y) m.2 (row_from m.0 m.1)
   ]
 
 -- What a list lacks.

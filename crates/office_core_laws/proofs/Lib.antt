@@ -1,7 +1,11 @@
 pub mod Candidates
+pub mod CheckedItems
+pub mod CheckedRuns
 pub mod Coming
 pub mod EasyHints
 pub mod Indexed
+pub mod MailedItems
+pub mod MailedRuns
 pub mod Moving
 pub mod OrderCovers
 pub mod OrderDay
@@ -10,5 +14,8 @@ pub mod OrderSenders
 pub mod OrderTaken
 pub mod OrderText
 pub mod OrderWords
+pub mod OrderedRuns
+pub mod PrintedItems
 pub mod RowOrder
 pub mod StuckRuns
+pub mod UnstableItems

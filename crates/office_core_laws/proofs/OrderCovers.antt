@@ -6,10 +6,11 @@ use Rattle.std.specs.List.{AllByRecursion, filter, flat_map, list_all, slice_spl
 use Rattle.std.proofs.lemmas.Bool.{not-true}
 use Rattle.std.proofs.lemmas.List.{append-nil, append_assoc}
 use Rattle.std.proofs.lemmas.List.Splits.{slice_split_at, slice_split_none}
-use Rattle.deb_control.specs.Relations.{◌>>=◌, items, is_comma, is_qualifier_char}
+use Rattle.deb_control.specs.Relations.{◌>>=◌, items, is_qualifier_char}
+use Rattle.deb_control.specs.steps.ClauseSteps.{is_comma}
 use Rattle.deb_control.specs.Text.{is_white, trim_white}
 use Rattle.office_mail_setup.specs.Lists.{Lists}
-use Rattle.office_mail_setup.specs.Steps.{each_of, needs}
+use Rattle.office_mail_setup.specs.WholeText.{each_of, needs}
 use Rattle.office_mail.specs.Covers.{BadCovers, cover_in, cover_of_words, covers_in, may_cover, numbers_by_sender}
 use Rattle.office_mail.specs.declared.message.MailFault.{MailFault}
 use Rattle.testing_rules_items.specs.Distinct.{is_distinct}

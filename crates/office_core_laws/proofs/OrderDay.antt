@@ -1,6 +1,5 @@
 -- The day of an order.
 use Rattle.std.proofs.Common.{◌≡◌, ℕ, ◌+◌, ◌*◌, ◌/◌, ◌%◌, ◌<◌, ◌≤◌, Bool, true, false, nat_le, List, [], ◌∷◌, ◌++◌, length, Some, pos, T, refl, ap, subst, ◌∙◌, arith, ℤ}
-use Rattle.std.specs.Cmp.Derive.{both_true}
 use Rattle.std.specs.Char.{is_ascii_digit, digit_value}
 use Rattle.std.specs.List.{list_all}
 use Rattle.std.specs.Str.Parse.{digits_value}
@@ -8,9 +7,10 @@ use Rattle.std.proofs.lemmas.Bool.Decides.{nat_tests}
 use Rattle.jiff_core.specs.declared.civil.date.Date.{Date}
 use Rattle.jiff_core.specs.Calendar.{IsYear, days_in_month}
 use Rattle.jiff.specs.Words.{date_text}
-use Rattle.jiff.proofs.Family.{same_date}
-use Rattle.office_mail_setup.specs.Calendar.{is_real_day, date_of, day_if, day_if_real}
-use Rattle.office_mail_setup.specs.Values.{is_day_form, day_in}
+use Rattle.office_mail_setup.specs.Calendar.{IsDay}
+use Rattle.office_mail_setup.specs.Values.{is_day_form, IsDayText}
+use Rattle.office_mail.specs.Days.{day_in}
+use Rattle.office_mail.proofs.DayFacts.{day_is}
 use Rattle.deb_control.specs.Relations.{is_qualifier_char}
 use Rattle.office_core_laws.specs.OrderTaken.{IsFrom1970}
 use Rattle.office_core_laws.proofs.OrderWords.{IsWord}
@@ -67,24 +67,12 @@ module _ (y m d : ℕ) (year : y < 10_000) (month : m < 100) (day : d < 100) whe
   unfolding is_day_form
   form = rw (four_digits y year, two_digits m month, two_digits d day) refl
 
-  read_as : day_in text ≡ day_if_real y m d
-  unfolding day_in
-  read_as = rw (form, four_value y year, two_value m month, two_value d day) refl
-
-test_of : (a b : ℕ) → a ≤ b → nat_le a b ≡ true
-test_of a b h = grind (arith, nat_tests)
+  read_as : (date : Date) → IsDay y m d date → IsDayText text date
+  read_as date is = (form, rw (four_value y year, two_value m month, two_value d day) is)
 
 yes : (b : Bool) → T b → b ≡ true
 yes true t = refl
 yes false t = absurd t
-
-same_as : (y m d : ℕ) (e : is_real_day y m d ≡ true) (date : Date) → date.year ≡ pos y → date.month ≡ m → date.day ≡ d → date_of y m d e ≡ date
-unfolding date_of
-same_as y m d e date is_year is_month is_day = same_date (date_of y m d e) date (rw (is_year, is_month, is_day) refl)
-
-real_at : (y m d : ℕ) (real : Bool) (e : is_real_day y m d ≡ real) (date : Date) → real ≡ true → date.year ≡ pos y → date.month ≡ m → date.day ≡ d → day_if y m d real e ≡ Some date
-real_at y m d true e date so is_year is_month is_day = ap Some (same_as y m d e date is_year is_month is_day)
-real_at y m d false e date so is_year is_month is_day = absurd (cc)
 
 upper : (z : ℤ) (y : ℕ) → z ≡ pos y → IsYear z → nat_le y 9_999 ≡ true
 upper z y e is = let at : IsYear (pos y) = subst IsYear e is in yes (nat_le y 9_999) at.1.le
@@ -123,16 +111,8 @@ day_word day from =
     rw from.is (record { chars = chars_at from.year day.month day.day small.0 small.1 small.2; some = omega arith }, refl)
 
 pub day_reads : (day : Date) → IsFrom1970 day → day_in (date_text day) ≡ Some day
-unfolding day_if_real
 day_reads day from =
-    let y = from.year in
-    let top : nat_le y 9_999 ≡ true = upper day.year y from.is day.year_in in
-    let year : y < 10_000 = grind (arith, nat_tests) in
-    let month : day.month < 100 = omega (arith, day.month_in.0, day.month_in.1) in
-    let less : day.day < 100 = omega (arith, day.day_in.1, small_month day.year day.month) in
-    let real : is_real_day y day.month day.day ≡ true =
-    both_true (both_true (test_of 1_970 y from.low) top)
-    (both_true (both_true (test_of 1 day.month day.month_in.0) (test_of day.month 12 day.month_in.1))
-    (both_true (test_of 1 day.day day.day_in.0) (test_of day.day (days_in_month (pos y) day.month) (subst (λ (z : ℤ). day.day ≤ days_in_month z day.month) from.is day.day_in.1)))) in
-    rw from.is (read_as y day.month day.day year month less)
-    ∙ real_at y day.month day.day (is_real_day y day.month day.day) refl day real from.is refl refl
+    let small = below day from in
+    let reads : IsDayText (text_of from.year day.month day.day) day = read_as from.year day.month day.day small.0 small.1 small.2 day (from.low, (from.is, refl, refl)) in
+    let written : date_text day ≡ text_of from.year day.month day.day = rw from.is refl in
+    ap day_in written ∙ (day_is (text_of from.year day.month day.day) day).1 reads

@@ -21,10 +21,11 @@ use Rattle.office_mail.specs.Covers.{covers_in, may_cover, numbers_by_sender}
 use Rattle.office_mail.specs.Kept.{Kept}
 use Rattle.office_mail.specs.Lists.{Lists}
 use Rattle.office_mail.specs.Read.{read, sender_named}
-use Rattle.office_mail.specs.Runs.{order_at, order_in, order_in_answer, runs}
+use Rattle.office_mail.specs.Runs.{order_at, order_in, runs}
 use Rattle.office_mail.specs.declared.message.Body.TheVariants.{Run}
 use Rattle.office_mail.specs.declared.message.Message.{Message}
 use Rattle.office_mail.specs.declared.message.RunOrder.{RunOrder}
+use Rattle.office_mail.specs.steps.ReadSteps.{order_in_answer}
 use Rattle.office_mail.proofs.KeptFacts.{kept_from-Within, kept_from-free, places_total}
 use Rattle.office_mail.proofs.RunFacts.{IsReady-later}
 use Rattle.deb_control.specs.Text.{trim_white}

@@ -19,8 +19,9 @@ use Rattle.office_mail_setup.specs.declared.kind.Kind.TheVariants as kind
 use Rattle.office_mail_setup.specs.declared.setup.Role.TheVariants.{Runs}
 use Rattle.office_mail_setup.specs.Kinds.{kind_named}
 use Rattle.office_mail_setup.specs.Lists.{Lists}
-use Rattle.office_mail_setup.specs.Steps.{Paragraph, needs, whole, first_of, rest_of}
-use Rattle.office_mail_setup.specs.Values.{day_in, number_in}
+use Rattle.office_mail_setup.specs.WholeText.{Paragraph, needs, whole, first_of, rest_of}
+use Rattle.office_mail_setup.specs.Values.{number_in}
+use Rattle.office_mail.specs.Days.{day_in}
 use Rattle.office_mail.specs.Covers.{covers_in}
 use Rattle.office_mail.specs.Fields.{required, has_fields, value_in}
 use Rattle.office_mail.specs.Read.{body_of, has_fields_of, knows_archs, message_of, order_of, paragraphs_say, read, sender_named}

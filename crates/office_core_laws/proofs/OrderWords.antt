@@ -14,8 +14,10 @@ use Rattle.std.proofs.lemmas.List.Folds.{list_all-append}
 use Rattle.std.proofs.lemmas.List.Splits.{slice_split_at, slice_split_none, slice_split-cons_yes}
 use Rattle.std.proofs.lemmas.List.Sums.{AllPass-from_list_all}
 use Rattle.deb_control.specs.Paragraphs.{not_empty}
-use Rattle.deb_control.specs.Relations.{is_comma, is_qualifier_char}
-use Rattle.deb_control.specs.Text.{is_line_feed, is_white, trim_white, trim_end_white}
+use Rattle.deb_control.specs.Relations.{is_qualifier_char}
+use Rattle.deb_control.specs.steps.ClauseSteps.{is_comma}
+use Rattle.deb_control.specs.Text.{is_line_feed, is_white, trim_white}
+use Rattle.deb_control.specs.steps.ReaderSteps.{trim_end_white}
 use Rattle.deb_control.proofs.Split.{left_after_yes, left_after_no}
 use Rattle.office_mail_setup.specs.Values.{is_number, number_in, words}
 

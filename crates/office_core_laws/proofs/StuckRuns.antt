@@ -34,7 +34,8 @@ use Rattle.office_mail.proofs.KeptFacts.{placed_ok}
 use Rattle.office_mail.proofs.SaidFacts as mail
 use Rattle.office_store_keeper.specs.Provenance.{AreOwnTexts}
 use Rattle.office_store_keeper.specs.declared.values.Letter.{Letter}
-use Rattle.office_core_facts.specs.Outcome.{item_at, item_in_answer, item_in_body, outcome, testing_after}
+use Rattle.office_core_facts.specs.Outcome.{item_at, item_in_body, outcome, testing_after}
+use Rattle.office_core_facts.specs.steps.Walk.{item_in_answer}
 use Rattle.office_core_facts.specs.Seen.{items_within, release}
 use Rattle.office_core_facts.proofs.CoveredFacts.{says_within}
 use Rattle.office_core_outcome.specs.Hints.{hint_letter, hint_letters, with_letters}

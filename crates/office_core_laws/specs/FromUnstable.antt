@@ -20,11 +20,13 @@ pub record IsFromUnstable (archs : List Text) (s : Covered) (old new : Suite) : 
   pub sources : (x : SourceIn) → Contains new.sources x → Contains old.sources x ⊎ Contains (built_sources archs s) x
   pub rows : (r : RowIn) → Contains new.rows r → Contains old.rows r ⊎ Contains (unstable_rows archs s) r
 
--- sources and rows as items of an archive, byte for byte
+-- a package as an item of an archive, byte for byte
+abbrev pub package_item : RowIn → Item
+package_item r = record { architecture = r.binary.architecture; name = r.binary.name; version = r.binary.version }
+
+-- sources and their packages as items
 abbrev pub items_of : List SourceIn → List RowIn → List Item
-items_of sources rows =
-    map (λ x. record { architecture = codes "source"; name = x.name; version = x.version }) sources
-    ++ map (λ r. record { architecture = r.binary.architecture; name = r.binary.name; version = r.binary.version }) rows
+items_of sources rows = map (λ x. record { architecture = codes "source"; name = x.name; version = x.version }) sources ++ map package_item rows
 
 -- what of unstable a run may bring into testing, and what testing has
 abbrev pub told_items : List Text → Covered → List Item

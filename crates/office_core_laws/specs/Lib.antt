@@ -1,3 +1,6 @@
+pub mod Checked
 pub mod FromUnstable
+pub mod Mailed
 pub mod OrderTaken
+pub mod Printed
 pub mod StuckStays

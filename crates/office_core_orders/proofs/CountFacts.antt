@@ -6,7 +6,7 @@ use Rattle.office_mail.specs.Lists.{Lists}
 use Rattle.office_mail.specs.Kept.{Kept, Place, Within}
 use Rattle.office_mail.proofs.RunFacts.{order_at-later, orders_to-later}
 use Rattle.office_store_keeper.specs.Content.{Content}
-use Rattle.office_core_orders.specs.Ready.{FirstOrders, IsCounted}
+use Rattle.office_core_orders.specs.steps.Ready.{FirstOrders, IsCounted}
 use Rattle.office_core_orders.proofs.ReadyCount.{orders_to-zero}
 
 none_there : (m s : ℕ) → slice_index (replicate m 0) s ≡ 0

@@ -4,7 +4,7 @@ use Rattle.office_store_keeper.specs.declared.keeping.Keeper.{Ghosts}
 use Rattle.office_core_orders.specs.Counted.{Counted}
 use Rattle.office_core_orders.specs.declared.faults.StoreFault.{StoreFault}
 use Rattle.office_core_orders.specs.declared.faults.StoreFault.TheVariants.{NoMemory, Store}
-use Rattle.office_core_orders.specs.ReadsStore.{ReadsStore}
+use Rattle.office_core_orders.specs.steps.ReadsStore.{ReadsStore}
 
 counted_back : {U : Type 0} (result : Result U StoreFault) (n m : ℕ) → m ≡ n → IfErr result (λ fault. fault ≡ NoMemory) → Counted n m result
 counted_back (Ok y) n m e h = e

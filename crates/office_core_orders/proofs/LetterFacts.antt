@@ -6,7 +6,8 @@ use Rattle.std.specs.FinMap.{get}
 use Rattle.office_mail.specs.Kept.{Kept}
 use Rattle.office_store_keeper.specs.declared.values.Letter.{Letter}
 use Rattle.office_store_keeper.specs.Content.{letter_at, letters_within}
-use Rattle.office_core_orders.specs.Ready.{HasNumbers, GoesOn}
+use Rattle.office_core_orders.specs.Ready.{HasNumbers}
+use Rattle.office_core_orders.specs.steps.Ready.{GoesOn}
 
 -- a text under a number, with the number
 abbrev pub with_number : ℕ → Option (List ℕ) → Option Letter

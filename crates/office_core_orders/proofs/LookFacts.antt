@@ -5,7 +5,7 @@ use Rattle.office_mail.specs.Counts.{HasRisen}
 use Rattle.office_core_orders.specs.Counted.{Counted}
 use Rattle.office_core_orders.specs.declared.faults.StoreFault.{StoreFault}
 use Rattle.office_core_orders.specs.declared.faults.StoreFault.TheVariants.{NoMemory, Store}
-use Rattle.office_core_orders.specs.ReadsStore.{ReadsStore}
+use Rattle.office_core_orders.specs.steps.ReadsStore.{ReadsStore}
 use Rattle.office_core_orders.proofs.LastFacts.{lasts_none, lasts_then}
 
 -- calls that went well

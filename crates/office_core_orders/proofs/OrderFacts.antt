@@ -18,14 +18,16 @@ use Rattle.office_mail.specs.declared.message.MailFault.{MailFault}
 use Rattle.office_mail.specs.declared.message.MailFault.TheVariants.{TooLong, BadParagraph, UnknownSender, BadNumber, UnknownKind, WrongRole, TooManyParagraphs, UnknownArchitecture}
 use Rattle.office_mail_setup.specs.declared.setup.Sender.{Sender}
 use Rattle.office_mail.specs.Lists.{Lists}
-use Rattle.office_mail.specs.Steps.{Paragraph, needs, given, each_of, whole, first_of, rest_of}
-use Rattle.office_mail.specs.Values.{number_in, day_in}
+use Rattle.office_mail.specs.WholeText.{Paragraph, needs, given, each_of, whole, first_of, rest_of}
+use Rattle.office_mail.specs.Values.{number_in}
+use Rattle.office_mail.specs.Days.{day_in}
 use Rattle.office_mail.specs.Fields.{required, value_in}
 use Rattle.office_mail.specs.Kinds.{kind_named, may_send}
 use Rattle.office_mail.specs.Covers.{BadCovers, covers_in, cover_in, number_for, numbers_by_sender}
 use Rattle.office_mail.specs.Read.{read, paragraphs_say, message_of, has_fields_of, sender_named, most_paragraphs, knows_archs, body_of, upload_of, drop_of, build_of, bug_of, hint_of, unhint_of, delays_of, order_of}
 use Rattle.office_mail.specs.Kept.{Kept}
-use Rattle.office_mail.specs.Runs.{runs, order_in, order_in_answer, order_in_body, order_at}
+use Rattle.office_mail.specs.Runs.{runs, order_in, order_in_body, order_at}
+use Rattle.office_mail.specs.steps.ReadSteps.{order_in_answer}
 
 ok_same : {A E : Type 0} (a b : A) → ◌≡◌ {A = Result A E} (Ok a) (Ok b) → a ≡ b
 ok_same a b e = cc

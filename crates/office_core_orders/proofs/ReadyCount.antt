@@ -12,11 +12,13 @@ use Rattle.office_mail.specs.declared.message.RunOrder.{RunOrder}
 use Rattle.office_mail.specs.Lists.{Lists}
 use Rattle.office_mail.specs.Kept.{Kept, Place, IsPlace}
 use Rattle.office_mail.specs.Read.{read}
-use Rattle.office_mail.specs.Runs.{runs, order_in, order_in_answer, order_at, orders_to, cover, cover_of, IsReady, IsReadyCount, IsGreatest, IsReadyRun}
+use Rattle.office_mail.specs.Runs.{runs, order_in, order_at, orders_to, cover, cover_of, IsReady, IsReadyCount, IsGreatest, IsReadyRun}
+use Rattle.office_mail.specs.steps.ReadSteps.{order_in_answer}
 use Rattle.office_mail.proofs.ReadyFacts.{cover_of-push}
 use Rattle.office_mail.proofs.RunFacts.{IsReady-before}
 use Rattle.office_core_orders.specs.declared.faults.StoreFault.{StoreFault}
-use Rattle.office_core_orders.specs.Ready.{FirstOrders, HasEach, HasPlaces, IsReached}
+use Rattle.office_core_orders.specs.Ready.{HasEach, HasPlaces}
+use Rattle.office_core_orders.specs.steps.Ready.{FirstOrders, IsReached}
 
 pub order_at-none : (setup : Lists) (kept : Kept) (k : ℕ) → get kept (runs setup, k) ≡ None → order_at setup kept k ≡ None
 unfolding order_at

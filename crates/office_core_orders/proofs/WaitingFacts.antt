@@ -18,7 +18,8 @@ use Rattle.office_mail.proofs.RunFacts.{order_at-later}
 use Rattle.office_core_orders.specs.declared.waiting_lines.Lack.{Lack}
 use Rattle.office_core_orders.specs.declared.waiting_lines.Awaited.{Awaited}
 use Rattle.office_core_orders.specs.declared.waiting_lines.Awaited.TheVariants.{Order, Mail}
-use Rattle.office_core_orders.specs.Ready.{HasNumbers, HasEach, IsReached}
+use Rattle.office_core_orders.specs.Ready.{HasNumbers, HasEach}
+use Rattle.office_core_orders.specs.steps.Ready.{IsReached}
 use Rattle.office_core_orders.specs.Waiting.{IsFirstGap, IsLack, AreLacks, AwaitsBy, Awaits, AwaitsSome}
 use Rattle.office_core_orders.proofs.OrderFacts.{covers_are_whole}
 use Rattle.office_core_orders.proofs.ReadyCount.{ready_more, ready_each}

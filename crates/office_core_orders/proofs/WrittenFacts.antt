@@ -7,7 +7,8 @@ use Rattle.office_mail.specs.Counts.{one_more}
 use Rattle.std.proofs.lemmas.List.{append_assoc, append-nil, take-append-drop, take_all, length-drop, take_more}
 use Rattle.std.proofs.lemmas.List.Concat.{flat_map-append}
 use Rattle.std.specs.Borrow.{Bor}
-use Rattle.office_core_orders.specs.Written.{AppendsFront, joined}
+use Rattle.office_core_orders.specs.Written.{AppendsFront}
+use Rattle.office_core_orders.specs.steps.Written.{joined}
 
 pub appends_keeps : (a b c : Option (List ℕ)) (xs : List ℕ) → Appends a b xs → Keeps b c → Appends a c xs
 appends_keeps None b c xs h k = tt

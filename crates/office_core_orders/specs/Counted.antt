@@ -1,5 +1,5 @@
 -- How the refusals of a store are counted.
-use Rattle.std.specs.Prelude.{◌≡◌, ℕ, Result, Ok, Err}
+use Rattle.std.specs.Prelude.{◌≡◌, ℕ, Result, Err}
 use Rattle.office_mail.specs.Counts.{HasRisen}
 use Rattle.office_store_keeper.specs.declared.faults.KeepFault.{KeepFault}
 use Rattle.office_store_keeper.specs.declared.faults.KeepFault.TheVariants as keep
@@ -22,13 +22,10 @@ told_sender Store = deliver.Store
 
 -- the count rose if the store failed, and stays otherwise
 abbrev pub Counted : {T : Type 0} → ℕ → ℕ → Result T StoreFault → Type 0
-Counted before after (Ok value) = after ≡ before
-Counted before after (Err NoMemory) = after ≡ before
 Counted before after (Err Store) = HasRisen before after
+Counted before after _ = after ≡ before
 
 -- the same of a delivery
 abbrev pub CountedDelivery : ℕ → ℕ → Result Held DeliverFault → Type 0
-CountedDelivery before after (Ok held) = after ≡ before
-CountedDelivery before after (Err (deliver.Mail fault)) = after ≡ before
-CountedDelivery before after (Err deliver.OtherText) = after ≡ before
 CountedDelivery before after (Err deliver.Store) = HasRisen before after
+CountedDelivery before after _ = after ≡ before

@@ -56,8 +56,7 @@ mark_of _ = Taken
 -- the deliveries that aren't lost
 abbrev pub if_taken : Mark → List ℕ → List (List ℕ) → List (List ℕ)
 if_taken Taken text texts = text ∷ texts
-if_taken LostForMemory text texts = texts
-if_taken LostForStore text texts = texts
+if_taken _ text texts = texts
 
 abbrev pub not_lost : List Delivery → List (List ℕ)
 not_lost [] = []
@@ -65,8 +64,7 @@ not_lost (d ∷ ds) = if_taken d.mark d.text (not_lost ds)
 
 abbrev pub is_lost : Mark → Bool
 is_lost Taken = false
-is_lost LostForMemory = true
-is_lost LostForStore = true
+is_lost _ = true
 
 -- whether a delivery was lost
 abbrev pub any_lost : List Delivery → Bool

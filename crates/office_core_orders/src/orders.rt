@@ -6,8 +6,9 @@ ghost use Rattle.std.specs.FinMap.{get};
 ghost use Rattle.office_mail.specs.Kept.{Kept};
 ghost use Rattle.office_mail.specs.Runs.{order_at, order_in, order_in_body};
 ghost use Rattle.office_store_keeper.specs.Content.{letters_within};
-ghost use Rattle.office_core_orders.specs.ReadsStore.{ReadsStore};
-ghost use Rattle.office_core_orders.specs.Ready.{FirstOrders, GoesOn, HasNumbers, HasEach, HasPlaces, IsReached};
+ghost use Rattle.office_core_orders.specs.steps.ReadsStore.{ReadsStore};
+ghost use Rattle.office_core_orders.specs.Ready.{HasNumbers, HasEach, HasPlaces};
+ghost use Rattle.office_core_orders.specs.steps.Ready.{FirstOrders, GoesOn, IsReached};
 
 use crate::faults::StoreFault;
 use crate::stored;

@@ -3,8 +3,9 @@
 
 ghost use Rattle.std.specs.Prelude.{false, ◌≡◌, ◌+◌, ◌<◌, ◌≤◌, ◌↔◌, IsTrue, IfOk, length};
 ghost use Rattle.office_mail.specs.Runs.{IsReady, IsReadyCount};
-ghost use Rattle.office_core_orders.specs.ReadsStore.{ReadsStore};
-ghost use Rattle.office_core_orders.specs.Ready.{HasEach, HasPlaces, IsCounted};
+ghost use Rattle.office_core_orders.specs.steps.ReadsStore.{ReadsStore};
+ghost use Rattle.office_core_orders.specs.Ready.{HasEach, HasPlaces};
+ghost use Rattle.office_core_orders.specs.steps.Ready.{IsCounted};
 
 use crate::faults::StoreFault;
 use crate::orders::{is_there, order, read_orders};

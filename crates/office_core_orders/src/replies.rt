@@ -3,7 +3,8 @@ ghost use Rattle.std.specs.Prelude.{◌≡◌, ◌++◌, ◌∷◌, ◌<◌, ◌
 ghost use Rattle.std.specs.Io.KnownBytes.{Appends};
 ghost use Rattle.office_mail.specs.Counts.{HasRisen};
 ghost use Rattle.office_core_orders.specs.Replies.{reply_line, fault_words, mail_words, name_at, is_lost};
-ghost use Rattle.office_core_orders.specs.Written.{AppendsFront, joined};
+ghost use Rattle.office_core_orders.specs.Written.{AppendsFront};
+ghost use Rattle.office_core_orders.specs.steps.Written.{joined};
 
 use crate::faults::{DeliverFault, Held};
 use office_mail::{MailFault, Setup, Sink};

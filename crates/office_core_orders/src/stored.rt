@@ -8,7 +8,7 @@ ghost use Rattle.office_store_keeper.specs.FactSet.{AreHoldable, facts_after, ro
 ghost use Rattle.office_store_keeper.specs.Provenance.{IsGiven, KnowsArchs};
 ghost use Rattle.office_core_orders.specs.Counted.{Counted};
 ghost use Rattle.office_core_orders.specs.StaysTrusted.{StaysTrusted};
-ghost use Rattle.office_core_orders.specs.ReadsStore.{ReadsStore};
+ghost use Rattle.office_core_orders.specs.steps.ReadsStore.{ReadsStore};
 
 use crate::faults::StoreFault;
 use office_store_keeper::{Finished, Keeper, Letter, MailText, Reports};

@@ -4,8 +4,9 @@
 ghost use Rattle.std.specs.Prelude.{◌≡◌, ℕ, ◌+◌, ◌<◌, IfOk, length, slice_index};
 ghost use Rattle.office_mail.specs.Kept.{Kept};
 ghost use Rattle.office_mail.specs.Runs.{IsReady, IsReadyCount};
-ghost use Rattle.office_core_orders.specs.ReadsStore.{ReadsStore};
-ghost use Rattle.office_core_orders.specs.Ready.{HasEach, HasPlaces, IsReached};
+ghost use Rattle.office_core_orders.specs.steps.ReadsStore.{ReadsStore};
+ghost use Rattle.office_core_orders.specs.Ready.{HasEach, HasPlaces};
+ghost use Rattle.office_core_orders.specs.steps.Ready.{IsReached};
 ghost use Rattle.office_core_orders.specs.Waiting.{AreLacks, Awaits, AwaitsSome};
 
 use crate::faults::{Progress, StoreFault};

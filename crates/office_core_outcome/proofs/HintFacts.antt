@@ -11,7 +11,7 @@ use Rattle.office_mail.specs.declared.message.MailFault.{MailFault}
 use Rattle.office_mail.specs.Lists.{Lists}
 use Rattle.office_store_keeper.specs.declared.values.Letter.{Letter}
 use Rattle.office_core_facts.specs.Outcome.{item_at}
-use Rattle.office_core_facts.specs.Walk.{said_in}
+use Rattle.office_core_facts.specs.steps.Walk.{said_in}
 use Rattle.office_core_facts.proofs.WalkFacts.{in_option}
 use Rattle.office_core_outcome.specs.Hints.{first_refused, hint_letter, hint_letters, hint_refusal, or_refused, with_letters}
 

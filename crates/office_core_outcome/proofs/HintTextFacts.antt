@@ -7,7 +7,7 @@ use Rattle.office_mail.specs.declared.message.RunOrder.{RunOrder}
 use Rattle.office_mail.specs.Lists.{Lists}
 use Rattle.office_mail.specs.Runs.{cover, cover_of, latest_day, order_at, orders_to}
 use Rattle.office_store_keeper.specs.Content.{Content}
-use Rattle.office_core_orders.specs.Ready.{FirstOrders}
+use Rattle.office_core_orders.specs.steps.Ready.{FirstOrders}
 use Rattle.office_core_facts.specs.Seen.{items_within}
 use Rattle.office_core_facts.specs.State.{IsOffice}
 use Rattle.office_core_facts.proofs.FinishedFacts.{orders_all}

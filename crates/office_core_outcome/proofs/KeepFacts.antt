@@ -19,10 +19,10 @@ use Rattle.testing_rules_model.specs.declared.update.Moved.{Moved}
 use Rattle.testing_rules_model.proofs.Sets.{first_or_rest, mapped_from, maps, spread_from, spreads}
 use Rattle.testing_rules_refusals.proofs.Coming.{any_of, has_named, some_of}
 use Rattle.testing_rules_refusals.proofs.Failings.{first_of_both, second_of_both}
-use Rattle.testing_rules_reports.specs.LentLines.{has_line}
+use Rattle.testing_rules_reports.specs.steps.LentLines.{has_line}
 use Rattle.office_mail.specs.Lists.{Lists}
 use Rattle.office_core_outcome.specs.Proposal.{KeepsMoves, decisions_by, is_moved}
-use Rattle.office_core_outcome.specs.Settled.{KeepsRun, names_in}
+use Rattle.office_core_outcome.specs.steps.Settled.{KeepsRun, names_in}
 
 -- what is moved is named
 moved_named : (d : Decision) (source : Text) → is_moved source d ≡ true → Contains (names_in d) source

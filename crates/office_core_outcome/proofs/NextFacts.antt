@@ -16,7 +16,7 @@ use Rattle.office_mail.proofs.RunFacts.{orders_to-later}
 use Rattle.office_store_keeper.specs.declared.values.Letter.{Letter}
 use Rattle.office_core_facts.specs.Outcome.{Outcome, covered_items, item_at, outcome, outcome_of, testing_after}
 use Rattle.office_core_orders.specs.Ready.{HasPlaces}
-use Rattle.office_core_facts.specs.Walk.{item_of, said_within}
+use Rattle.office_core_facts.specs.steps.Walk.{item_of, said_within}
 use Rattle.office_core_outcome.proofs.OutcomeFacts.{outcome_is, outcome_of-later}
 use Rattle.office_core_facts.proofs.WalkFacts.{of_text, one_of_each, place_within, same_messages, within_place}
 use Rattle.office_core_facts.specs.Seen.{covers_all, items_within, release, AreTrialCovers, IsTrialCover}

@@ -14,7 +14,8 @@ use Rattle.office_core_outcome.specs.declared.Trial.{Trial}
 use Rattle.office_core_facts.specs.Seen.{items_within, release}
 use Rattle.office_core_outcome.specs.Hints.{first_refused, hint_letters, with_letters}
 use Rattle.office_core_outcome.specs.declared.RefusedHint.{RefusedHint}
-use Rattle.office_core_outcome.specs.Trial.{IsTrial, decided, told_on, trial_date, tried, unless_refused, without_reasons}
+use Rattle.office_core_outcome.specs.Trial.{IsTrial, decided, told_on, trial_date, tried, without_reasons}
+use Rattle.office_core_outcome.specs.steps.TrialSteps.{unless_refused}
 use Rattle.office_core_facts.proofs.SeenFacts.{items_same, one_cover}
 
 module _ (setup : Lists) (kept : Kept) (k : ℕ) (hints : List (List ℕ)) where

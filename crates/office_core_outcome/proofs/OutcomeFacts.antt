@@ -14,7 +14,8 @@ use Rattle.office_mail.specs.Lists.{Lists}
 use Rattle.office_mail.specs.Kept.{Kept, Within}
 use Rattle.office_mail.specs.Runs.{orders_to, latest_day, IsReady}
 use Rattle.office_mail.proofs.RunFacts.{orders_to-later, covered-later, IsReady-before}
-use Rattle.office_core_facts.specs.Outcome.{Outcome, covered_items, item_at, outcome, outcome_of, outcome_on, reported, testing_after}
+use Rattle.office_core_facts.specs.Outcome.{Outcome, covered_items, item_at, outcome, outcome_of, outcome_on, testing_after}
+use Rattle.office_core_facts.specs.steps.Reported.{reported}
 
 -- what is written and left by the excuses and the decisions is the run's outcome
 pub reported_is : (setup : Lists) (run : ℕ) (date : Date) (s : Covered) (t new : Suite) (es : List Excuse) (ds : List Decision) → es ≡ excuses_of setup.archs s t date → IsUpdate setup.archs s es t ds new → reported setup run date es (record { decisions = ds; suite = new }) ≡ outcome setup run date s t

@@ -19,7 +19,7 @@ use Rattle.office_core_outcome.specs.declared.TrialOptions.{TrialOptions}
 use Rattle.office_core_outcome.specs.declared.proposal.Proposal.{Proposal}
 use Rattle.office_core_outcome.specs.Hints.{first_refused, hint_letters, with_letters}
 use Rattle.office_core_outcome.specs.Proposal.{AreAnswers, IsProposed, KeepsMoves, are_done, decisions_by, freed_by, tried_decisions}
-use Rattle.office_core_outcome.specs.Settled.{AreAnswersOver, IsProposedOver, IsSettled, KeepsRun}
+use Rattle.office_core_outcome.specs.steps.Settled.{AreAnswersOver, IsProposedOver, IsSettled, KeepsRun}
 use Rattle.office_core_facts.specs.Outcome.{outcome}
 use Rattle.testing_rules_reports.specs.Reports.{update_text}
 use Rattle.office_core_outcome.specs.declared.Trial.TheVariants.{Told}

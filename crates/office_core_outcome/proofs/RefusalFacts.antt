@@ -21,9 +21,9 @@ use Rattle.office_core_facts.specs.Seen.{release}
 use Rattle.office_core_facts.specs.Outcome.{outcome, testing_text}
 use Rattle.office_core_outcome.specs.declared.rules.Ruled.{Ruled}
 use Rattle.office_core_outcome.specs.Proposal.{decisions_by}
-use Rattle.office_core_outcome.specs.RuleSteps.{IsRuled}
+use Rattle.office_core_outcome.specs.steps.RuleSteps.{IsRuled}
 use Rattle.office_core_outcome.specs.Trial.{decided, judged_by}
-use Rattle.office_core_outcome.specs.RefusalSteps.{IsToldWhere}
+use Rattle.office_core_outcome.specs.steps.RefusalSteps.{IsToldWhere}
 use Rattle.office_core_outcome.specs.WhyRefused.{AreFirstTold, AreReasons, AreToldOf, IsToldOf, Judged, refused_line}
 
 -- the first of the decisions that are left

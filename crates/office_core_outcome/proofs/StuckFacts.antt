@@ -18,11 +18,11 @@ use Rattle.testing_rules_model.specs.declared.facts.UnhintIn.{UnhintIn}
 use Rattle.testing_rules_model.specs.declared.facts.UploadIn.{UploadIn}
 use Rattle.testing_rules_model.specs.declared.suite.RowIn.{RowIn}
 use Rattle.testing_rules_model.specs.declared.update.Decision.{Decision}
-use Rattle.testing_rules_moves.specs.Turns.{behind_hints}
+use Rattle.testing_rules_moves.specs.steps.Turns.{behind_hints}
 use Rattle.office_core_outcome.specs.NoCandidate.{no_candidate_line}
 use Rattle.testing_rules_refusals.specs.Stuck.{IsStuckText}
 use Rattle.office_core_outcome.specs.Proposal.{IsAnswer, IsShownStuck, behind_standing, is_moved, line_of}
-use Rattle.office_core_outcome.specs.Settled.{AreAnswersBehind, AreAnswersOver, IsAnswerBehind}
+use Rattle.office_core_outcome.specs.steps.Settled.{AreAnswersBehind, AreAnswersOver, IsAnswerBehind}
 
 -- one element more at the end of both lists
 zipped_last : {A B : Type 0} (R : A → B → Type 0) (xs : List A) (ys : List B) (x : A) (y : B) → AllZip R xs ys → R x y → AllZip R (xs ++ x ∷ []) (ys ++ y ∷ [])

@@ -17,7 +17,8 @@ use Rattle.testing_rules_model.specs.Updates.{update_by, update_of}
 use Rattle.testing_rules_model.proofs.SameFacts.{stands-same}
 use Rattle.testing_rules_excuses.proofs.Grounds.{same-excuses}
 use Rattle.office_mail.specs.Lists.{Lists}
-use Rattle.office_core_facts.specs.Outcome.{outcome, reported}
+use Rattle.office_core_facts.specs.Outcome.{outcome}
+use Rattle.office_core_facts.specs.steps.Reported.{reported}
 
 -- all facts of some messages
 abbrev facts_of : Covered → FactLists

@@ -18,8 +18,9 @@ use Rattle.office_core_outcome.specs.declared.Trial.{Trial}
 use Rattle.office_core_outcome.specs.declared.Trial.TheVariants.{Told, Refused}
 use Rattle.office_core_facts.specs.Seen.{items_within, release, AreTrialCovers}
 use Rattle.office_core_outcome.specs.Hints.{first_refused, hint_letters, with_letters}
-use Rattle.office_core_outcome.specs.Trial.{IsTrial, decided, judged, judged_by, told_on, trial_date, tried, unless_refused}
-use Rattle.office_core_outcome.specs.TrialSteps.{IsTrialOver, IsTried}
+use Rattle.office_core_outcome.specs.Trial.{IsTrial, decided, judged, judged_by, told_on, trial_date, tried}
+use Rattle.office_core_outcome.specs.steps.TrialSteps.{unless_refused}
+use Rattle.office_core_outcome.specs.steps.TrialSteps.{IsTrialOver, IsTried}
 use Rattle.office_core_outcome.specs.WhyRefused.{AreReasons}
 
 module _ (setup : Lists) (content : Content) (date : Date) (covers : ℕ → ℕ) (hints : List (List ℕ)) (letters : List Letter) (run first : ℕ) (plain hinted : Decided) (office : IsOffice setup content)

@@ -9,7 +9,7 @@ use Rattle.testing_rules_model.specs.Unstable.{hints_by_number, is_in_force, unh
 use Rattle.testing_rules_model.specs.declared.facts.HintIn.{HintIn}
 use Rattle.testing_rules_model.specs.declared.facts.UnhintIn.{UnhintIn}
 use Rattle.testing_rules_model.specs.declared.update.Decision.{Decision}
-use Rattle.testing_rules_model.specs.declared.update.Decision.TheVariants.{RemoveDone, RemoveRefused, EasyDone, EasyNotCandidate, EasyRefused, Accept, Wait}
+use Rattle.testing_rules_model.specs.declared.update.Decision.TheVariants.{RemoveDone, RemoveRefused, EasyDone, EasyNotCandidate, EasyRefused}
 use Rattle.testing_rules_reports.specs.Changes.{behind}
 use Rattle.office_mail.specs.Lists.{Lists}
 use Rattle.office_mail.specs.Kept.{Kept}
@@ -36,15 +36,12 @@ lines_on_hint number update =
 
 -- the decision is on the hint with the number
 abbrev pub is_of_hint : ℕ → Decision → Bool
-is_of_hint number d = elim d [
-  | RemoveDone hint name v ↦ hint == number
-  | RemoveRefused hint name v offender ↦ hint == number
-  | EasyDone hint items ↦ hint == number
-  | EasyNotCandidate hint name v ↦ hint == number
-  | EasyRefused hint offender ↦ hint == number
-  | Accept name v ↦ false
-  | Wait name v offender ↦ false
-]
+is_of_hint number (RemoveDone hint name v) = hint == number
+is_of_hint number (RemoveRefused hint name v offender) = hint == number
+is_of_hint number (EasyDone hint items) = hint == number
+is_of_hint number (EasyNotCandidate hint name v) = hint == number
+is_of_hint number (EasyRefused hint offender) = hint == number
+is_of_hint number _ = false
 
 -- the state of a hint on which a run decides nothing: not covered by the run, taken back by an unhint, or nothing to do
 abbrev pub standing_of : List UnhintIn → Option HintIn → List ℕ

@@ -1,11 +1,8 @@
-pub mod RuleSteps
-pub mod RefusalSteps
 pub mod Hints
 pub mod NextRun
 pub mod WhyRefused
 pub mod Trial
-pub mod TrialSteps
 pub mod NoCandidate
 pub mod Proposal
-pub mod Settled
 pub mod HintTold
+pub mod steps

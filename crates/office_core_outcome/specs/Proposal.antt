@@ -13,7 +13,7 @@ use Rattle.testing_rules_model.specs.Updates.{in_turn, move_easy, remove_item, r
 use Rattle.testing_rules_model.specs.declared.excuse.Excuse.{Excuse}
 use Rattle.testing_rules_model.specs.declared.update.Decision.{Decision}
 use Rattle.testing_rules_model.specs.declared.update.Moved.{Moved}
-use Rattle.testing_rules_model.specs.declared.update.Decision.TheVariants.{RemoveDone, RemoveRefused, EasyDone, EasyNotCandidate, EasyRefused, Accept, Wait}
+use Rattle.testing_rules_model.specs.declared.update.Decision.TheVariants.{EasyDone, Accept}
 use Rattle.office_core_outcome.specs.NoCandidate.{no_candidate_line}
 use Rattle.testing_rules_refusals.specs.Stuck.{IsStuckText}
 use Rattle.office_mail.specs.Lists.{Lists}
@@ -46,13 +46,9 @@ is_done number hint d = elim d [ EasyDone n group ↦ (n == number) && bytes_eq 
 -- the source moved, in a group or alone
 abbrev pub is_moved : Text → Decision → Bool
 is_moved source d = elim d [
-  | RemoveDone hint name v ↦ false
-  | RemoveRefused hint name v offender ↦ false
   | EasyDone hint items ↦ list_any (λ m. bytes_eq m.name source) items
-  | EasyNotCandidate hint name v ↦ false
-  | EasyRefused hint offender ↦ false
   | Accept name v ↦ bytes_eq name source
-  | Wait name v offender ↦ false
+  | _ ↦ false
 ]
 
 -- each of the hints, whose numbers go on behind this one, is that of a group that moved by its number

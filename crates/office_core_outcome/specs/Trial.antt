@@ -1,5 +1,6 @@
 -- What a trial of hints covers, and what it reports.
 use Rattle.std.specs.Prelude.{◌≡◌, ⊤, ℕ, ◌+◌, List, [], ◌++◌, Option, Some, None}
+use Rattle.std.specs.Option.{option_map_or}
 use Rattle.jiff_core.specs.declared.civil.date.Date.{Date}
 use Rattle.testing_rules_model.specs.Covered.{Covered}
 use Rattle.testing_rules_model.specs.Excuses.{excuses_of}
@@ -14,7 +15,6 @@ use Rattle.office_core_facts.specs.Seen.{AreTrialCovers, items_within, release}
 use Rattle.testing_rules_reports.specs.declared.telling.Decided.{Decided}
 use Rattle.testing_rules_reports.specs.declared.telling.TrialReport.{TrialReport}
 use Rattle.testing_rules_reports.specs.Tried.{tried_text}
-use Rattle.office_core_outcome.specs.declared.RefusedHint.{RefusedHint}
 use Rattle.office_core_outcome.specs.declared.TrialOptions.{TrialOptions}
 use Rattle.office_core_outcome.specs.declared.Trial.{Trial}
 use Rattle.office_core_outcome.specs.declared.Trial.TheVariants.{Told, NoDate, Refused}
@@ -63,21 +63,16 @@ abbrev pub judged : Lists → Kept → ℕ → Date → (ℕ → ℕ) → List (
 judged setup kept k date covers hints =
     judged_by setup (covers (release setup)) date (with_letters setup (release setup) (hint_letters setup (covers (release setup)) hints) (items_within setup kept covers)) (testing_after setup kept k)
 
--- the first refused hint, or else what the hints would change, and why some of them are refused
-abbrev pub unless_refused : Option RefusedHint → TrialReport → List ℕ → Trial
-unless_refused (Some refused) t reasons = Refused refused
-unless_refused None t reasons = Told t reasons
-
--- what a trial reports; there is no date if no run is finished and no day is given
+-- What a trial reports: the first refused hint, or else what the hints would change, and why some of them are refused.
+-- There is no date if no run is finished and no day is given.
 abbrev pub told_on : Lists → Kept → ℕ → Option Date → (ℕ → ℕ) → List (List ℕ) → List ℕ → Trial
 told_on setup kept k None covers hints reasons = NoDate
-told_on setup kept k (Some date) covers hints reasons = unless_refused (first_refused setup (covers (release setup)) 0 hints) (tried setup kept k date covers hints) reasons
+told_on setup kept k (Some date) covers hints reasons = option_map_or Refused (first_refused setup (covers (release setup)) 0 hints) (Told (tried setup kept k date covers hints) reasons)
 
 -- its lines on why hints are refused are right
 abbrev pub IsReasoned : Lists → Kept → ℕ → (ℕ → ℕ) → List (List ℕ) → Trial → Type 0
 IsReasoned setup kept k covers hints (Told t reasons) = AreReasons (judged setup kept k t.date covers hints) reasons
-IsReasoned setup kept k covers hints NoDate = ⊤
-IsReasoned setup kept k covers hints (Refused refused) = ⊤
+IsReasoned setup kept k covers hints _ = ⊤
 
 -- A trial of hints after k finished runs.
 pub record IsTrial (setup : Lists) (kept : Kept) (k : ℕ) (terms : TrialOptions) (hints : List (List ℕ)) (trial : Trial) : Type 0 where

@@ -6,7 +6,7 @@ use Rattle.std.specs.Option.{option_map_or}
 use Rattle.std.specs.Str.{bytes_eq}
 use Rattle.testing_rules_items.specs.Words.{Text, is_same_version}
 use Rattle.testing_rules_items.specs.declared.item.Hint.{Hint}
-use Rattle.testing_rules_items.specs.declared.item.Hint.TheVariants.{Block, Unblock, Easy, AgeDays, Remove, BlockAll}
+use Rattle.testing_rules_items.specs.declared.item.Hint.TheVariants.{Easy, Remove}
 use Rattle.testing_rules_items.specs.declared.item.HintItem.{HintItem}
 use Rattle.testing_rules_model.specs.declared.excuse.Excuse.{Excuse}
 use Rattle.testing_rules_model.specs.declared.facts.HintIn.{HintIn}
@@ -14,7 +14,7 @@ use Rattle.testing_rules_model.specs.declared.facts.UnhintIn.{UnhintIn}
 use Rattle.testing_rules_model.specs.declared.facts.UploadIn.{UploadIn}
 use Rattle.testing_rules_model.specs.declared.suite.RowIn.{RowIn}
 use Rattle.testing_rules_model.specs.declared.update.Decision.{Decision}
-use Rattle.testing_rules_model.specs.declared.update.Decision.TheVariants.{RemoveDone, RemoveRefused, EasyDone, EasyNotCandidate, EasyRefused, Accept, Wait}
+use Rattle.testing_rules_model.specs.declared.update.Decision.TheVariants.{RemoveRefused, EasyRefused}
 use Rattle.testing_rules_model.specs.declared.update.Offender.{Offender}
 use Rattle.testing_rules_model.specs.Moves.{move_group, offender_of, remove_source}
 use Rattle.testing_rules_model.specs.Suite.{Suite}
@@ -38,25 +38,13 @@ pub record Judged : Type 0 where
 
 -- the items of a hint that are to move as one
 abbrev pub grouped_items : Hint → List HintItem
-grouped_items hint = elim hint [
-  | Block names ↦ []
-  | Unblock items ↦ []
-  | Easy items ↦ items
-  | AgeDays days items ↦ []
-  | Remove items ↦ []
-  | BlockAll ↦ []
-]
+grouped_items (Easy items) = items
+grouped_items _ = []
 
 -- the items of a hint that are to be removed
 abbrev pub removed_items : Hint → List HintItem
-removed_items hint = elim hint [
-  | Block names ↦ []
-  | Unblock items ↦ []
-  | Easy items ↦ []
-  | AgeDays days items ↦ []
-  | Remove items ↦ items
-  | BlockAll ↦ []
-]
+removed_items (Remove items) = items
+removed_items _ = []
 
 -- the first of the hints with this number
 abbrev pub hint_at : List HintIn → ℕ → Option HintIn
@@ -130,15 +118,9 @@ IsRefusalWhere false j number o AreLines text = text ≡ []
 
 -- the text on a decision: on a group or a removal that is refused for what it would break
 abbrev pub IsToldOf : Judged → Decision → Text → Type 0
-IsToldOf j d text = elim d [
-  | RemoveDone n name v ↦ text ≡ []
-  | RemoveRefused n name v o ↦ IsRefusalWhere (nat_lt j.behind n) j n o (AreRemovalLines j (turn_of_item j n name v) name) text
-  | EasyDone n items ↦ text ≡ []
-  | EasyNotCandidate n name v ↦ text ≡ []
-  | EasyRefused n o ↦ IsRefusalWhere (nat_lt j.behind n) j n o (AreGroupLines j (turn_of_group j n) (group_at j n)) text
-  | Accept name v ↦ text ≡ []
-  | Wait name v o ↦ text ≡ []
-]
+IsToldOf j (RemoveRefused n name v o) text = IsRefusalWhere (nat_lt j.behind n) j n o (AreRemovalLines j (turn_of_item j n name v) name) text
+IsToldOf j (EasyRefused n o) text = IsRefusalWhere (nat_lt j.behind n) j n o (AreGroupLines j (turn_of_group j n) (group_at j n)) text
+IsToldOf j _ text = text ≡ []
 
 -- a text of two parts
 pub record IsJoined (IsFirst IsRest : Text → Type 0) (text : Text) : Type 0 where
@@ -155,15 +137,9 @@ AreToldOf j (d ∷ ds) text = IsJoined (IsToldOf j d) (AreToldOf j ds) text
 
 -- a group or a removal that is refused, by a hint on which the run reports
 abbrev pub is_reported : ℕ → Decision → Bool
-is_reported behind d = elim d [
-  | RemoveDone n name v ↦ false
-  | RemoveRefused n name v o ↦ nat_lt behind n
-  | EasyDone n items ↦ false
-  | EasyNotCandidate n name v ↦ false
-  | EasyRefused n o ↦ nat_lt behind n
-  | Accept name v ↦ false
-  | Wait name v o ↦ false
-]
+is_reported behind (RemoveRefused n name v o) = nat_lt behind n
+is_reported behind (EasyRefused n o) = nat_lt behind n
+is_reported behind _ = false
 
 -- the line on how many more are refused, if there are any
 abbrev pub more_line : ℕ → Text

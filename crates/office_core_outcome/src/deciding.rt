@@ -6,7 +6,7 @@ ghost use Rattle.testing_rules_laws.specs.StandsFor.{StandsFor};
 ghost use Rattle.testing_rules_laws.specs.Suite.{Suite};
 ghost use Rattle.office_core_facts.specs.Outcome.{outcome, testing_text};
 ghost use Rattle.jiff_core.specs.declared.civil.date.Date.{Date};
-ghost use Rattle.office_core_outcome.specs.RuleSteps.{IsRuled, IsToldRun, outcome_left};
+ghost use Rattle.office_core_outcome.specs.steps.RuleSteps.{IsRuled, IsToldRun, outcome_left};
 ghost use Rattle.office_core_facts.specs.Seen.{release};
 ghost use Rattle.office_core_outcome.specs.Hints.{with_letters};
 ghost use Rattle.office_core_outcome.specs.Trial.{decided, judged_by};

@@ -4,8 +4,8 @@ ghost use Rattle.std.specs.Prelude.{◌≡◌, ◌++◌, ℕ, List, true, IfOk, 
 ghost use Rattle.std.specs.List.{flat_map, list_all, list_any};
 ghost use Rattle.std.specs.Str.{bytes_eq};
 ghost use Rattle.office_core_outcome.specs.Proposal.{KeepsMoves};
-ghost use Rattle.office_core_outcome.specs.Settled.{names_in};
-ghost use Rattle.testing_rules_reports.specs.LentLines.{has_line, lent_lines};
+ghost use Rattle.office_core_outcome.specs.steps.Settled.{names_in};
+ghost use Rattle.testing_rules_reports.specs.steps.LentLines.{has_line, lent_lines};
 
 use deb_control::NoMemory;
 use std::alloc::{AllocError, Global};

@@ -4,14 +4,14 @@
 ghost use Rattle.std.specs.Prelude.{is_ok, ◌≡◌, ◌≤◌, ◌<◌, ℕ, IfErr, IfOk, IfSome, is_none, length, slice_index};
 ghost use Rattle.office_mail.specs.Runs.{cover_of, latest_day, orders_to};
 ghost use Rattle.office_core_orders.specs.Counted.{Counted};
-ghost use Rattle.office_core_orders.specs.Ready.{FirstOrders};
-ghost use Rattle.office_core_orders.specs.ReadsStore.{ReadsStore};
+ghost use Rattle.office_core_orders.specs.steps.Ready.{FirstOrders};
+ghost use Rattle.office_core_orders.specs.steps.ReadsStore.{ReadsStore};
 ghost use Rattle.office_core_facts.specs.Known.{AreKnown};
 ghost use Rattle.office_core_facts.specs.State.{IsOffice};
 ghost use Rattle.office_core_orders.specs.StaysTrusted.{StaysTrusted};
 ghost use Rattle.office_core_facts.specs.Seen.{release};
 ghost use Rattle.office_core_outcome.specs.Proposal.{IsProposed, freed_by};
-ghost use Rattle.office_core_outcome.specs.Settled.{AreAnswersOver, IsProposedOver, IsSettled, KeepsRun};
+ghost use Rattle.office_core_outcome.specs.steps.Settled.{AreAnswersOver, IsProposedOver, IsSettled, KeepsRun};
 ghost use Rattle.office_core_outcome.specs.Trial.{trial_date};
 
 use crate::TrialOptions;

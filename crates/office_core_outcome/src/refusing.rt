@@ -3,7 +3,7 @@
 ghost use Rattle.std.specs.Prelude.{◌≡◌, ◌≤◌, ◌<◌, ◌++◌, [], IfOk, drop, filter, length, nat_lt, take};
 ghost use Rattle.std.specs.List.{count_by};
 ghost use Rattle.office_core_outcome.specs.HintTold.{is_of_hint};
-ghost use Rattle.office_core_outcome.specs.RefusalSteps.{IsToldWhere, judged_in};
+ghost use Rattle.office_core_outcome.specs.steps.RefusalSteps.{IsToldWhere, judged_in};
 ghost use Rattle.office_core_outcome.specs.WhyRefused.{AreFirstTold, AreGroupLines, AreRemovalLines, AreToldOf, IsRefusalWhere, IsToldOf, group_at, is_reported, more_line, refused_line, turn_of_group, turn_of_item};
 
 use crate::refused_items::{group_left, grouped_at, items_before, removed_at};

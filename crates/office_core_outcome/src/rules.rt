@@ -2,7 +2,7 @@
 ghost use Rattle.std.specs.Prelude.{◌≡◌, IfOk};
 ghost use Rattle.office_core_facts.specs.Outcome.{Outcome, outcome};
 ghost use Rattle.office_core_outcome.specs.Proposal.{decisions_by};
-ghost use Rattle.office_core_outcome.specs.RuleSteps.{IsRuled, outcome_left};
+ghost use Rattle.office_core_outcome.specs.steps.RuleSteps.{IsRuled, outcome_left};
 ghost use Rattle.testing_rules_laws.specs.Covered.{Covered};
 ghost use Rattle.testing_rules_laws.specs.Reports.{excuses_text, update_text};
 ghost use Rattle.testing_rules_laws.specs.StandsFor.{StandsFor};

@@ -8,7 +8,7 @@ ghost use Rattle.testing_rules_laws.specs.StandsFor.{StandsFor};
 ghost use Rattle.office_core_facts.specs.Seen.{release};
 ghost use Rattle.office_core_outcome.specs.Hints.{with_letters};
 ghost use Rattle.office_core_outcome.specs.Proposal.{KeepsMoves, decisions_by, freed_by, is_moved};
-ghost use Rattle.office_core_outcome.specs.Settled.{IsSettled, KeepsRun};
+ghost use Rattle.office_core_outcome.specs.steps.Settled.{IsSettled, KeepsRun};
 
 use crate::asked::Asked;
 use crate::deciding::take_all;

@@ -1,7 +1,7 @@
 //! Proofs that no group frees a source, and the lines of sources that aren't candidates.
 
 ghost use Rattle.std.specs.Prelude.{IfOk, IfSome};
-ghost use Rattle.office_core_outcome.specs.Settled.{AreAnswersBehind, AreAnswersOver, IsAnswerBehind, IsStuckBehind};
+ghost use Rattle.office_core_outcome.specs.steps.Settled.{AreAnswersBehind, AreAnswersOver, IsAnswerBehind, IsStuckBehind};
 
 use crate::asked::Asked;
 use crate::no_candidate::no_candidate_line;

@@ -7,7 +7,8 @@ use Rattle.office_core.specs.Preserves.{Asks, Holds}
 use Rattle.office_core.proofs.CarryFacts.{asks_none, asks_twice}
 use Rattle.office_core_orders.proofs.LastFacts.{lasts_none, lasts_then}
 use Rattle.office_core_queries.specs.declared.faults.AskFault.{AskFault}
-use Rattle.office_core_queries.specs.Asking.{AsksBoth, AsksOffice, CountsBoth, CountsWrites}
+use Rattle.office_core_queries.specs.Asking.{AsksBoth, AsksOffice, CountsBoth}
+use Rattle.office_core_queries.specs.steps.Asking.{CountsWrites}
 
 -- questions that were answered
 abbrev pub Asked : {K : Type 0} → Ghosts K → K → K → Type 0

@@ -11,7 +11,7 @@ use Rattle.office_store_keeper.specs.Content.{letters_within, IsNextNumber}
 use Rattle.office_core_orders.specs.Ready.{HasNumbers}
 use Rattle.office_core_queries.specs.declared.mail.MailCount.{MailCount}
 use Rattle.office_core_queries.specs.Mail.{AreMailCounts, IsMailCount}
-use Rattle.office_core_queries.specs.Numbers.{IsCountSoFar, NoneAbove, NoneBetween, with_number}
+use Rattle.office_core_queries.specs.steps.Numbers.{IsCountSoFar, NoneAbove, NoneBetween, with_number}
 use Rattle.office_core_queries.proofs.LetterLists.{range_joined, within_all, within_more, within_zero}
 
 -- the numbers of letters

@@ -12,10 +12,11 @@ use Rattle.office_mail.specs.declared.message.MailFault.{MailFault}
 use Rattle.office_mail.specs.declared.message.MailFault.TheVariants.{TooLong}
 use Rattle.office_mail.specs.Bag.{HasHeader, IsBag}
 use Rattle.office_mail.specs.Read.{read}
-use Rattle.office_mail.specs.Steps.{needs}
+use Rattle.office_mail.specs.WholeText.{needs}
 use Rattle.office_mail.specs.Lists.{Lists}
-use Rattle.office_mail.specs.Kept.{IsPlace, Kept, Place, kept_from, place_cmp, placed, placed_as}
+use Rattle.office_mail.specs.Kept.{IsPlace, Kept, Place, kept_from, place_cmp, placed}
 use Rattle.office_mail.specs.Laws.{IsOneOf}
+use Rattle.office_mail.specs.steps.ReadSteps.{placed_as}
 use Rattle.office_mail.proofs.KeptFacts.{get-kept_from, or_else, places_total, same_kept, tied}
 use Rattle.office_store_keeper.specs.Content.{letter_at, letters_within}
 use Rattle.office_store_keeper.specs.Provenance.{AreOwnTexts}

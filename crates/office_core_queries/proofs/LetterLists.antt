@@ -8,7 +8,7 @@ use Rattle.std.proofs.lemmas.List.Elements.{filter_map-append}
 use Rattle.office_mail.specs.Kept.{Kept}
 use Rattle.office_store_keeper.specs.declared.values.Letter.{Letter}
 use Rattle.office_store_keeper.specs.Content.{letter_at, letters_within}
-use Rattle.office_core_queries.specs.Numbers.{NoneAbove, NoneBetween}
+use Rattle.office_core_queries.specs.steps.Numbers.{NoneAbove, NoneBetween}
 
 -- numbers, and those that follow them
 pub range_joined : (a m n : ℕ) → range_with_len a m ++ range_with_len (a + m) n ≡ range_with_len a (m + n)

@@ -8,11 +8,12 @@ use Rattle.std.proofs.lemmas.Cmp.{tied_itself}
 use Rattle.std.proofs.lemmas.Slice.Eq.{bytes_eq-Decides}
 use Rattle.office_mail.specs.declared.message.Message.{Message}
 use Rattle.office_mail.specs.declared.message.MailFault.{MailFault}
-use Rattle.office_mail.specs.Kept.{IsPlace, Kept, Place, Within, kept_from, place_of, placed, placed_as}
+use Rattle.office_mail.specs.Kept.{IsPlace, Kept, Place, Within, kept_from, place_of, placed}
 use Rattle.office_mail.specs.Laws.{IsOneOf}
 use Rattle.office_mail.specs.Lists.{Lists}
 use Rattle.office_mail.specs.Read.{read}
 use Rattle.office_mail.specs.Runs.{IsReadyCount}
+use Rattle.office_mail.specs.steps.ReadSteps.{placed_as}
 use Rattle.office_mail.proofs.KeptFacts.{kept_from-Within, kept_from-append, kept_from-free, kept_from-taken, places_total, same_kept}
 use Rattle.office_store_keeper.specs.Content.{Content}
 use Rattle.office_core_orders.specs.declared.faults.DeliverFault.{DeliverFault}

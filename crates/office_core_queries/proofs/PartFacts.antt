@@ -11,7 +11,7 @@ use Rattle.office_store_keeper.specs.declared.values.Letter.{Letter}
 use Rattle.office_store_keeper.specs.Content.{letter_at, letters_within}
 use Rattle.office_core_orders.specs.Ready.{HasPlaces}
 use Rattle.office_core_queries.specs.BagPart.{bag_part, fitting, letters_from, letters_of_part}
-use Rattle.office_core_queries.specs.Numbers.{IsNextLetter}
+use Rattle.office_core_queries.specs.steps.Numbers.{IsNextLetter}
 use Rattle.office_core_queries.proofs.LetterLists.{behind_next, behind_none, rest_within, within_first}
 
 -- letters as messages of a bag

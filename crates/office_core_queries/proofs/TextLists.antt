@@ -13,9 +13,9 @@ use Rattle.office_store_keeper.specs.Content.{letters_within}
 use Rattle.office_core_orders.specs.Written.{AppendsFront}
 use Rattle.office_core_orders.proofs.WrittenFacts.{front_after, front_before}
 use Rattle.office_core_queries.specs.Export.{sender_texts, texts_to}
-use Rattle.office_core_queries.specs.Walk.{told_as}
+use Rattle.office_core_queries.specs.steps.Walk.{told_as}
 use Rattle.office_core_queries.specs.declared.walk.Form.{Form}
-use Rattle.office_core_queries.specs.Numbers.{IsNextLetter, NoneAbove, NoneBetween}
+use Rattle.office_core_queries.specs.steps.Numbers.{IsNextLetter, NoneAbove, NoneBetween}
 use Rattle.office_core_queries.proofs.LetterLists.{range_joined, within_all, within_more, within_split, within_zero}
 
 -- the texts of letters

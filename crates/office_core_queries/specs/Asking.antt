@@ -1,5 +1,5 @@
 -- What a question to an office leaves of its store, and what it counts.
-use Rattle.std.specs.Prelude.{◌≡◌, ℕ, Result, Ok, Err, is_ok}
+use Rattle.std.specs.Prelude.{◌≡◌, ℕ, Result, Err, is_ok}
 use Rattle.office_mail.specs.Counts.{HasRisen}
 use Rattle.office_store_keeper.specs.declared.keeping.Keeper.{Ghosts}
 use Rattle.office_core_orders.specs.declared.faults.StoreFault.{StoreFault}
@@ -22,17 +22,9 @@ told StoreFault.Store = Store
 
 -- the store counts its refusals and the writer its failures, and neither counts anything else
 abbrev pub CountsBoth : {T : Type 0} → ℕ → ℕ → ℕ → ℕ → Result T AskFault → Type 0
-CountsBoth before after failed fails (Ok value) = (after ≡ before) × (fails ≡ failed)
-CountsBoth before after failed fails (Err NoMemory) = (after ≡ before) × (fails ≡ failed)
 CountsBoth before after failed fails (Err Store) = HasRisen before after × (fails ≡ failed)
 CountsBoth before after failed fails (Err Write) = (after ≡ before) × HasRisen failed fails
-
--- the same of a call that asks no store
-abbrev pub CountsWrites : {T : Type 0} → ℕ → ℕ → Result T AskFault → Type 0
-CountsWrites failed fails (Ok value) = fails ≡ failed
-CountsWrites failed fails (Err NoMemory) = fails ≡ failed
-CountsWrites failed fails (Err Store) = ⊥
-CountsWrites failed fails (Err Write) = HasRisen failed fails
+CountsBoth before after failed fails _ = (after ≡ before) × (fails ≡ failed)
 
 -- What is kept stays, and each fault is counted where it occurred. If nobody else writes the store, it stays trusted
 -- unless its disk failed.

@@ -4,6 +4,5 @@ pub mod Export
 pub mod Listing
 pub mod Mail
 pub mod NextOrder
-pub mod Numbers
 pub mod RunLines
-pub mod Walk
+pub mod steps

@@ -3,7 +3,7 @@ ghost use Rattle.std.specs.Prelude.{◌≡◌, ◌++◌, ◌<◌, ◌+◌, IfOk,
 ghost use Rattle.office_core.specs.Preserves.{Holds};
 ghost use Rattle.office_core_queries.specs.Asking.{AsksOffice};
 ghost use Rattle.office_core_queries.specs.Mail.{AreMailCounts, IsMailCount, greatest_words, mail_line, mail_text, unbroken_words};
-ghost use Rattle.office_core_queries.specs.Numbers.{with_number};
+ghost use Rattle.office_core_queries.specs.steps.Numbers.{with_number};
 
 use crate::numbers::next_above;
 use deb_control::{NoMemory, Text};

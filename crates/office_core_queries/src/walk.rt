@@ -5,10 +5,11 @@ ghost use Rattle.std.specs.Io.KnownBytes.{Appends};
 ghost use Rattle.office_mail.specs.Bag.{framed};
 ghost use Rattle.office_core_orders.specs.Written.{AppendsFront};
 ghost use Rattle.office_core.specs.Preserves.{Holds};
-ghost use Rattle.office_core_queries.specs.Asking.{AsksBoth, CountsWrites};
+ghost use Rattle.office_core_queries.specs.Asking.{AsksBoth};
+ghost use Rattle.office_core_queries.specs.steps.Asking.{CountsWrites};
 ghost use Rattle.office_core_queries.specs.Export.{kept_texts, sender_texts};
 ghost use Rattle.office_core_queries.specs.Listing.{text_line};
-ghost use Rattle.office_core_queries.specs.Walk.{told_as};
+ghost use Rattle.office_core_queries.specs.steps.Walk.{told_as};
 
 use crate::faults::AskFault;
 use crate::message_line::text_line;

@@ -26,10 +26,10 @@ use Rattle.office_core_facts.specs.State.{answer_to}
 use Rattle.office_core_replay.specs.Output.{reply_to, reply_lines}
 use Rattle.office_core_replay.specs.Losses.{DeliveryCounted, DeliveriesCounted}
 use Rattle.office_core_replay.specs.Delivered.{CameFirst, KeepsMail, DeliversFront}
-use Rattle.office_core_replay.specs.DeliverySteps.{Delivers, DeliversAll, DeliversOne, DeliversOneFront}
+use Rattle.office_core_replay.specs.steps.DeliverySteps.{Delivers, DeliversAll, DeliversOne, DeliversOneFront}
 use Rattle.office_core_replay.specs.Blocks.{DeliversTexts}
 use Rattle.office_core.specs.Together.{answers_to}
-use Rattle.office_core_replay.specs.BlockSteps.{DeliversTextsFront, TakesTexts, TakesLast, DeliversLastFront}
+use Rattle.office_core_replay.specs.steps.BlockSteps.{DeliversTextsFront, TakesTexts, TakesLast, DeliversLastFront}
 use Rattle.office_core_replay.proofs.RiseFacts.{delivery_weaker, deliveries_weaker}
 use Rattle.office_core.proofs.GatherFacts.{each_push}
 use Rattle.office_core_replay.proofs.DeliverFacts.{keeps_none, keeps_more, came_from, delivers_all, reply_lines-push, any_lost-push, line_after, if_taken-append, one_lost, or_assoc}

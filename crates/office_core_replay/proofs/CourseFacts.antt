@@ -19,9 +19,9 @@ use Rattle.office_core_replay.specs.declared.replays.Replayed.{Replayed}
 use Rattle.office_core_orders.specs.Written.{AppendsFront}
 use Rattle.office_core_replay.specs.Output.{Marks, output}
 use Rattle.office_core_replay.specs.Losses.{MarksEnd, MarksCounted, is_short, has_refusal}
-use Rattle.office_core_replay.specs.BlockSteps.{DeliversLastFront}
+use Rattle.office_core_replay.specs.steps.BlockSteps.{DeliversLastFront}
 use Rattle.office_core_replay.specs.Delivered.{KeepsMail}
-use Rattle.office_core_replay.specs.DeliverySteps.{DeliversAll}
+use Rattle.office_core_replay.specs.steps.DeliverySteps.{DeliversAll}
 use Rattle.office_core_replay.specs.Replay.{Course, ReplaysAll, ReplaysFront}
 use Rattle.office_core_replay.proofs.EndFacts.{settled_ready, fill, fill_all, counted-fill}
 use Rattle.office_core_replay.proofs.RiseFacts.{deliveries_weaker, marks_weaker}

@@ -23,7 +23,7 @@ use Rattle.office_core_replay.specs.Output.{reply_to, reply_lines}
 use Rattle.office_core_orders.specs.Written.{AppendsFront}
 use Rattle.office_core_replay.specs.Losses.{DeliveryCounted}
 use Rattle.office_core_replay.specs.Delivered.{CameFrom, CameFirst, KeepsMail, DeliversFront}
-use Rattle.office_core_replay.specs.DeliverySteps.{Delivers, DeliversAll, DeliversOne, DeliversOneFront}
+use Rattle.office_core_replay.specs.steps.DeliverySteps.{Delivers, DeliversAll, DeliversOne, DeliversOneFront}
 use Rattle.office_core.proofs.GatherFacts.{each_push}
 use Rattle.office_core_replay.proofs.RiseFacts.{delivery_weaker, deliveries_weaker}
 use Rattle.office_core_orders.proofs.WrittenFacts.{front_after}

@@ -18,7 +18,7 @@ use Rattle.office_core_orders.specs.Written.{AppendsFront}
 use Rattle.office_core_replay.specs.Output.{ReportMarks, or_refused, report_lines}
 use Rattle.office_core_orders.specs.Replies.{status_line}
 use Rattle.office_core_replay.specs.Losses.{is_missing, is_report_missing, TextCounted, ReportsCounted}
-use Rattle.office_core_replay.specs.Ending.{status_shown, text_shown, mark_in, report_shown, run_lines, WritesRun, WritesRunFront, WritesReports, WritesReportsFront}
+use Rattle.office_core_replay.specs.steps.Ending.{status_shown, text_shown, mark_in, report_shown, run_lines, WritesRun, WritesRunFront, WritesReports, WritesReportsFront}
 use Rattle.std.proofs.KnownBytes.{Appends-nil, Appends-trans}
 use Rattle.office_core.proofs.GatherFacts.{each_push}
 use Rattle.office_core_facts.proofs.ReportFacts.{reports_there}

@@ -11,7 +11,7 @@ use Rattle.office_mail.proofs.KeptFacts.{kept_from-nil, kept_from-taken, kept_fr
 use Rattle.office_mail.specs.Runs.{IsReady, IsReadyCount}
 use Rattle.office_core_orders.specs.declared.faults.Progress.{Progress}
 use Rattle.office_core_orders.specs.declared.faults.StoreFault.{StoreFault}
-use Rattle.office_core_replay.specs.Ending.{mark_in}
+use Rattle.office_core_replay.specs.steps.Ending.{mark_in}
 use Rattle.office_core_replay.proofs.EndFacts.{settled_unmet}
 use Rattle.office_core_orders.specs.declared.faults.DeliverFault.{DeliverFault}
 use Rattle.office_core_orders.specs.declared.faults.DeliverFault.TheVariants.{Mail, OtherText, Store}
@@ -23,7 +23,7 @@ use Rattle.office_core_orders.specs.Replies.{reply_by, mark_of, if_taken, reply_
 use Rattle.office_core_replay.specs.Losses.{DeliveryCounted}
 use Rattle.office_core.specs.Preserves.{StoreRefused}
 use Rattle.office_core_orders.specs.Counted.{Counted, CountedDelivery}
-use Rattle.office_core_replay.specs.DeliverySteps.{DeliversOne, DeliversOneFront, Settles}
+use Rattle.office_core_replay.specs.steps.DeliverySteps.{DeliversOne, DeliversOneFront, Settles}
 use Rattle.office_core_facts.specs.OfficeState.{OfficeState}
 use Rattle.office_core_orders.specs.Written.{AppendsFront}
 use Rattle.office_store_keeper.specs.Content.{Content}

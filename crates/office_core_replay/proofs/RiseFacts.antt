@@ -6,7 +6,7 @@ use Rattle.office_core_orders.specs.declared.replies.Delivery.{Delivery}
 use Rattle.office_core_orders.specs.declared.replies.Mark.{Mark}
 use Rattle.office_core_orders.specs.declared.replies.Mark.TheVariants.{Taken, LostForMemory, LostForStore}
 use Rattle.office_core_replay.specs.Output.{Marks, ReportMarks}
-use Rattle.office_core_replay.specs.Ending.{mark_in}
+use Rattle.office_core_replay.specs.steps.Ending.{mark_in}
 use Rattle.office_core_replay.specs.Losses.{DeliveryCounted, TextCounted, ReportsCounted, DeliveriesCounted, MarksCounted}
 
 pub delivery_weaker : (P Q : Type 0) (mark : Mark) → (P → Q) → DeliveryCounted P mark → DeliveryCounted Q mark

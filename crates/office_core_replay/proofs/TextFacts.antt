@@ -6,7 +6,7 @@ use Rattle.office_store_keeper.specs.declared.values.Reports.{Reports}
 use Rattle.office_core_orders.specs.declared.faults.StoreFault.{StoreFault}
 use Rattle.office_core.specs.Preserves.{Asks, Holds, StoreRefused}
 use Rattle.office_core_orders.specs.Counted.{Counted}
-use Rattle.office_core_replay.specs.Ending.{mark_in, report_shown}
+use Rattle.office_core_replay.specs.steps.Ending.{mark_in, report_shown}
 use Rattle.office_core_replay.specs.Losses.{TextCounted}
 use Rattle.office_core_facts.specs.Outcome.{reports_of}
 use Rattle.office_core_replay.specs.Output.{or_refused}

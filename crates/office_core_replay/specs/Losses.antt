@@ -5,10 +5,10 @@ use Rattle.office_mail.specs.declared.bag.BagFault.{BagFault}
 use Rattle.office_mail.specs.declared.bag.BagFault.TheVariants as bag
 use Rattle.office_mail.specs.Runs.{IsReadyCount}
 use Rattle.office_core_orders.specs.declared.faults.StoreFault.{StoreFault}
-use Rattle.office_core_orders.specs.declared.faults.StoreFault.TheVariants.{NoMemory, Store}
+use Rattle.office_core_orders.specs.declared.faults.StoreFault.TheVariants.{Store}
 use Rattle.office_core_orders.specs.declared.replies.Delivery.{Delivery}
 use Rattle.office_core_orders.specs.declared.replies.Mark.{Mark}
-use Rattle.office_core_orders.specs.declared.replies.Mark.TheVariants.{Taken, LostForMemory, LostForStore}
+use Rattle.office_core_orders.specs.declared.replies.Mark.TheVariants.{LostForStore}
 use Rattle.office_core_facts.specs.OfficeState.{OfficeState}
 use Rattle.office_core_replay.specs.Output.{Marks, ReportMarks}
 
@@ -28,11 +28,8 @@ has_refusal marks = (is_missing marks.status || (is_missing marks.count || is_re
 
 -- whether the bag ended because memory ran out
 abbrev pub is_short : Option BagFault → Bool
-is_short None = false
-is_short (Some bag.BadHeader) = false
-is_short (Some bag.Truncated) = false
-is_short (Some bag.ReadFault) = false
 is_short (Some bag.NoMemory) = true
+is_short _ = false
 
 -- The marks are those of an end: a printed ready count is that of the mail, and each run after run k has its two marks.
 pub record MarksEnd (s : OfficeState) (k ready : ℕ) (marks : Marks) : Type 0 where
@@ -41,15 +38,13 @@ pub record MarksEnd (s : OfficeState) (k ready : ℕ) (marks : Marks) : Type 0 w
 
 -- The store counts what it loses: it can lose a delivery only if this holds (its count of refusals rose) ..
 abbrev pub DeliveryCounted : Type 0 → Mark → Type 0
-DeliveryCounted rose Taken = ⊤
-DeliveryCounted rose LostForMemory = ⊤
 DeliveryCounted rose LostForStore = rose
+DeliveryCounted rose _ = ⊤
 
 -- .. and so is a text
 abbrev pub TextCounted : Type 0 → Option StoreFault → Type 0
-TextCounted rose None = ⊤
-TextCounted rose (Some NoMemory) = ⊤
 TextCounted rose (Some Store) = rose
+TextCounted rose _ = ⊤
 
 abbrev pub ReportsCounted : Type 0 → List ReportMarks → Type 0
 ReportsCounted rose reports = AllByRecursion (λ mark. TextCounted rose mark.0 × TextCounted rose mark.1) reports

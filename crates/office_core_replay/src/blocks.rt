@@ -7,10 +7,10 @@ ghost use Rattle.office_mail.specs.Kept.{kept_from};
 ghost use Rattle.office_core_orders.specs.Replies.{reply_line};
 ghost use Rattle.office_core_orders.specs.Written.{AppendsFront};
 ghost use Rattle.office_core.specs.Together.{AreHeldHere, answers_to};
-ghost use Rattle.office_core_replay.specs.BlockSteps.{DeliversLastFront, DeliversTextsFront, TakesLast, TakesTexts};
+ghost use Rattle.office_core_replay.specs.steps.BlockSteps.{DeliversLastFront, DeliversTextsFront, TakesLast, TakesTexts};
 ghost use Rattle.office_core_replay.specs.Blocks.{DeliversTexts};
 ghost use Rattle.office_core_replay.specs.Delivered.{DeliversFront, KeepsMail};
-ghost use Rattle.office_core_replay.specs.DeliverySteps.{DeliversAll};
+ghost use Rattle.office_core_replay.specs.steps.DeliverySteps.{DeliversAll};
 ghost use Rattle.office_core.specs.Preserves.{Preserves, Holds, StoreRefused};
 ghost use Rattle.office_core_facts.specs.State.{state_of};
 

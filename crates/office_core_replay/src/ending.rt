@@ -7,7 +7,7 @@ ghost use Rattle.office_core_facts.specs.Outcome.{reports_of};
 ghost use Rattle.office_core_orders.specs.Replies.{bag_line};
 ghost use Rattle.office_core_orders.specs.Written.{AppendsFront};
 ghost use Rattle.office_core_replay.specs.Output.{or_refused};
-ghost use Rattle.office_core_replay.specs.Ending.{status_shown, text_shown, report_shown, WritesRun, WritesRunFront, WritesReports, WritesReportsFront, WritesNews, WritesNewsFront, WritesEnd, WritesEndFront};
+ghost use Rattle.office_core_replay.specs.steps.Ending.{status_shown, text_shown, report_shown, WritesRun, WritesRunFront, WritesReports, WritesReportsFront, WritesNews, WritesNewsFront, WritesEnd, WritesEndFront};
 ghost use Rattle.office_core_facts.specs.State.{state_of};
 
 use deb_control::Text;

@@ -5,7 +5,7 @@ ghost use Rattle.office_mail.specs.Counts.{HasRisen};
 ghost use Rattle.office_mail.specs.BagSteps.{ReadFails, CountsEach};
 ghost use Rattle.office_core.specs.Preserves.{Preserves, Holds, StoreRefused};
 ghost use Rattle.office_core_replay.specs.Delivered.{DeliversFront};
-ghost use Rattle.office_core_replay.specs.DeliverySteps.{DeliversAll, DeliversOne, DeliversOneFront, Settles};
+ghost use Rattle.office_core_replay.specs.steps.DeliverySteps.{DeliversAll, DeliversOne, DeliversOneFront, Settles};
 ghost use Rattle.office_core.specs.Laws.{RunsStand};
 ghost use Rattle.office_core_replay.specs.Losses.{is_short};
 ghost use Rattle.office_core_replay.specs.Replay.{Replays, ReplaysAll, ReplaysFront, StopsEarly, StopsReplay, status_of};

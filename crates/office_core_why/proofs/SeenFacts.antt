@@ -16,7 +16,7 @@ use Rattle.office_store_keeper.specs.Content.{Content}
 use Rattle.office_core_facts.specs.Seen.{IsSeen}
 use Rattle.office_core_facts.specs.State.{IsOffice}
 use Rattle.office_core_why.specs.Hints.{hint_lines, hints_text}
-use Rattle.office_core_why.specs.SeenText.{IsSeenText, text_over}
+use Rattle.office_core_why.specs.steps.SeenText.{IsSeenText, text_over}
 use Rattle.office_core_why.specs.UnstableText.{unstable_text}
 use Rattle.office_core_why.specs.Why.{Unstable}
 use Rattle.office_core_why.specs.declared.seen.Subject.{Subject}

@@ -19,14 +19,14 @@ use Rattle.office_mail.specs.Lists.{Lists}
 use Rattle.office_mail.specs.Runs.{cover, cover_of, latest_day, orders_to}
 use Rattle.office_store_keeper.specs.declared.values.Reports.{Reports}
 use Rattle.office_store_keeper.specs.Content.{Content, item_from_one}
-use Rattle.office_core_orders.specs.Ready.{FirstOrders}
+use Rattle.office_core_orders.specs.steps.Ready.{FirstOrders}
 use Rattle.office_core_facts.specs.Outcome.{covered_items, reports_of}
 use Rattle.office_core_facts.specs.State.{IsOffice}
-use Rattle.office_core_facts.specs.Walk.{said_within}
+use Rattle.office_core_facts.specs.steps.Walk.{said_within}
 use Rattle.office_core_facts.proofs.ReportFacts.{report_is}
 use Rattle.office_core_facts.proofs.TakenFacts.{said_within-same}
 use Rattle.office_core_facts.proofs.WalkFacts.{stands_for_covered}
-use Rattle.office_core_why.specs.Telling.{IsToldWith, unstable_of}
+use Rattle.office_core_why.specs.steps.Telling.{IsToldWith, unstable_of}
 use Rattle.office_core_why.specs.Why.{IsTold, IsToldBy, IsToldOf, IsWhy, Unstable, unstable_in}
 use Rattle.office_core_why.specs.declared.WhyText.{WhyText}
 

@@ -1,6 +1,5 @@
 pub mod Hints
 pub mod Later
-pub mod SeenText
-pub mod Telling
 pub mod UnstableText
 pub mod Why
+pub mod steps

@@ -6,13 +6,13 @@ ghost use Rattle.testing_rules_model.specs.Covered.{Covered};
 ghost use Rattle.testing_rules_model.specs.StandsFor.{StandsFor};
 ghost use Rattle.office_mail.specs.Runs.{cover_of, orders_to};
 ghost use Rattle.office_core_orders.specs.Counted.{Counted};
-ghost use Rattle.office_core_orders.specs.ReadsStore.{ReadsStore};
-ghost use Rattle.office_core_orders.specs.Ready.{FirstOrders};
+ghost use Rattle.office_core_orders.specs.steps.ReadsStore.{ReadsStore};
+ghost use Rattle.office_core_orders.specs.steps.Ready.{FirstOrders};
 ghost use Rattle.office_core_orders.specs.StaysTrusted.{StaysTrusted};
 ghost use Rattle.office_core_facts.specs.Known.{AreKnown};
 ghost use Rattle.office_core_facts.specs.State.{IsOffice};
 ghost use Rattle.office_core_why.specs.Hints.{IsHintsText};
-ghost use Rattle.office_core_why.specs.SeenText.{IsSeenText, text_over};
+ghost use Rattle.office_core_why.specs.steps.SeenText.{IsSeenText, text_over};
 ghost use Rattle.office_core_why.specs.UnstableText.{IsUnstableText};
 
 use crate::hints::hints_over;

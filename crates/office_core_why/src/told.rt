@@ -8,7 +8,7 @@ ghost use Rattle.testing_rules_model.specs.StandsFor.{StandsFor};
 ghost use Rattle.testing_rules_excuses.specs.Lines.{IsOriginText};
 ghost use Rattle.testing_rules_excuses.specs.States as states;
 ghost use Rattle.testing_rules_reports.specs.Sources as lines;
-ghost use Rattle.office_core_why.specs.Telling.{unstable_of};
+ghost use Rattle.office_core_why.specs.steps.Telling.{unstable_of};
 ghost use Rattle.office_core_why.specs.Why.{AreOrigins, IsRefused, IsRefusedWhere, IsTold, IsToldBy, IsToldOf, said_in, sender_names};
 
 use crate::WhyText;

@@ -32,8 +32,9 @@ use Rattle.office_core_orders.specs.Waiting.{Awaits, AwaitsBy}
 use Rattle.office_core_orders.proofs.WaitingFacts.{one_list}
 use Rattle.office_core_breaks.specs.declared.BreaksText.{BreaksText}
 use Rattle.office_http.specs.Breaks.{body_answer, breaks_answer}
-use Rattle.office_http.specs.Serve.{action_answer, body_of, post_answer, answer_of, proposal_answer, why_answer, AsksBreaks, AsksProposal, Found, IsFound, IsFoundBy, IsFoundByPost, IsFoundFor}
-use Rattle.office_http.specs.ServeSteps.{whole_page}
+use Rattle.office_http.specs.Serve.{action_answer, body_of, answer_of, proposal_answer, AsksBreaks, AsksProposal, Found, IsFound, IsFoundBy, IsFoundFor}
+use Rattle.office_http.specs.steps.ServeSteps.{post_answer, why_answer, IsFoundByPost}
+use Rattle.office_http.specs.steps.ServeSteps.{whole_page}
 use Rattle.office_http.specs.ShortTexts.{short_page}
 use Rattle.office_http.proofs.ServeFacts.{page_is}
 use Rattle.office_http.specs.Trials.{terms_of, tried_answer}

@@ -8,7 +8,7 @@ use Rattle.office_mail.specs.declared.message.MailFault.{MailFault}
 use Rattle.office_mail.specs.Kept.{Kept, Place, kept_from, place_cmp, place_of}
 use Rattle.office_mail.specs.Lists.{Lists}
 use Rattle.office_mail.specs.Read.{read}
-use Rattle.office_mail.proofs.KeptFacts.{kept_from-fault, kept_from-free, kept_from-taken, places_total, tied}
+use Rattle.office_mail.proofs.KeptFacts.{kept_from-fault, kept_from-free, kept_from-nil, kept_from-taken, places_total, tied}
 use Rattle.office_core_orders.specs.declared.faults.StoreFault.{StoreFault}
 use Rattle.office_core_facts.specs.OfficeState.{OfficeState}
 use Rattle.office_core.specs.OneSender.{ButOf}
@@ -32,9 +32,9 @@ own_place setup kept sender body p (Ok message) is own other = by_place (get kep
         here (eq_by_cmp place_cmp p (place_of message)) refl (ap (λ (k : Kept). get k p) (kept_from-free setup kept body message is free) ∙ get-insert places_total kept (place_of message) body p)
 
 pub bound : (s : OfficeState) (sender : ℕ) (body : List ℕ) (fault : Option StoreFault) → ButOf sender s.kept (kept_by s (DeliverOf sender) body fault)
-bound s sender body (Some f) = λ p other. refl
+bound s sender body (Some f) = λ p other. sym (ap (λ (k : Kept). get k p) (kept_from-nil s.setup s.kept))
 bound s sender body None = λ p other. go p other (is_of_other sender (read s.setup body)) refl
   where
-    go : (p : Place) → p.0 ≢ sender → (b : Bool) → is_of_other sender (read s.setup body) ≡ b → get s.kept p ≡ get (cond b s.kept (kept_from s.setup s.kept (body ∷ []))) p
-    go p other true is = refl
+    go : (p : Place) → p.0 ≢ sender → (b : Bool) → is_of_other sender (read s.setup body) ≡ b → get s.kept p ≡ get (kept_from s.setup s.kept (cond b [] (body ∷ []))) p
+    go p other true is = sym (ap (λ (k : Kept). get k p) (kept_from-nil s.setup s.kept))
     go p other false is = own_place s.setup s.kept sender body p (read s.setup body) refl is other

@@ -12,13 +12,13 @@ use Rattle.office_core_replay.specs.Losses.{TextCounted}
 use Rattle.office_core_facts.specs.OfficeState.{OfficeState}
 use Rattle.office_http.specs.Breaks.{changes_answer}
 use Rattle.office_http.specs.Serve.{refusal_for, Moves}
-use Rattle.office_http.specs.ServeSteps.{answer_or, TellsChanges, Runs}
+use Rattle.office_http.specs.steps.ServeSteps.{answer_or, TellsChanges, Runs}
 use Rattle.office_http.specs.Trials.{hints_in}
-use Rattle.office_http.proofs.ServeFacts.{nothing, still_moves}
+use Rattle.office_http.proofs.ServeFacts.{nothing, quiet, still_moves}
 
 -- the question does nothing
 asked_moves : (rose : Type 0) (before after : OfficeState) (body : List ℕ) (f : Option StoreFault) → after ≡ before → Moves before after Breaks body f 0 rose
-asked_moves rose before after body f same = still_moves rose before after Breaks body f 0 refl refl (λ e. absurd (cc (e))) same
+asked_moves rose before after body f same = still_moves rose before after Breaks body f 0 (quiet before.setup Breaks body f refl) refl (λ e. absurd (cc (e))) same
 
 asked_missed : (rose : Type 0) (before after : OfficeState) (body : List ℕ) (f : StoreFault) → TextCounted rose (Some f) → after ≡ before → Runs before after Breaks body (Refused (refusal_for f)) rose
 asked_missed rose before after body f counted same = record { fault = Some f; by_store = counted; found = nothing; is = λ e. absurd (cc (e)); answer_is = refl; moves = asked_moves rose before after body (Some f) same }

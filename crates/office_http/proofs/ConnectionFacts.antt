@@ -1,32 +1,18 @@
 -- What a connection leaves of the runs that were finished before.
-use Rattle.std.proofs.Common.{⊎_elim, ℕ, Bool, true, false, cond, List, [], ◌∷◌, Option, Some, None, Result, Ok, Err, IfOk, IfErr, refl, sym, subst}
-use Rattle.office_mail.specs.Kept.{Within, kept_from}
-use Rattle.office_mail.specs.Read.{read}
+use Rattle.std.proofs.Common.{⊎_elim, ℕ, List, Option, Some, None, Result, Ok, Err, IfOk, IfErr, sym, subst}
+use Rattle.office_mail.specs.Kept.{Within}
 use Rattle.office_mail.proofs.KeptFacts.{kept_from-Within}
 use Rattle.office_core_orders.specs.declared.faults.StoreFault.{StoreFault}
 use Rattle.office_http_requests.specs.declared.request.Action.{Action}
-use Rattle.office_http_requests.specs.declared.request.Action.TheVariants.{Breaks, Deliver, DeliverOf, Look, Settle, Try, TryOn}
 use Rattle.office_http.specs.declared.serve.ServeFault.{ServeFault}
 use Rattle.office_http.specs.declared.serve.ServeFault.TheVariants.{Read, Write}
 use Rattle.office_http.specs.declared.serve.Served.{Served}
-use Rattle.office_http.specs.Serve.{is_of_other, kept_by, Does, IsServed, Serves, StopsServe}
+use Rattle.office_http.specs.Serve.{delivered_by, kept_by, Does, IsServed, Serves, StopsServe}
 use Rattle.office_core_facts.specs.OfficeState.{OfficeState}
 use Rattle.office_core_replay.proofs.StandFacts.{Grows, grows_same}
 
 within_by : (s : OfficeState) (action : Action) (body : List ℕ) (fault : Option StoreFault) → Within s.kept (kept_by s action body fault)
-within_by s Deliver body None = kept_from-Within s.setup s.kept (body ∷ [])
-within_by s Deliver body (Some f) = λ p h. refl
-within_by s (DeliverOf sender) body None = go (is_of_other sender (read s.setup body))
-  where
-    go : (b : Bool) → Within s.kept (cond b s.kept (kept_from s.setup s.kept (body ∷ [])))
-    go true = λ p h. refl
-    go false = kept_from-Within s.setup s.kept (body ∷ [])
-within_by s (DeliverOf sender) body (Some f) = λ p h. refl
-within_by s Look body fault = λ p h. refl
-within_by s Settle body fault = λ p h. refl
-within_by s Try body fault = λ p h. refl
-within_by s (TryOn day) body fault = λ p h. refl
-within_by s Breaks body fault = λ p h. refl
+within_by s action body fault = kept_from-Within s.setup s.kept (delivered_by s.setup (Some (action, body)) fault)
 
 grows_does : (before after : OfficeState) (post : Option (Action × List ℕ)) (fault : Option StoreFault) (ready : ℕ) (rose : Type 0) → Does before after post fault ready rose → Grows before after
 grows_does before after None fault ready rose h = grows_same before after h

@@ -1,5 +1,5 @@
 -- A life is steps of the headline, and what was told of a finished run stays.
-use Rattle.std.proofs.Common.{◌≡◌, ℕ, zero, suc, ◌-◌, ◌<◌, ◌≤◌, ◌↔◌, Bool, true, false, List, [], ◌∷◌, ◌++◌, Option, Some, None, Ok, inl, inr, option_map, flat_map, length, replicate, slice_get, append-nil, sym, ap, subst, ◌∙◌, refl, arith}
+use Rattle.std.proofs.Common.{◌≡◌, ℕ, zero, suc, ◌-◌, ◌<◌, ◌≤◌, ◌↔◌, Bool, true, false, List, [], ◌∷◌, ◌++◌, Option, Some, None, Ok, inl, inr, option_map, flat_map, fold, length, replicate, slice_get, append-nil, sym, ap, subst, ◌∙◌, refl, arith}
 use Rattle.std.proofs.lemmas.Grind.{flat_map-append}
 use Rattle.office_mail.specs.Kept.{kept_from}
 use Rattle.office_mail.specs.Lists.{Lists}
@@ -9,10 +9,11 @@ use Rattle.office_store_keeper.specs.declared.values.Reports.{Reports}
 use Rattle.office_core_orders.specs.Replies.{not_lost}
 use Rattle.office_core_facts.specs.State.{IsOffice, IsSound, reports_at, state_of}
 use Rattle.office_core_facts.proofs.ReportFacts.{reports_at-is}
-use Rattle.office_core.specs.History.{Finished, IsByRules, Leads, Looked, Settled, Step, coming, is_settled, settled_by, settled_from, text_in, texts_in}
+use Rattle.office_core.specs.History.{Finished, IsByRules, Leads, Looked, Settled, Step, coming, is_settled, settled_by, text_in, texts_in}
 use Rattle.office_core.specs.Came.{AllCame}
 use Rattle.office_core.specs.Laws.{RunsStand}
 use Rattle.office_core.specs.Preserves.{Preserves, StoreRefused}
+use Rattle.office_core.specs.Visible.{visible}
 use Rattle.office_core.proofs.CameFacts.{finished_by}
 use Rattle.office_core.proofs.HistoryFacts.{by_rules_all, came_leads, leads_stand, leads_twice, looked}
 use Rattle.office_core.proofs.OfficeFacts.{IsOffice-new}
@@ -31,7 +32,8 @@ use Rattle.office_http_requests.specs.declared.request.Posted.{Posted}
 use Rattle.office_http_requests.specs.declared.request.Asked.TheVariants.{Post, Tell}
 use Rattle.office_http_requests.specs.declared.request.Page.TheVariants.{Excuses, Update}
 use Rattle.office_http.specs.Life.{ByReplay, ByRequest, Event, Happens, IsEvent, IsLedBy, Lives, Reopened, texts_of}
-use Rattle.office_http.specs.Serve.{Does, Exchange, Found, IsServed, Serves, StopsServe, answer_of, delivered_by, posted_body, report_answer}
+use Rattle.office_http.specs.Serve.{Does, Exchange, Found, IsServed, Serves, StopsServe, answer_of, delivered_by, posted_body}
+use Rattle.office_http.specs.steps.ServeSteps.{report_answer}
 use Rattle.office_http.proofs.StepFacts.{request_leads, told_settled}
 
 -- ---- what an event leaves
@@ -123,11 +125,11 @@ life_led keeper (e ∷ es) a b h was trusted =
     (event_led keeper e a mid h.1 mid_trusted was)
     (subst (λ (s : Lists). IsLedBy s (flat_map (texts_of s) es) (keeper.content mid) (keeper.content b)) same rest)
 
-led_rules : (setup : Lists) (texts : List (List ℕ)) (old new : Content) → old ≡ no_content → IsLedBy setup texts old new → IsByRules setup texts new
+led_rules : (setup : Lists) (texts : List (List ℕ)) (old new : Content) → old ≡ no_content → IsLedBy setup texts old new → IsByRules setup texts (visible new)
 led_rules setup texts old new none led =
-    subst (λ (ts : List (List ℕ)). IsByRules setup ts new) led.came (by_rules_all setup led.steps new (subst (λ (c : Content). Leads setup c led.steps new) none led.leads))
+    subst (λ (ts : List (List ℕ)). IsByRules setup ts (visible new)) led.came (by_rules_all setup led.steps (visible new) (subst (λ (c : Content). Leads setup c led.steps new) none led.leads))
 
-pub life_rules : {K : Type 0} (keeper : Ghosts K) (es : List Event) (a b : K) → Lives keeper a es b → keeper.is_legible a → keeper.content a ≡ no_content → keeper.is_trusted b → IsByRules (keeper.setup a) (flat_map (texts_of (keeper.setup a)) es) (keeper.content b)
+pub life_rules : {K : Type 0} (keeper : Ghosts K) (es : List Event) (a b : K) → Lives keeper a es b → keeper.is_legible a → keeper.content a ≡ no_content → keeper.is_trusted b → IsByRules (keeper.setup a) (flat_map (texts_of (keeper.setup a)) es) (visible (keeper.content b))
 life_rules keeper es a b h legible none trusted =
     led_rules (keeper.setup a) (flat_map (texts_of (keeper.setup a)) es) (keeper.content a) (keeper.content b) none
     (life_led keeper es a b h (legible, subst (IsOffice (keeper.setup a)) (sym none) (IsOffice-new (keeper.setup a))) trusted)
@@ -197,11 +199,11 @@ settling_texts : (n : ℕ) → texts_in (replicate n Finished ++ Settled ∷ [])
 settling_texts zero = refl
 settling_texts (suc n) = settling_texts n
 
-settling_ends : (n : ℕ) (was : Bool) → settled_from was (replicate n Finished ++ Settled ∷ []) ≡ true
+settling_ends : (n : ℕ) (was : Bool) → fold settled_by was (replicate n Finished ++ Settled ∷ []) ≡ true
 settling_ends zero was = refl
 settling_ends (suc n) was = settling_ends n false
 
-settled_after : (xs ys : List Step) (was : Bool) → settled_from was (xs ++ ys) ≡ settled_from (settled_from was xs) ys
+settled_after : (xs ys : List Step) (was : Bool) → fold settled_by was (xs ++ ys) ≡ fold settled_by (fold settled_by was xs) ys
 settled_after [] ys was = refl
 settled_after (x ∷ xs) ys was = settled_after xs ys (settled_by was x)
 
@@ -209,9 +211,9 @@ led_finishes : (setup : Lists) (texts : List (List ℕ)) (old mid new : Content)
 led_finishes setup texts old mid new n k none led settles =
     let last : List Step = coming [] n Settled in
     let leads : Leads setup no_content (led.steps ++ last) new = subst (λ (c : Content). Leads setup c (led.steps ++ last) new) none (leads_twice setup led.steps last old mid new led.leads settles) in
-    let settled : is_settled (led.steps ++ last) ≡ true = settled_after led.steps last false ∙ settling_ends n (settled_from false led.steps) in
+    let settled : is_settled (led.steps ++ last) ≡ true = settled_after led.steps last false ∙ settling_ends n (fold settled_by false led.steps) in
     let came : texts_in (led.steps ++ last) ≡ texts = flat_map-append text_in led.steps last ∙ ap (λ (ts : List (List ℕ)). texts_in led.steps ++ ts) (settling_texts n) ∙ append-nil (texts_in led.steps) ∙ led.came in
-    subst (λ (ts : List (List ℕ)). AllCame setup ts k ↔ (k ≤ length new.reports)) came (finished_by setup (led.steps ++ last) new k leads settled)
+    subst (λ (ts : List (List ℕ)). AllCame setup ts k ↔ (k ≤ length new.reports)) came (finished_by setup (led.steps ++ last) (visible new) k leads settled)
 
 pub life_finished : {K : Type 0} (keeper : Ghosts K) (es : List Event) (old mid new : K) (k : ℕ) (left : Option (List ℕ)) (input told reply : List ℕ) (code : ℕ) (p : Posted) → Lives keeper old es mid → keeper.is_legible old → keeper.content old ≡ no_content → Preserves keeper mid new → keeper.is_trusted new
     → (x : Exchange (state_of keeper mid) (state_of keeper new) left input told reply code (StoreRefused keeper mid new)) → asked_of (keeper.setup mid) x.head ≡ Post p → p.action ≡ Settle → code ≡ 200

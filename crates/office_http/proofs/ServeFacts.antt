@@ -1,5 +1,6 @@
 -- What a connection comes to. P, Q and R say that the store refused: in a first part, in what follows, and in both.
-use Rattle.std.proofs.Common.{◌≡◌, inl, inr, ⊎_elim, ℕ, ◌+◌, ◌-◌, ◌≤◌, ◌<◌, Bool, true, false, not, ◌&&◌, cond, nat_le, if◌then◌else◌, List, [], ◌∷◌, ◌++◌, length, take, drop, Option, Some, None, Result, Ok, Err, IfOk, IfErr, IfSome, OnOk, is_ok, refl, sym, ap, subst, ◌∙◌, arith, append_assoc, append-nil, ◌⊎◌}
+use Rattle.std.proofs.Common.{◌≡◌, inl, inr, ⊎_elim, ℕ, ◌+◌, ◌-◌, ◌≤◌, ◌<◌, Bool, true, false, ◌||◌, cond, nat_le, if◌then◌else◌, List, [], ◌∷◌, ◌++◌, length, take, drop, Option, Some, None, Result, Ok, Err, IfOk, IfErr, IfSome, OnOk, is_ok, refl, sym, ap, subst, ◌∙◌, arith, append_assoc, append-nil, ◌⊎◌}
+use Rattle.std.specs.List.{list_any}
 use Rattle.std.specs.Option.{option_map}
 use Rattle.std.specs.FinMap.{get}
 use Rattle.jiff_core.specs.declared.civil.date.Date.{Date}
@@ -48,9 +49,10 @@ use Rattle.office_core_queries.specs.NextOrder.{order_text}
 use Rattle.office_core_queries.specs.RunLines.{runs_text}
 use Rattle.office_core_facts.specs.Outcome.{testing_text, testing_after}
 use Rattle.office_core_orders.specs.Replies.{reply_by, mark_of, if_taken}
-use Rattle.office_http_requests.specs.Reply.{continue_bytes, refused, reply_in, reply_bytes, HasPlace}
+use Rattle.office_http_requests.specs.Reply.{continue_bytes, refused, reply_in, reply_bytes}
+use Rattle.office_http_requests.specs.steps.Reply.{HasPlace}
 use Rattle.office_http_requests.specs.Request.{body_room, head_room, BeginsWith}
-use Rattle.office_http_requests.specs.RequestSteps.{Came, IsHeadAt}
+use Rattle.office_http_requests.specs.steps.RequestSteps.{Came, IsHeadAt}
 use Rattle.office_core_facts.specs.OfficeState.{OfficeState}
 use Rattle.office_core_facts.specs.State.{AnswersDelivery, answer_to, reports_at}
 use Rattle.office_core_orders.specs.Written.{AppendsFront}
@@ -58,16 +60,17 @@ use Rattle.office_core_outcome.specs.declared.proposal.Proposal.{Proposal}
 use Rattle.office_core_outcome.specs.declared.Trial.TheVariants.{NoDate}
 use Rattle.office_core_outcome.specs.declared.TrialOptions.{TrialOptions}
 use Rattle.office_http.specs.Trials.{request_terms, terms_on}
-use Rattle.office_http.specs.Serve.{mail_counts, unbroken_of, page_answer, is_of_other, unless_other, if_known, proposal_answer, refusal_for, report_answer, why_answer, letter_answer, delivery_answer, by_fault, posted_body, post_answer, answer_of, waits_of, continued, kept_by, settles, Does, Exchange, Found, IsFoundByPost, IsFoundFor, IsProposedFor, IsUnread, IsServed, Moves, Replied, RepliedFront, Serves, IsAwaited, StopsBefore, StopsServe}
+use Rattle.office_http.specs.Serve.{mail_counts, unbroken_of, page_answer, is_of_other, proposal_answer, refusal_for, delivery_answer, by_fault, posted_body, answer_of, waits_of, continued, delivered_by, kept_by, settles, Does, Exchange, Found, IsFoundFor, IsProposedFor, IsUnread, IsServed, Moves, Replied, RepliedFront, Serves, IsAwaited, StopsBefore, StopsServe}
+use Rattle.office_http.specs.steps.ServeSteps.{unless_other, if_known, report_answer, why_answer, letter_answer, post_answer, IsFoundByPost}
 use Rattle.office_core_why.specs.Hints.{IsHintsText}
 use Rattle.office_core_why.specs.UnstableText.{IsUnstableText}
 use Rattle.office_core_why.specs.Why.{IsWhy}
 use Rattle.office_core_why.specs.declared.WhyText.{WhyText}
 use Rattle.office_http.specs.ShortTexts.{is_told_whole, short_answer, short_page}
-use Rattle.office_http.specs.ServeSteps.{answer_or, whole_page, part_answer, status_answer, text_answer, Tells, TellsAwaited, TellsBreaks, TellsProposal, TellsShort, Runs, Answers, ServesHead, ServesFront, StopsRequest}
+use Rattle.office_http.specs.steps.ServeSteps.{answer_or, whole_page, part_answer, status_answer, text_answer, Tells, TellsAwaited, TellsBreaks, TellsProposal, TellsShort, Runs, Answers, ServesHead, ServesFront, StopsRequest}
 use Rattle.office_core_replay.proofs.ReplayFacts.{Leaves, reply_by-mark, delivery_counted, kept_after}
 use Rattle.office_core_replay.proofs.RiseFacts.{delivery_weaker, text_weaker}
-use Rattle.office_core_replay.specs.DeliverySteps.{Settles}
+use Rattle.office_core_replay.specs.steps.DeliverySteps.{Settles}
 
 -- where nothing is found that the answer tells
 abbrev pub nothing : Found
@@ -284,15 +287,49 @@ answered Taken r due e = ap delivery_answer e
 answered LostForMemory r due e = ap delivery_answer e
 answered LostForStore r due e = ap delivery_answer e
 
+-- one of these texts is held
+abbrev pub any_held : OfficeState → List (List ℕ) → Bool
+any_held s texts = list_any (λ text. is_ok (answer_to s.setup s.kept text)) texts
+
+one_held : (b : Bool) → (b || false) ≡ b
+one_held true = refl
+one_held false = refl
+
+-- what only looks, settles or asks delivers nothing
+abbrev pub is_quiet : Action → Bool
+is_quiet Deliver = false
+is_quiet (DeliverOf sender) = false
+is_quiet _ = true
+
+pub quiet : (setup : Lists) (action : Action) (body : List ℕ) (f : Option StoreFault) → is_quiet action ≡ true → delivered_by setup (Some (action, body)) f ≡ []
+quiet setup Deliver body f h = absurd (cc)
+quiet setup (DeliverOf sender) body f h = absurd (cc)
+quiet setup Look body None h = refl
+quiet setup Look body (Some f) h = refl
+quiet setup Settle body None h = refl
+quiet setup Settle body (Some f) h = refl
+quiet setup Try body None h = refl
+quiet setup Try body (Some f) h = refl
+quiet setup (TryOn day) body None h = refl
+quiet setup (TryOn day) body (Some f) h = refl
+quiet setup Breaks body None h = refl
+quiet setup Breaks body (Some f) h = refl
+
+pub quiet_keeps : (s : OfficeState) (action : Action) (body : List ℕ) (f : Option StoreFault) → is_quiet action ≡ true → kept_by s action body f ≡ s.kept
+quiet_keeps s action body f h = ap (kept_from s.setup s.kept) (quiet s.setup action body f h) ∙ kept_from-nil s.setup s.kept
+
+pub look_settles : (s : OfficeState) (body : List ℕ) (f : Option StoreFault) → settles s Look body f ≡ false
+look_settles s body f = ap (any_held s) (quiet s.setup Look body f refl)
+
 kept_is : (s : OfficeState) (text : List ℕ) (m : Mark) → kept_from s.setup s.kept (if_taken m text []) ≡ kept_by s Deliver text (lost_of m)
 unfolding lost_of
 kept_is s text Taken = refl
-kept_is s text LostForMemory = kept_from-nil s.setup s.kept
-kept_is s text LostForStore = kept_from-nil s.setup s.kept
+kept_is s text LostForMemory = refl
+kept_is s text LostForStore = refl
 
 settles_is : (s : OfficeState) (text : List ℕ) (m : Mark) (r : Result Held DeliverFault) → r ≡ reply_by m (answer_to s.setup s.kept text) → settles s Deliver text (lost_of m) ≡ is_ok r
 unfolding lost_of
-settles_is s text Taken r e = sym (ap is_ok e)
+settles_is s text Taken r e = one_held (is_ok (answer_to s.setup s.kept text)) ∙ sym (ap is_ok e)
 settles_is s text LostForMemory r e = sym (ap is_ok e)
 settles_is s text LostForStore r e = sym (ap is_ok e)
 
@@ -342,17 +379,17 @@ delivered P Q R before mid after text r l l_rises f f_rises =
       };
     }
 
--- what neither keeps nor settles does nothing
-pub still_moves : (rose : Type 0) (before after : OfficeState) (action : Action) (body : List ℕ) (f : Option StoreFault) (ready : ℕ) → kept_by before action body f ≡ before.kept → settles before action body f ≡ false → (action ≡ Settle → ⊥) → after ≡ before → Moves before after action body f ready rose
-still_moves rose before after action body f ready kept still other same = record {
+-- what delivers nothing and isn't to settle does nothing
+pub still_moves : (rose : Type 0) (before after : OfficeState) (action : Action) (body : List ℕ) (f : Option StoreFault) (ready : ℕ) → delivered_by before.setup (Some (action, body)) f ≡ [] → settles before action body f ≡ any_held before (delivered_by before.setup (Some (action, body)) f) → (action ≡ Settle → ⊥) → after ≡ before → Moves before after action body f ready rose
+still_moves rose before after action body f ready none held other same = record {
   setup = ap (λ (s : OfficeState). s.setup) same;
-  kept = ap (λ (s : OfficeState). s.kept) same ∙ sym kept;
+  kept = ap (λ (s : OfficeState). s.kept) same ∙ sym (ap (kept_from before.setup before.kept) none ∙ kept_from-nil before.setup before.kept);
   grows = omega (arith, ap (λ (s : OfficeState). s.finished) same);
   still = λ h. ap (λ (s : OfficeState). s.finished) same;
   settled = λ h e. absurd (other h);
   met = None;
   met_by_store = tt;
-  all_ready = λ h e. absurd (let no : true ≡ false = sym h ∙ still in cc);
+  all_ready = λ h e. absurd (let no : true ≡ false = sym h ∙ held ∙ ap (any_held before) none in cc);
   only_ready = λ h. subst (λ (s : OfficeState). IsReady s.setup s.kept s.finished) (sym same) h;
 }
 
@@ -366,16 +403,16 @@ looked rose before after text r due same err =
       found = nothing;
       is = λ e. tt;
       answer_is = answered m r (answer_to before.setup before.kept text) (reply_by-mark r (answer_to before.setup before.kept text) due);
-      moves = still_moves rose before after Look text (lost_of m) 0 refl refl (λ e. absurd (cc (e))) same;
+      moves = still_moves rose before after Look text (lost_of m) 0 (quiet before.setup Look text (lost_of m) refl) refl (λ e. absurd (cc (e))) same;
     }
 
 -- a delivery of a sender's own text, by its path, is a delivery
 own_kept : (s : OfficeState) (sender : ℕ) (body : List ℕ) (f : Option StoreFault) → is_of_other sender (read s.setup body) ≡ false → kept_by s Deliver body f ≡ kept_by s (DeliverOf sender) body f
-own_kept s sender body None own = sym (ap (λ (b : Bool). cond b s.kept (kept_from s.setup s.kept (body ∷ []))) own)
+own_kept s sender body None own = sym (ap (λ (b : Bool). kept_from s.setup s.kept (cond b [] (body ∷ []))) own)
 own_kept s sender body (Some f) own = refl
 
 own_settles : (s : OfficeState) (sender : ℕ) (body : List ℕ) (f : Option StoreFault) → is_of_other sender (read s.setup body) ≡ false → settles s Deliver body f ≡ settles s (DeliverOf sender) body f
-own_settles s sender body None own = sym (ap (λ (b : Bool). not b && is_ok (answer_to s.setup s.kept body)) own)
+own_settles s sender body None own = sym (ap (λ (b : Bool). any_held s (cond b [] (body ∷ []))) own)
 own_settles s sender body (Some f) own = refl
 
 pub delivered_own : (rose : Type 0) (before after : OfficeState) (sender : ℕ) (body : List ℕ) (answer : Answer) → is_of_other sender (read before.setup body) ≡ false → Runs before after Deliver body answer rose → Runs before after (DeliverOf sender) body answer rose
@@ -406,8 +443,7 @@ delivered_other rose s sender body other = record {
   found = nothing;
   is = λ e. tt;
   answer_is = sym (ap (λ (b : Bool). unless_other b (delivery_answer (answer_to s.setup s.kept body))) other);
-  moves = still_moves rose s s (DeliverOf sender) body None 0 (ap (λ (b : Bool). cond b s.kept (kept_from s.setup s.kept (body ∷ []))) other)
-      (ap (λ (b : Bool). not b && is_ok (answer_to s.setup s.kept body)) other) (λ e. absurd (cc (e))) refl;
+  moves = still_moves rose s s (DeliverOf sender) body None 0 (ap (λ (b : Bool). cond b [] (body ∷ [])) other) refl (λ e. absurd (cc (e))) refl;
 }
 
 -- nor does a text that memory doesn't suffice to read
@@ -429,7 +465,7 @@ settle_missed rose before after text f by_store s k g o = record {
   found = nothing;
   is = λ e. absurd (cc (e));
   answer_is = refl;
-  moves = record { setup = s; kept = k; grows = g; still = λ h. absurd (cc (h)); settled = λ h e. absurd (cc (e)); met = Some f; met_by_store = by_store; all_ready = λ h e. absurd (cc (e)); only_ready = λ h. ready_moved before after after.finished s k o };
+  moves = record { setup = s; kept = k ∙ sym (kept_from-nil before.setup before.kept); grows = g; still = λ h. absurd (cc (h)); settled = λ h e. absurd (cc (e)); met = Some f; met_by_store = by_store; all_ready = λ h e. absurd (cc (e)); only_ready = λ h. ready_moved before after after.finished s k o };
 }
 
 pub settled : (rose : Type 0) (before after : OfficeState) (text : List ℕ) (r : Result Progress StoreFault) → IfOk r (λ p. IsReadyCount before.setup before.kept p.ready) → IfOk r (λ p. (p.finished ≡ p.ready) × (after.finished ≡ p.ready)) → after.setup ≡ before.setup → after.kept ≡ before.kept → before.finished ≤ after.finished → IsReady before.setup before.kept after.finished → (r ≡ Err fault.Store → rose) → Runs before after Settle text (status_answer r) rose
@@ -441,7 +477,7 @@ settled rose before after text (Ok p) counted fin s k g o err = record {
   answer_is = ap (λ (n : ℕ). Status (record { ready = p.ready; finished = n })) fin.0;
   moves = record {
     setup = s;
-    kept = k;
+    kept = k ∙ sym (kept_from-nil before.setup before.kept);
     grows = g;
     still = λ h. absurd (cc (h));
     settled = λ h e. fin.1;
@@ -457,8 +493,8 @@ settled rose before after text (Err fault.Store) counted fin s k g o err = settl
 -- where a fault was met before anything was done
 does_nothing : (rose : Type 0) (s : OfficeState) (o : Option (Action × List ℕ)) (f : StoreFault) (ready : ℕ) → TextCounted rose (Some f) → Does s s o (Some f) ready rose
 does_nothing rose s None f ready h = refl
-does_nothing rose s (Some (Deliver, body)) f ready by = record { setup = refl; kept = refl; grows = omega arith; still = λ h. refl; settled = λ h e. absurd (cc (e)); met = Some f; met_by_store = by; all_ready = λ h e. absurd (cc (e)); only_ready = λ h. h }
-does_nothing rose s (Some (Settle, body)) f ready by = record { setup = refl; kept = refl; grows = omega arith; still = λ h. refl; settled = λ h e. absurd (cc (e)); met = Some f; met_by_store = by; all_ready = λ h e. absurd (cc (e)); only_ready = λ h. h }
+does_nothing rose s (Some (Deliver, body)) f ready by = record { setup = refl; kept = sym (kept_from-nil s.setup s.kept); grows = omega arith; still = λ h. refl; settled = λ h e. absurd (cc (e)); met = Some f; met_by_store = by; all_ready = λ h e. absurd (cc (e)); only_ready = λ h. h }
+does_nothing rose s (Some (Settle, body)) f ready by = record { setup = refl; kept = sym (kept_from-nil s.setup s.kept); grows = omega arith; still = λ h. refl; settled = λ h e. absurd (cc (e)); met = Some f; met_by_store = by; all_ready = λ h e. absurd (cc (e)); only_ready = λ h. h }
 does_nothing rose s (Some (DeliverOf sender, body)) f ready by = still_moves rose s s (DeliverOf sender) body (Some f) ready refl refl (λ e. absurd (cc (e))) refl
 does_nothing rose s (Some (Look, body)) f ready by = still_moves rose s s Look body (Some f) ready refl refl (λ e. absurd (cc (e))) refl
 does_nothing rose s (Some (Try, body)) f ready by = still_moves rose s s Try body (Some f) ready refl refl (λ e. absurd (cc (e))) refl

@@ -1,7 +1,6 @@
 -- What a request does, as steps of an office's history.
-use Rattle.std.proofs.Common.{◌≡◌, ℕ, ◌-◌, ◌≤◌, Bool, true, false, cond, List, [], ◌∷◌, Option, Some, None, length, sym, ap, subst, ◌∙◌, option_map, refl, arith}
+use Rattle.std.proofs.Common.{◌≡◌, ℕ, ◌-◌, ◌≤◌, true, List, [], Option, Some, None, length, sym, ap, subst, ◌∙◌, option_map, refl, arith}
 use Rattle.office_mail.specs.Lists.{Lists}
-use Rattle.office_mail.specs.Read.{read}
 use Rattle.office_mail.specs.Kept.{Kept, kept_from}
 use Rattle.office_mail.specs.Runs.{IsReadyCount}
 use Rattle.office_mail.proofs.KeptFacts.{kept_from-nil}
@@ -11,7 +10,7 @@ use Rattle.office_core_facts.specs.State.{IsOffice, IsSound, state_of}
 use Rattle.office_core_orders.specs.declared.faults.StoreFault.{StoreFault}
 use Rattle.office_core_orders.specs.declared.faults.StoreFault.TheVariants.{NoMemory, Store}
 use Rattle.office_http_requests.specs.declared.request.Action.{Action}
-use Rattle.office_http_requests.specs.declared.request.Action.TheVariants.{Breaks, Deliver, DeliverOf, Look, Settle, Try, TryOn}
+use Rattle.office_http_requests.specs.declared.request.Action.TheVariants.{Settle}
 use Rattle.office_http_requests.specs.declared.request.Asked.{Asked}
 use Rattle.office_http_requests.specs.declared.request.Asked.TheVariants.{Post}
 use Rattle.office_http_requests.specs.declared.request.Posted.{Posted}
@@ -23,27 +22,8 @@ use Rattle.office_http_requests.specs.declared.reply.Refusal.TheVariants.{BadReq
 use Rattle.office_core.specs.History.{Leads, Looked, Settled, coming}
 use Rattle.office_core.specs.Preserves.{StoreRefused}
 use Rattle.office_core.proofs.HistoryFacts.{came_leads, came_settled}
-use Rattle.office_http.specs.Serve.{Does, Exchange, Found, IsFound, IsFoundByPost, Moves, answer_of, body_of, by_fault, delivered_by, is_of_other, kept_by, post_answer, posted_body, settles}
-
-kept_by-is : (s : OfficeState) (action : Action) (body : List ℕ) (fault : Option StoreFault) → kept_by s action body fault ≡ kept_from s.setup s.kept (delivered_by s.setup (Some (action, body)) fault)
-kept_by-is s Deliver body None = refl
-kept_by-is s Deliver body (Some f) = sym (kept_from-nil s.setup s.kept)
-kept_by-is s (DeliverOf sender) body None = go (is_of_other sender (read s.setup body))
-  where
-    go : (b : Bool) → cond b s.kept (kept_from s.setup s.kept (body ∷ [])) ≡ kept_from s.setup s.kept (cond b [] (body ∷ []))
-    go true = sym (kept_from-nil s.setup s.kept)
-    go false = refl
-kept_by-is s (DeliverOf sender) body (Some f) = sym (kept_from-nil s.setup s.kept)
-kept_by-is s Look body None = sym (kept_from-nil s.setup s.kept)
-kept_by-is s Look body (Some f) = sym (kept_from-nil s.setup s.kept)
-kept_by-is s Settle body None = sym (kept_from-nil s.setup s.kept)
-kept_by-is s Settle body (Some f) = sym (kept_from-nil s.setup s.kept)
-kept_by-is s Try body None = sym (kept_from-nil s.setup s.kept)
-kept_by-is s Try body (Some f) = sym (kept_from-nil s.setup s.kept)
-kept_by-is s (TryOn day) body None = sym (kept_from-nil s.setup s.kept)
-kept_by-is s (TryOn day) body (Some f) = sym (kept_from-nil s.setup s.kept)
-kept_by-is s Breaks body None = sym (kept_from-nil s.setup s.kept)
-kept_by-is s Breaks body (Some f) = sym (kept_from-nil s.setup s.kept)
+use Rattle.office_http.specs.Serve.{Does, Exchange, Found, IsFound, Moves, answer_of, body_of, by_fault, delivered_by, posted_body, settles}
+use Rattle.office_http.specs.steps.ServeSteps.{IsFoundByPost, post_answer}
 
 state_leads : {K : Type 0} (keeper : Ghosts K) (old new : K) (texts : List (List ℕ)) → keeper.setup new ≡ keeper.setup old → (keeper.content new).kept ≡ kept_from (keeper.setup old) (keeper.content old).kept texts → length (keeper.content old).reports ≤ length (keeper.content new).reports → IsSound keeper old → IsSound keeper new
     → Leads (keeper.setup old) (keeper.content old) (coming texts (length (keeper.content new).reports - length (keeper.content old).reports) Looked) (keeper.content new)
@@ -56,7 +36,7 @@ request_leads keeper old new None fault ready does was is =
     let size : length (keeper.content new).reports ≡ length (keeper.content old).reports = ap (λ (s : OfficeState). s.finished) does in
     state_leads keeper old new [] (ap (λ (s : OfficeState). s.setup) does) (ap (λ (s : OfficeState). s.kept) does ∙ sym (kept_from-nil (keeper.setup old) (keeper.content old).kept)) (omega (arith, size)) was is
 request_leads keeper old new (Some (action, body)) fault ready does was is =
-    state_leads keeper old new (delivered_by (keeper.setup old) (Some (action, body)) fault) does.setup (does.kept ∙ kept_by-is (state_of keeper old) action body fault) does.grows was is
+    state_leads keeper old new (delivered_by (keeper.setup old) (Some (action, body)) fault) does.setup does.kept does.grows was is
 
 -- ---- a request whose settle met nothing ends in that
 
@@ -65,7 +45,7 @@ state_settled : {K : Type 0} (keeper : Ghosts K) (old new : K) (action : Action)
     → Leads (keeper.setup old) (keeper.content old) (coming (delivered_by (keeper.setup old) (Some (action, body)) fault) (length (keeper.content new).reports - length (keeper.content old).reports) Settled) (keeper.content new)
 state_settled keeper old new action body fault ready does was is count =
     came_settled (keeper.setup old) (delivered_by (keeper.setup old) (Some (action, body)) fault) (keeper.content old) (keeper.content new) was.1 (subst (λ (s : Lists). IsOffice s (keeper.content new)) does.setup is.1)
-    (does.kept ∙ kept_by-is (state_of keeper old) action body fault) does.grows count
+    does.kept does.grows count
 
 pub request_settled : {K : Type 0} (keeper : Ghosts K) (old new : K) (action : Action) (body : List ℕ) (fault : Option StoreFault) (ready : ℕ) → (does : Moves (state_of keeper old) (state_of keeper new) action body fault ready (StoreRefused keeper old new)) → IsSound keeper old → IsSound keeper new
     → settles (state_of keeper old) action body fault ≡ true → does.met ≡ None

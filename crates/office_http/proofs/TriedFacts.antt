@@ -19,16 +19,16 @@ use Rattle.office_core_outcome.specs.declared.Trial.TheVariants.{NoDate}
 use Rattle.office_core_outcome.specs.declared.TrialOptions.{TrialOptions}
 use Rattle.office_http.specs.Serve.{action_answer, refusal_for, Found, IsFoundBy, Moves}
 use Rattle.office_http.specs.Trials.{few_answer, has_many_hints, hints_in, trial_answer, tried_answer, terms_of}
-use Rattle.office_http.specs.ServeSteps.{answer_or, TellsTrial, Runs}
-use Rattle.office_http.proofs.ServeFacts.{nothing, still_moves}
+use Rattle.office_http.specs.steps.ServeSteps.{answer_or, TellsTrial, Runs}
+use Rattle.office_http.proofs.ServeFacts.{nothing, quiet, still_moves}
 
 -- a trial does nothing, and is answered by what it is told
 some_same : (x y : TrialOptions) → Some x ≡ Some y → x ≡ y
 some_same x y e = ap (λ (o : Option TrialOptions). unwrap_or o x) e
 
 trial_moves : (rose : Type 0) (before after : OfficeState) (action : Action) (terms : TrialOptions) (body : List ℕ) (f : Option StoreFault) (ready : ℕ) → terms_of action ≡ Some terms → after ≡ before → Moves before after action body f ready rose
-trial_moves rose before after Try terms body f ready by same = still_moves rose before after Try body f ready refl refl (λ e. absurd (cc (e))) same
-trial_moves rose before after (TryOn day) terms body f ready by same = still_moves rose before after (TryOn day) body f ready refl refl (λ e. absurd (cc (e))) same
+trial_moves rose before after Try terms body f ready by same = still_moves rose before after Try body f ready (quiet before.setup Try body f refl) refl (λ e. absurd (cc (e))) same
+trial_moves rose before after (TryOn day) terms body f ready by same = still_moves rose before after (TryOn day) body f ready (quiet before.setup (TryOn day) body f refl) refl (λ e. absurd (cc (e))) same
 trial_moves rose before after Deliver terms body f ready by same = absurd (cc (by))
 trial_moves rose before after (DeliverOf sender) terms body f ready by same = absurd (cc (by))
 trial_moves rose before after Look terms body f ready by same = absurd (cc (by))

@@ -2,17 +2,17 @@ pub mod Breaks
 pub mod Life
 pub mod ShortTexts
 pub mod Serve
-pub mod ServeSteps
 pub mod Trials
+pub mod steps
 pub use Rattle.office_http_requests.specs.Asked
 pub use Rattle.office_core.specs.Preserves
 pub use Rattle.office_core_orders.specs.Counted
 pub use Rattle.office_core_replay.specs.Delivered
-pub use Rattle.office_core_replay.specs.Ending
+pub use Rattle.office_core_replay.specs.steps.Ending
 pub use Rattle.office_core_facts.specs.Known
 pub use Rattle.office_core_orders.specs.StaysTrusted
 pub use Rattle.office_core.specs.Laws
-pub use Rattle.office_core_orders.specs.ReadsStore
+pub use Rattle.office_core_orders.specs.steps.ReadsStore
 pub use Rattle.office_core_replay.specs.Losses
 pub use Rattle.office_core_facts.specs.Outcome
 pub use Rattle.office_core_replay.specs.Output
@@ -25,5 +25,5 @@ pub use Rattle.office_http_requests.specs.Routes
 pub use Rattle.office_core_facts.specs.OfficeState
 pub use Rattle.office_core_facts.specs.State
 pub use Rattle.office_core_orders.specs.Waiting
-pub use Rattle.office_core_facts.specs.Walk
+pub use Rattle.office_core_facts.specs.steps.Walk
 pub use Rattle.office_core_orders.specs.Written

@@ -1,9 +1,9 @@
 -- The outcome of one connection: the reply as a function of the request, the office's state and the faults met.
-use Rattle.std.specs.Prelude.{◌≡◌, ⊤, ◌⊎◌, ◌≤◌, ◌<◌, ◌+◌, ℕ, Bool, true, false, not, ◌&&◌, List, [], ◌∷◌, ◌++◌, ◌==◌, length, map, take, nat_le, if◌then◌else◌, Option, Some, None, Result, Ok, Err, is_ok}
-use Rattle.std.specs.Option.{option_map}
+use Rattle.std.specs.Prelude.{◌≡◌, ⊤, ◌⊎◌, ◌≤◌, ◌<◌, ◌+◌, ℕ, Bool, true, false, not, List, [], ◌∷◌, ◌++◌, ◌==◌, length, map, take, nat_le, if◌then◌else◌, Option, Some, None, Result, Ok, Err, IfSome, is_ok}
+use Rattle.std.specs.Option.{option_map, option_map_or}
 use Rattle.std.specs.FinMap.{get}
 use Rattle.jiff_core.specs.declared.civil.date.Date.{Date}
-use Rattle.std.specs.List.{range_with_len}
+use Rattle.std.specs.List.{list_any, range_with_len}
 use Rattle.std.specs.Str.{is_utf8}
 use Rattle.std.specs.Io.KnownBytes.{Appends, Consumes, IsAtEnd}
 use Rattle.httparse.specs.Grammar.{RequestHead, HasNoRequest, NeverHasRequest}
@@ -71,25 +71,6 @@ abbrev pub refusal_for : StoreFault → Refusal
 refusal_for fault.NoMemory = refusal.NoMemory
 refusal_for fault.Store = refusal.Store
 
-abbrev pub report_answer : Result (Option (List ℕ)) StoreFault → Answer
-report_answer (Ok (Some text)) = Told text
-report_answer (Ok None) = Refused refusal.NoRun
-report_answer (Err f) = Refused (refusal_for f)
-
--- the text on a source, if unstable has it
-abbrev pub if_known : Bool → List ℕ → Answer
-if_known known text = if known then Told text else Refused refusal.NoSource
-
-abbrev pub why_answer : Result (Option WhyText) StoreFault → Answer
-why_answer (Ok (Some why)) = if_known why.is_known why.text
-why_answer (Ok None) = Refused refusal.NoRun
-why_answer (Err f) = Refused (refusal_for f)
-
-abbrev pub letter_answer : Result (Option (List ℕ)) StoreFault → Answer
-letter_answer (Ok (Some text)) = Letter text
-letter_answer (Ok None) = Refused refusal.NoMessage
-letter_answer (Err f) = Refused (refusal_for f)
-
 abbrev pub delivery_answer : Result Held DeliverFault → Answer
 delivery_answer (Err Store) = Refused refusal.Store
 delivery_answer (Err (Mail mail.NoMemory)) = Refused refusal.NoMemory
@@ -99,10 +80,6 @@ delivery_answer reply = Delivered reply
 abbrev pub is_of_other : ℕ → Result Message MailFault → Bool
 is_of_other sender (Ok message) = not (message.sender == sender)
 is_of_other sender (Err fault) = false
-
--- the answer to a text that a sender's path delivers
-abbrev pub unless_other : Bool → Answer → Answer
-unless_other other due = if other then Refused refusal.OtherSender else due
 
 -- the answer given the fault that was met, or none
 abbrev pub by_fault : Option StoreFault → Answer → Answer
@@ -144,8 +121,7 @@ pub record Found : Type 0 where
 
 -- what is proposed; there is no proposal if no run is finished
 abbrev pub proposal_answer : Option Proposal → Answer
-proposal_answer None = Refused refusal.NoRun
-proposal_answer (Some proposal) = Told (proposal_text proposal.hints.items proposal.answers.items)
+proposal_answer proposal = option_map_or (λ (p : Proposal). Told (proposal_text p.hints.items p.answers.items)) proposal (Refused refusal.NoRun)
 
 abbrev pub IsProposedFor : OfficeState → TrialOptions → List (List ℕ) → Option Proposal → Type 0
 IsProposedFor s terms sources None = trial_date (latest_day (orders_to s.setup s.kept s.finished)) terms.day ≡ None
@@ -156,9 +132,9 @@ abbrev pub added_page : OfficeState → Found → Page → Answer
 added_page s found page.Waiting = Told (waiting_text s.setup (record { progress = record { ready = found.ready; finished = s.finished }; awaited = found.awaited }))
 added_page s found page.Runs = Told (runs_text s)
 added_page s found page.Kept = Told (mail_text s.setup (mail_counts s.setup s.kept))
-added_page s found (page.Letter sender number) = letter_answer (Ok (get s.kept (sender, number)))
+added_page s found (page.Letter sender number) = option_map_or Letter (get s.kept (sender, number)) (Refused refusal.NoMessage)
 added_page s found (page.Bag sender from) = Letter (bag_part s.kept sender from)
-added_page s found (page.Why source) = why_answer (Ok found.why)
+added_page s found (page.Why source) = option_map_or (λ (why : WhyText). if why.is_known then Told why.text else Refused refusal.NoSource) found.why (Refused refusal.NoRun)
 added_page s found (page.Order day) = Told (order_text s.setup (unbroken_of s.kept) day)
 added_page s found page.Hints = Told (hints_text s.setup s.finished (cover s.setup s.kept s.finished) found.seen (testing_after s.setup s.kept s.finished))
 added_page s found page.Unstable = Told (unstable_text s.setup.archs s.finished found.seen)
@@ -172,14 +148,14 @@ added_page s found _ = Refused refusal.NoRoute
 abbrev pub page_answer : OfficeState → Found → Page → Answer
 page_answer s found page.Status = Status (record { ready = found.ready; finished = s.finished })
 page_answer s found page.Testing = Told (testing_text s.setup s.finished (testing_after s.setup s.kept s.finished))
-page_answer s found (page.Excuses run) = report_answer (Ok (option_map (λ reports. reports.excuses) (reports_at s run)))
-page_answer s found (page.Update run) = report_answer (Ok (option_map (λ reports. reports.updates) (reports_at s run)))
+page_answer s found (page.Excuses run) = option_map_or Told (option_map (λ reports. reports.excuses) (reports_at s run)) (Refused refusal.NoRun)
+page_answer s found (page.Update run) = option_map_or Told (option_map (λ reports. reports.updates) (reports_at s run)) (Refused refusal.NoRun)
 page_answer s found added = short_page added (added_page s found added)
 
 -- The answer to a POST that was added to the first two: the one due to a delivery, what the hints would change, or what a
 -- change breaks. A text that is only looked at is answered as if it were delivered.
 abbrev pub added_action : OfficeState → Found → Action → List ℕ → Answer
-added_action s found (DeliverOf sender) body = unless_other (is_of_other sender (read s.setup body)) (delivery_answer (answer_to s.setup s.kept body))
+added_action s found (DeliverOf sender) body = if is_of_other sender (read s.setup body) then Refused refusal.OtherSender else delivery_answer (answer_to s.setup s.kept body)
 added_action s found Look body = delivery_answer (answer_to s.setup s.kept body)
 added_action s found Try body = tried_answer s.setup body found.trial
 added_action s found (TryOn day) body = tried_answer s.setup body found.trial
@@ -198,19 +174,14 @@ body_of size rest = if nat_le size (length rest) then Some (take size rest) else
 
 abbrev pub posted_body : Asked → List ℕ → Option (Action × List ℕ)
 posted_body (asks.Post p) rest = option_map (λ (body : List ℕ). (p.action, body)) (body_of p.length rest)
-posted_body (asks.Tell page) rest = None
-posted_body (asks.Refused r) rest = None
+posted_body _ rest = None
 
--- the answer to a POST, which is refused if the input ends within its body
-abbrev pub post_answer : OfficeState → Found → Option (Action × List ℕ) → Answer
-post_answer s found None = Refused refusal.BadRequest
-post_answer s found (Some post) = action_answer s found post.0 post.1
-
--- THE ANSWER TO A REQUEST, from what it asks, the bytes after its head, and what is found
+-- THE ANSWER TO A REQUEST, from what it asks, the bytes after its head, and what is found. A POST is refused if the input
+-- ends within its body.
 abbrev pub answer_of : OfficeState → Found → Asked → List ℕ → Answer
 answer_of s found (asks.Refused r) rest = Refused r
 answer_of s found (asks.Tell page) rest = page_answer s found page
-answer_of s found (asks.Post p) rest = post_answer s found (posted_body (asks.Post p) rest)
+answer_of s found (asks.Post p) rest = option_map_or (λ (post : Action × List ℕ). action_answer s found post.0 post.1) (posted_body (asks.Post p) rest) (Refused refusal.BadRequest)
 
 -- what is found is right, as far as a page shows it that was added to the first four
 abbrev pub IsFoundForAdded : OfficeState → Found → Page → Type 0
@@ -245,15 +216,11 @@ IsFoundBy s found Deliver body = ⊤
 IsFoundBy s found Settle body = IsReadyCount s.setup s.kept found.ready
 IsFoundBy s found added body = IsFoundByAdded s found added body
 
-abbrev pub IsFoundByPost : OfficeState → Found → Option (Action × List ℕ) → Type 0
-IsFoundByPost s found None = ⊤
-IsFoundByPost s found (Some post) = IsFoundBy s found post.0 post.1
-
 -- as far as the answer to a request does
 abbrev pub IsFound : OfficeState → Found → Asked → List ℕ → Type 0
 IsFound s found (asks.Refused r) rest = ⊤
 IsFound s found (asks.Tell page) rest = IsFoundFor s found page
-IsFound s found (asks.Post p) rest = IsFoundByPost s found (posted_body (asks.Post p) rest)
+IsFound s found (asks.Post p) rest = IfSome (posted_body (asks.Post p) rest) (λ (post : Action × List ℕ). IsFoundBy s found post.0 post.1)
 
 -- a request for proposals
 abbrev pub AsksProposal : Asked → Type 0
@@ -266,43 +233,27 @@ AsksBreaks asked = ((source : List ℕ) × (asked ≡ asks.Tell (page.Breaks sou
 
 -- whether a client waits for 100 Continue
 abbrev pub waits_of : Asked → Bool
-waits_of (asks.Refused r) = false
-waits_of (asks.Tell page) = false
 waits_of (asks.Post p) = p.waits
+waits_of _ = false
 
 abbrev pub continued : Bool → List ℕ
 continued goes_on = if goes_on then continue_bytes else []
 
--- What is kept after a POST that was added to the first two. On a sender's path a body is delivered only if it is no
--- message of another sender.
-abbrev pub kept_by_added : OfficeState → Action → List ℕ → Option StoreFault → Kept
-kept_by_added s (DeliverOf sender) body None = if is_of_other sender (read s.setup body) then s.kept else kept_from s.setup s.kept (body ∷ [])
-kept_by_added s _ body fault = s.kept
-
--- what is kept after a POST: the whole body is delivered once, unless a fault was met
-abbrev pub kept_by : OfficeState → Action → List ℕ → Option StoreFault → Kept
-kept_by s Deliver body None = kept_from s.setup s.kept (body ∷ [])
-kept_by s Deliver body (Some f) = s.kept
-kept_by s Settle body fault = s.kept
-kept_by s added body fault = kept_by_added s added body fault
-
--- the texts that a request delivers to an office with this setup
+-- The texts that a request delivers to an office with this setup: the whole body, unless a fault was met. On a sender's
+-- path it is delivered only if it is no message of another sender.
 abbrev pub delivered_by : Lists → Option (Action × List ℕ) → Option StoreFault → List (List ℕ)
 delivered_by setup (Some (Deliver, body)) None = body ∷ []
 delivered_by setup (Some (DeliverOf sender, body)) None = if is_of_other sender (read setup body) then [] else body ∷ []
 delivered_by setup _ _ = []
 
--- whether a POST that was added to the first two settles
-abbrev pub settles_by_added : OfficeState → Action → List ℕ → Option StoreFault → Bool
-settles_by_added s (DeliverOf sender) body None = not (is_of_other sender (read s.setup body)) && is_ok (answer_to s.setup s.kept body)
-settles_by_added s _ body fault = false
+-- what is kept after a POST: what it delivers comes once
+abbrev pub kept_by : OfficeState → Action → List ℕ → Option StoreFault → Kept
+kept_by s action body fault = kept_from s.setup s.kept (delivered_by s.setup (Some (action, body)) fault)
 
--- whether a POST settles: a delivery that is held, and a settle
+-- whether a POST settles: a settle, and one that delivers a text that is held
 abbrev pub settles : OfficeState → Action → List ℕ → Option StoreFault → Bool
-settles s Deliver body None = is_ok (answer_to s.setup s.kept body)
-settles s Deliver body (Some f) = false
 settles s Settle body fault = true
-settles s added body fault = settles_by_added s added body fault
+settles s action body fault = list_any (λ text. is_ok (answer_to s.setup s.kept text)) (delivered_by s.setup (Some (action, body)) fault)
 
 -- what a POST does
 pub record Moves (before after : OfficeState) (action : Action) (body : List ℕ) (fault : Option StoreFault) (ready : ℕ) (rose : Type 0) : Type 0 where
@@ -325,9 +276,8 @@ Does before after (Some post) fault ready rose = Moves before after post.0 post.
 
 -- all of a request has come, or the input has ended
 abbrev pub IsWhole : Asked → List ℕ → Option (List ℕ) → Type 0
-IsWhole (asks.Refused r) rest left = ⊤
-IsWhole (asks.Tell page) rest left = ⊤
 IsWhole (asks.Post p) rest left = (p.length ≤ length rest) ⊎ IsAtEnd left
+IsWhole _ rest left = ⊤
 
 -- these bytes begin with a request whose client waits for permission to continue
 pub record IsAwaited (setup : Lists) (input : List ℕ) : Type 0 where

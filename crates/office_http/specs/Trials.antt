@@ -10,7 +10,7 @@ use Rattle.office_mail.specs.Lists.{Lists}
 use Rattle.office_core_orders.specs.declared.faults.DeliverFault.TheVariants.{Mail}
 use Rattle.office_core_orders.specs.Replies.{fault_words, name_at}
 use Rattle.office_http_requests.specs.declared.request.Action.{Action}
-use Rattle.office_http_requests.specs.declared.request.Action.TheVariants.{Breaks, Deliver, DeliverOf, Look, Settle, Try, TryOn}
+use Rattle.office_http_requests.specs.declared.request.Action.TheVariants.{Try, TryOn}
 use Rattle.office_http_requests.specs.declared.reply.Refusal.TheVariants as refusal
 use Rattle.office_http_requests.specs.declared.reply.Answer.{Answer}
 use Rattle.office_http_requests.specs.declared.reply.Answer.TheVariants.{Refused, Delivered, Told, BadHint}
@@ -34,11 +34,7 @@ terms_on day = record { day = Some day; all = true }
 abbrev pub terms_of : Action → Option TrialOptions
 terms_of Try = Some request_terms
 terms_of (TryOn day) = Some (terms_on day)
-terms_of Deliver = None
-terms_of (DeliverOf sender) = None
-terms_of Look = None
-terms_of Settle = None
-terms_of Breaks = None
+terms_of _ = None
 
 -- the hints of a body, one in each line; an empty body has an empty one
 abbrev pub hints_in : List ℕ → List (List ℕ)

@@ -3,9 +3,9 @@ ghost use Rattle.std.specs.Prelude.{◌≡◌, IfOk};
 ghost use Rattle.office_core.specs.Preserves.{Asks, Holds};
 ghost use Rattle.office_core_facts.specs.State.{state_of};
 ghost use Rattle.office_core_orders.specs.Counted.{Counted};
-ghost use Rattle.office_http.specs.ServeSteps.{TellsBreaks, TellsChanges, TellsQuestion, told_answer};
+ghost use Rattle.office_http.specs.steps.ServeSteps.{TellsBreaks, TellsChanges, TellsQuestion, told_answer};
 ghost use Rattle.office_http.specs.Trials.{hints_in};
-ghost use Rattle.office_http_requests.specs.Reply.{HasPlace};
+ghost use Rattle.office_http_requests.specs.steps.Reply.{HasPlace};
 
 use crate::short_texts::short_answer;
 use crate::trials::{hint_at, hints_in, refused_hint};

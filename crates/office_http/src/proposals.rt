@@ -4,9 +4,9 @@ ghost use Rattle.office_core.specs.Preserves.{Asks, Holds};
 ghost use Rattle.office_core_facts.specs.State.{state_of};
 ghost use Rattle.office_core_orders.specs.Counted.{Counted};
 ghost use Rattle.office_http.specs.Serve.{proposal_answer};
-ghost use Rattle.office_http.specs.ServeSteps.{TellsProposal};
+ghost use Rattle.office_http.specs.steps.ServeSteps.{TellsProposal};
 ghost use Rattle.office_http.specs.Trials.{request_terms, terms_on};
-ghost use Rattle.office_http_requests.specs.Reply.{HasPlace};
+ghost use Rattle.office_http_requests.specs.steps.Reply.{HasPlace};
 
 use crate::trials::{request_terms, terms_on};
 use deb_control::{NoMemory, Text};

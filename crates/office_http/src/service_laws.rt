@@ -14,6 +14,7 @@ ghost use Rattle.office_core.specs.History.{IsByRules, Leads, Looked, Settled, c
 ghost use Rattle.office_core.specs.Preserves.{Preserves, StoreRefused};
 ghost use Rattle.office_core.specs.Came.{AllCame};
 ghost use Rattle.office_core.specs.OneSender.{ButOf};
+ghost use Rattle.office_core.specs.Visible.{visible};
 ghost use Rattle.office_core_replay.specs.Replay.{Replays, StopsReplay};
 ghost use Rattle.office_core_replay.specs.declared.replays.Replayed.{Replayed};
 ghost use Rattle.office_mail.specs.Reading.{Reading};
@@ -72,7 +73,7 @@ pub fn requests_are_steps<K: Keeper>()
 /// on is what the headline says of these texts. What was answered on a finished run is answered ever after.
 pub fn life<K: Keeper>()
     ensures steps { (old new : K) (events : List Event) → Lives K.Keeper old events new → IsSound K.Keeper old → K.is_trusted new → IsLedBy (K.setup old) (flat_map (texts_of (K.setup old)) events) (K.content old) (K.content new) }
-    ensures rules { (old new : K) (events : List Event) → Lives K.Keeper old events new → K.is_legible old → K.content old ≡ no_content → K.is_trusted new → IsByRules (K.setup old) (flat_map (texts_of (K.setup old)) events) (K.content new) }
+    ensures rules { (old new : K) (events : List Event) → Lives K.Keeper old events new → K.is_legible old → K.content old ≡ no_content → K.is_trusted new → IsByRules (K.setup old) (flat_map (texts_of (K.setup old)) events) (visible (K.content new)) }
     ensures told { (old new : K) (events : List Event) (k : ℕ) → Lives K.Keeper old events new → IsSound K.Keeper old → K.is_trusted new → k ≤ length (K.content old).reports → reports_at (state_of K.Keeper new) k ≡ reports_at (state_of K.Keeper old) k }
     // So both pages of the run answer the same, whatever else is found.
     ensures excuses { (old new : K) (events : List Event) (k : ℕ) (x y : Found) (rest more : List ℕ) → Lives K.Keeper old events new → IsSound K.Keeper old → K.is_trusted new → k ≤ length (K.content old).reports → answer_of (state_of K.Keeper new) y (Asked.Tell (Page.Excuses k)) more ≡ answer_of (state_of K.Keeper old) x (Asked.Tell (Page.Excuses k)) rest }

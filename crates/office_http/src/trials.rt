@@ -2,14 +2,14 @@
 ghost use Rattle.std.specs.Prelude.{◌≡◌, ◌∷◌, [], IfErr, IfOk, slice_index_or};
 ghost use Rattle.std.specs.List.{count_by};
 ghost use Rattle.office_core_facts.specs.State.{state_of};
-ghost use Rattle.office_http.specs.ServeSteps.{TellsTrial};
+ghost use Rattle.office_http.specs.steps.ServeSteps.{TellsTrial};
 ghost use Rattle.office_http.specs.Trials.{begins_easy, has_many_hints, hints_in, is_mark, is_one_group, refused_hint, refused_line, request_terms, terms_on, trial_answer};
 ghost use Rattle.office_core_orders.specs.Counted.{Counted};
 ghost use Rattle.office_core_orders.specs.Replies.{name_at};
-ghost use Rattle.office_http_requests.specs.Reply.{HasPlace};
+ghost use Rattle.office_http_requests.specs.steps.Reply.{HasPlace};
 ghost use Rattle.office_core.specs.Preserves.{Asks, Holds};
 ghost use Rattle.office_core_facts.specs.Seen.{release};
-ghost use Rattle.testing_rules_reports.specs.LentLines.{lent_lines};
+ghost use Rattle.testing_rules_reports.specs.steps.LentLines.{lent_lines};
 ghost use Rattle.office_core_outcome.specs.Trial.{trial_text};
 
 use crate::short_texts::{line_count, short_text};

@@ -7,7 +7,10 @@ use Rattle.std.specs.Prelude.{slice_index}
 use Rattle.std.specs.Str.{IsAscii, IsUtf8}
 use Rattle.std.proofs.lemmas.Bool.Decides.{nat_tests}
 use Rattle.std.proofs.lemmas.Str.{IsAscii-append, IsUtf8-from_ascii}
-use Rattle.office_mail_setup.specs.Values.{DayForm, day_in, is_day_form}
+use Rattle.office_mail_setup.specs.Values.{is_day_form}
+use Rattle.office_mail_setup.specs.steps.Values.{DayForm}
+use Rattle.office_mail.specs.Days.{day_in}
+use Rattle.office_mail.proofs.DayFacts.{none_in}
 use Rattle.office_mail_setup.proofs.DayFacts.{form_of}
 
 digit_ascii : (c : ℕ) → is_ascii_digit c ≡ true → c < 128
@@ -53,9 +56,8 @@ form_ascii text is = let hyphens = hyphens_of text is in ten_ascii text (form_of
 
 -- a text that isn't UTF-8 is no day
 pub never_day : (text : List ℕ) → (IsUtf8 text → ⊥) → day_in text ≡ None
-unfolding day_in
 never_day text bad = go (is_day_form text) refl
   where
     go : (b : Bool) → is_day_form text ≡ b → day_in text ≡ None
     go true is = absurd (bad (IsUtf8-from_ascii text (form_ascii text is)))
-    go false is = rw is refl
+    go false is = none_in text is

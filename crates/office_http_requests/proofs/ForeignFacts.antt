@@ -7,7 +7,8 @@ use Rattle.httparse.specs.Grammar.{RequestHead}
 use Rattle.httparse.specs.Spans.{name_and_value}
 use Rattle.jiff_core.specs.declared.civil.date.Date.{Date}
 use Rattle.office_mail.specs.Lists.{Lists}
-use Rattle.office_mail_setup.specs.Values.{day_in, package_in}
+use Rattle.office_mail_setup.specs.Values.{package_in}
+use Rattle.office_mail.specs.Days.{day_in}
 use Rattle.office_http_requests.specs.Routes.{route_of}
 use Rattle.office_http_requests.specs.declared.routes.Route.{Route}
 use Rattle.office_http_requests.specs.declared.routes.Route.TheVariants as route

@@ -9,7 +9,8 @@ use Rattle.office_http_requests.specs.declared.request.Stated.TheVariants.{Absen
 use Rattle.office_http_requests.specs.declared.request.Framing.{Framing}
 use Rattle.office_http_requests.specs.declared.request.HostFields.{HostFields}
 use Rattle.office_http_requests.specs.declared.request.HostFields.TheVariants.{NoHost}
-use Rattle.office_http_requests.specs.Asked.{Line, values_named, are_digits, number_stated, stated, is_there, is_continue, is_foreign_site, hosts_stated, with_host, with_value, with_field, framing_of}
+use Rattle.office_http_requests.specs.Asked.{Line, values_named, are_digits, number_stated, stated, is_there, is_continue, is_foreign_site, hosts_stated, framing_of}
+use Rattle.office_http_requests.specs.steps.Asked.{with_host, with_value, with_field}
 
 -- the value of a field that has the name, or none
 value_if : List ℕ → Line → List (List ℕ)

@@ -9,7 +9,7 @@ use Rattle.office_http_requests.specs.declared.head.HeadRead.{HeadRead}
 use Rattle.office_http_requests.specs.declared.head.HeadRead.TheVariants.{NoMemory}
 use Rattle.office_http_requests.specs.declared.head.BodyRead.TheVariants as filled
 use Rattle.office_http_requests.specs.Request.{head_room}
-use Rattle.office_http_requests.specs.RequestSteps.{Draws, Heads, IsEnd, Fills}
+use Rattle.office_http_requests.specs.steps.RequestSteps.{Draws, Heads, IsEnd, Fills}
 
 -- bytes that were seen, and some more
 pub record Seen (left left' : Option (List ℕ)) (seen seen' : List ℕ) : Type 0 where

@@ -4,7 +4,8 @@ use Rattle.std.specs.List.{list_any}
 use Rattle.std.proofs.lemmas.List.Folds.{list_any_more}
 use Rattle.httparse.specs.Grammar.{RequestHead}
 use Rattle.office_http_requests.specs.Asked.{is_head_method}
-use Rattle.office_http_requests.specs.Hosts.{is_for_other, method_if, other_method}
+use Rattle.office_http_requests.specs.Hosts.{is_for_other}
+use Rattle.office_http_requests.specs.steps.Hosts.{method_if, other_method}
 
 -- of elements, as of their images
 pub any_of_images : {A B : Type 0} (p : B → Bool) (f : A → B) (xs : List A) → list_any (λ x. p (f x)) xs ≡ list_any p (map f xs)

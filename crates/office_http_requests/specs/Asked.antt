@@ -12,7 +12,8 @@ use Rattle.matchit.specs.Router.{RouteOf}
 use Rattle.office_mail.specs.Lists.{Lists}
 use Rattle.office_mail.specs.Read.{sender_named}
 use Rattle.jiff_core.specs.declared.civil.date.Date.{Date}
-use Rattle.office_mail_setup.specs.Values.{day_in, package_in}
+use Rattle.office_mail_setup.specs.Values.{package_in}
+use Rattle.office_mail.specs.Days.{day_in}
 use Rattle.office_mail_setup.specs.declared.setup.Role.{Role}
 use Rattle.office_http_requests.specs.Routes.{route_in, route_of}
 use Rattle.office_http_requests.specs.declared.routes.Route.{Route}
@@ -96,40 +97,6 @@ framing_of lines = record {
   hosts = hosts_stated (values_named (codes "host") lines);
 }
 
--- the same with one more value, and with one more field: no public contract cites these
-abbrev pub with_value : Stated → List ℕ → Stated
-with_value Absent value = number_stated value
-with_value Bad value = Bad
-with_value TooLong value = Bad
-with_value (Exactly n) value = Bad
-
-abbrev pub length_with : Stated → Line → Stated
-length_with stated line = if str_eq_ignore_ascii_case line.0 (codes "content-length") then with_value stated line.1 else stated
-
-abbrev pub waits_with : Bool → Line → Bool
-waits_with waits line = if str_eq_ignore_ascii_case line.0 (codes "expect") && is_continue line.1 then true else waits
-
-abbrev pub foreign_with : Bool → Line → Bool
-foreign_with foreign line =
-    if str_eq_ignore_ascii_case line.0 (codes "origin") then true else (if str_eq_ignore_ascii_case line.0 (codes "sec-fetch-site") && is_foreign_site line.1 then true else foreign)
-
-abbrev pub with_host : HostFields → HostFields
-with_host NoHost = OneHost
-with_host OneHost = SeveralHosts
-with_host SeveralHosts = SeveralHosts
-
-abbrev pub hosts_with : HostFields → Line → HostFields
-hosts_with hosts line = if str_eq_ignore_ascii_case line.0 (codes "host") then with_host hosts else hosts
-
-abbrev pub with_field : Framing → Line → Framing
-with_field framing line = record {
-  length = length_with framing.length line;
-  coded = if str_eq_ignore_ascii_case line.0 (codes "transfer-encoding") then true else framing.coded;
-  waits = waits_with framing.waits line;
-  foreign = foreign_with framing.foreign line;
-  hosts = hosts_with framing.hosts line;
-}
-
 -- the target up to its query
 abbrev pub is_query : ℕ → Bool
 is_query c = c == 63
@@ -141,12 +108,9 @@ abbrev pub has_leading_zero : List ℕ → Bool
 has_leading_zero [] = false
 has_leading_zero (c ∷ cs) = c == 48
 
-abbrev pub number_or_zero : List ℕ → ℕ
-number_or_zero text = if are_digits text then unwrap_or (number_under text) 0 else 0
-
 -- the number that digits without a leading zero spell; 0 for any other text, which no run and no message has
 unfoldable pub plain_number : List ℕ → ℕ
-plain_number text = if has_leading_zero text then 0 else number_or_zero text
+plain_number text = if has_leading_zero text then 0 else if are_digits text then unwrap_or (number_under text) 0 else 0
 
 -- The length of the body: one stated as a number, without a transfer coding. A settle may leave it out.
 abbrev pub absent_length : Action → Bool → Result ℕ Refusal
@@ -189,13 +153,11 @@ sender_place setup name = option_map (λ (sender : ℕ × Role). sender.0) (send
 
 -- the kept text of a sender's number; refused if no sender has the name
 abbrev pub letter_by : Option ℕ → ℕ → Asked
-letter_by None number = Refused NoMessage
-letter_by (Some sender) number = Tell (Letter sender number)
+letter_by sender number = option_map_or (λ place. Tell (Letter place number)) sender (Refused NoMessage)
 
 -- the kept mail of a sender from a number on, as a bag; refused if no sender has the name or no message the number
 abbrev pub bag_by : Option ℕ → ℕ → Asked
-bag_by None from = Refused NoMessage
-bag_by (Some sender) from = if from == 0 then Refused NoMessage else Tell (Bag sender from)
+bag_by sender from = option_map_or (λ place. if from == 0 then Refused NoMessage else Tell (Bag place from)) sender (Refused NoMessage)
 
 -- what a GET asks for with a sender's name and a number, with a slash between them
 abbrev pub numbered_asked : (Option ℕ → ℕ → Asked) → Lists → List ℕ → List ℕ → Asked
@@ -282,6 +244,5 @@ is_head_method head = bytes_eq head.method (codes "HEAD")
 
 -- how many bytes of a body are read
 abbrev pub body_size : Asked → ℕ
-body_size (Refused r) = 0
-body_size (Tell page) = 0
 body_size (Post p) = p.length
+body_size _ = 0

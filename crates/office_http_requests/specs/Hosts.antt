@@ -1,11 +1,11 @@
 -- Requests for another host than those by which a service is known. That a service may refuse them is this office's own.
-use Rattle.std.specs.Prelude.{◌≡◌, ℕ, Bool, true, false, not, ◌&&◌, ◌||◌, ◌==◌, List, [], ◌∷◌, length, take, drop, map, codes, Option, Some, None, if◌then◌else◌}
+use Rattle.std.specs.Prelude.{◌≡◌, ℕ, Bool, true, false, not, ◌&&◌, ◌||◌, ◌==◌, List, [], ◌∷◌, length, take, drop, map, codes}
 use Rattle.std.specs.List.{list_all, list_any}
 use Rattle.std.specs.Char.{is_ascii_digit}
 use Rattle.std.specs.Str.{str_eq_ignore_ascii_case}
 use Rattle.httparse.specs.Grammar.{RequestHead}
 use Rattle.httparse.specs.Spans.{name_and_value}
-use Rattle.office_http_requests.specs.Asked.{Line, is_head_method}
+use Rattle.office_http_requests.specs.Asked.{Line}
 use Rattle.office_http_requests.specs.Request.{BeginsWith}
 
 -- nothing, or a colon and digits (RFC 3986, section 3.2.3)
@@ -46,17 +46,3 @@ pub record IsForOther (hosts : List (List ℕ)) (input : List ℕ) : Type 0 wher
   pub rest : List ℕ
   pub begins : BeginsWith input head rest
   pub other : is_for_other hosts head ≡ true
-
--- of a request for another host whether it is a HEAD, of any other nothing
-abbrev pub method_if : Bool → RequestHead → Option Bool
-method_if is_other head = if is_other then Some (is_head_method head) else None
-
-abbrev pub other_method : List (List ℕ) → RequestHead → Option Bool
-other_method hosts head = method_if (is_for_other hosts head) head
-
--- a step: the bytes begin with a request that names no known host
-pub record IsBeside (hosts : List (List ℕ)) (input : List ℕ) : Type 0 where
-  pub head : RequestHead
-  pub rest : List ℕ
-  pub begins : BeginsWith input head rest
-  pub beside : has_known_host hosts head ≡ false

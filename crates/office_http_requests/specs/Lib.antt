@@ -2,5 +2,5 @@ pub mod Asked
 pub mod Hosts
 pub mod Reply
 pub mod Request
-pub mod RequestSteps
 pub mod Routes
+pub mod steps

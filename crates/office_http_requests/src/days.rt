@@ -1,6 +1,6 @@
 //! What a path that names a day asks for.
 ghost use Rattle.std.specs.Prelude.{◌≡◌, drop};
-ghost use Rattle.office_mail_setup.specs.Values.{day_in};
+ghost use Rattle.office_mail.specs.Days.{day_in};
 ghost use Rattle.office_http_requests.specs.Asked.{day_asked, post_asked, tell_asked};
 
 use crate::reply::Refusal;

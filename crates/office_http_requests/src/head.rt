@@ -5,7 +5,7 @@ ghost use Rattle.office_mail.specs.Counts.{HasRisen};
 ghost use Rattle.std.specs.Io.KnownBytes.{IsAtEnd, Keeps};
 ghost use Rattle.httparse.specs.declared.spans.HeaderSpan.{HeaderSpan};
 ghost use Rattle.office_http_requests.specs.Request.{head_room, field_room};
-ghost use Rattle.office_http_requests.specs.RequestSteps.{IsHeadScan, IsEnd, Came, Draws, Heads, Fills};
+ghost use Rattle.office_http_requests.specs.steps.RequestSteps.{IsHeadScan, IsEnd, Came, Draws, Heads, Fills};
 
 use httparse::Status;
 use httparse::spans::{HeaderSpan, RequestSpans, parse_request};

@@ -4,7 +4,8 @@ ghost use Rattle.std.specs.List.{list_all, list_any};
 ghost use Rattle.std.specs.Char.{is_ascii_digit};
 ghost use Rattle.httparse.specs.Grammar.{RequestHead};
 ghost use Rattle.httparse.specs.Spans.{IsHeaderWithin, header_bytes};
-ghost use Rattle.office_http_requests.specs.Hosts.{IsBeside, IsForOther, has_known_host, has_names, is_known_host, is_named, is_own, is_port, method_if, other_method};
+ghost use Rattle.office_http_requests.specs.Hosts.{IsForOther, has_known_host, has_names, is_known_host, is_named, is_own, is_port};
+ghost use Rattle.office_http_requests.specs.steps.Hosts.{IsBeside, method_if, other_method};
 ghost use Rattle.office_http_requests.specs.Request.{BeginsWith};
 
 use crate::head::{FIELD_ROOM, HEAD_ROOM};

@@ -3,9 +3,11 @@ ghost use Rattle.std.specs.Prelude.{◌≡◌, Ok, Err, ◌≤◌, ◌<◌, ◌+
 ghost use Rattle.std.specs.Io.KnownBytes.{Appends};
 ghost use Rattle.http.specs.StatusCode.{reason_phrase};
 ghost use Rattle.office_mail.specs.Counts.{HasRisen};
-ghost use Rattle.office_http_requests.specs.Reply.{Reply, refusal_code, refusal_name, refusal_allow, refused, fault_code, accepted, bad_request, reply_in, reply_bytes, front_bytes, continue_bytes, HasPlace};
+ghost use Rattle.office_http_requests.specs.Reply.{Reply, delivery_code, refusal_status, refusal_allow, refused, reply_in, reply_with, reply_bytes, front_bytes, continue_bytes};
+ghost use Rattle.office_http_requests.specs.steps.Reply.{HasPlace};
 ghost use Rattle.office_core_orders.specs.Replies.{status_line};
-ghost use Rattle.office_core_orders.specs.Written.{AppendsFront, joined};
+ghost use Rattle.office_core_orders.specs.Written.{AppendsFront};
+ghost use Rattle.office_core_orders.specs.steps.Written.{joined};
 
 use deb_control::Text;
 use http::StatusCode;
@@ -47,7 +49,7 @@ pub enum Refusal {
 impl Refusal {
     /// Its name in a reply.
     fn name(self) -> &'static str
-        ensures name { result.now ≡ refusal_name self }
+        ensures name { result.now ≡ (refusal_status self).1 }
         ensures short { length result.now < 20 }
     {
         match self {
@@ -72,7 +74,7 @@ impl Refusal {
 
     /// Its status code (RFC 9110, section 15; RFC 6585, section 5).
     fn status(self) -> StatusCode
-        ensures { result ≡ refusal_code self }
+        ensures { result ≡ (refusal_status self).0 }
     {
         match self {
             Refusal::BadRequest => StatusCode::BAD_REQUEST,
@@ -122,7 +124,7 @@ pub enum Answer {
 
 /// The status code for a delivery that is refused.
 fn delivery_status(fault: DeliverFault) -> StatusCode
-    ensures { result ≡ fault_code fault }
+    ensures { result ≡ delivery_code (Err fault) }
 {
     match fault {
         DeliverFault::Mail(MailFault::TooLong) => StatusCode::PAYLOAD_TOO_LARGE,
@@ -207,7 +209,7 @@ fn write_refused<W: Sink>(
     writer: &mut W,
 ) -> Result<u16, WriteFault>
     ensures ok { OnOk result (Appends (W.written writer.old) (W.written writer.new) (reply_bytes (refused refusal) is_head)) }
-    ensures code { IfOk result (λ code. code ≡ refusal_code refusal) }
+    ensures code { IfOk result (λ code. code ≡ (refusal_status refusal).0) }
     ensures err { OnErr result (AppendsFront (W.written writer.old) (W.written writer.new) (reply_bytes (refused refusal) is_head)) }
     ensures cause { OnErr result (HasRisen (W.failures writer.old) (W.failures writer.new)) }
     ensures clean { OnOk result (W.failures writer.new ≡ W.failures writer.old) }
@@ -260,7 +262,7 @@ fn write_fault<W: Sink>(
     writer: &mut W,
 ) -> Result<u16, WriteFault>
     ensures ok { OnOk result (Appends (W.written writer.old) (W.written writer.new) (reply_bytes (reply_in setup.now (Answer.Delivered (Err fault))) is_head)) }
-    ensures code { IfOk result (λ code. code ≡ fault_code fault) }
+    ensures code { IfOk result (λ code. code ≡ delivery_code (Err fault)) }
     ensures err { OnErr result (AppendsFront (W.written writer.old) (W.written writer.new) (reply_bytes (reply_in setup.now (Answer.Delivered (Err fault))) is_head)) }
     ensures cause { OnErr result (HasRisen (W.failures writer.old) (W.failures writer.new)) }
     ensures clean { OnOk result (W.failures writer.new ≡ W.failures writer.old) }
@@ -281,9 +283,9 @@ fn write_progress<W: Sink>(
     is_head: bool,
     writer: &mut W,
 ) -> Result<u16, WriteFault>
-    ensures ok { OnOk result (Appends (W.written writer.old) (W.written writer.new) (reply_bytes (accepted (status_line progress.ready progress.finished)) is_head)) }
+    ensures ok { OnOk result (Appends (W.written writer.old) (W.written writer.new) (reply_bytes (reply_with 200 (status_line progress.ready progress.finished)) is_head)) }
     ensures code { IfOk result (λ code. code ≡ 200) }
-    ensures err { OnErr result (AppendsFront (W.written writer.old) (W.written writer.new) (reply_bytes (accepted (status_line progress.ready progress.finished)) is_head)) }
+    ensures err { OnErr result (AppendsFront (W.written writer.old) (W.written writer.new) (reply_bytes (reply_with 200 (status_line progress.ready progress.finished)) is_head)) }
     ensures cause { OnErr result (HasRisen (W.failures writer.old) (W.failures writer.new)) }
     ensures clean { OnOk result (W.failures writer.new ≡ W.failures writer.old) }
 {
@@ -301,9 +303,9 @@ fn write_progress<W: Sink>(
 }
 
 fn write_text<W: Sink>(text: &[u8], is_head: bool, writer: &mut W) -> Result<u16, WriteFault>
-    ensures ok { OnOk result (Appends (W.written writer.old) (W.written writer.new) (reply_bytes (accepted text.now) is_head)) }
+    ensures ok { OnOk result (Appends (W.written writer.old) (W.written writer.new) (reply_bytes (reply_with 200 text.now) is_head)) }
     ensures code { IfOk result (λ code. code ≡ 200) }
-    ensures err { OnErr result (AppendsFront (W.written writer.old) (W.written writer.new) (reply_bytes (accepted text.now) is_head)) }
+    ensures err { OnErr result (AppendsFront (W.written writer.old) (W.written writer.new) (reply_bytes (reply_with 200 text.now) is_head)) }
     ensures cause { OnErr result (HasRisen (W.failures writer.old) (W.failures writer.new)) }
     ensures clean { OnOk result (W.failures writer.new ≡ W.failures writer.old) }
 {
@@ -312,9 +314,9 @@ fn write_text<W: Sink>(text: &[u8], is_head: bool, writer: &mut W) -> Result<u16
 }
 
 fn write_bad_hint<W: Sink>(text: &[u8], is_head: bool, writer: &mut W) -> Result<u16, WriteFault>
-    ensures ok { OnOk result (Appends (W.written writer.old) (W.written writer.new) (reply_bytes (bad_request text.now) is_head)) }
+    ensures ok { OnOk result (Appends (W.written writer.old) (W.written writer.new) (reply_bytes (reply_with 400 text.now) is_head)) }
     ensures code { IfOk result (λ code. code ≡ 400) }
-    ensures err { OnErr result (AppendsFront (W.written writer.old) (W.written writer.new) (reply_bytes (bad_request text.now) is_head)) }
+    ensures err { OnErr result (AppendsFront (W.written writer.old) (W.written writer.new) (reply_bytes (reply_with 400 text.now) is_head)) }
     ensures cause { OnErr result (HasRisen (W.failures writer.old) (W.failures writer.new)) }
     ensures clean { OnOk result (W.failures writer.new ≡ W.failures writer.old) }
 {

@@ -1,6 +1,7 @@
 //! Where requests go.
 ghost use Rattle.std.specs.Prelude.{◌≡◌, [], IfOk, OnOk};
-ghost use Rattle.office_http_requests.specs.Routes.{office_routes, route_of, seventeen_routes, six_routes, ten_routes, twelve_routes};
+ghost use Rattle.office_http_requests.specs.Routes.{office_routes, route_of, six_routes, ten_routes, twelve_routes};
+ghost use Rattle.office_http_requests.specs.steps.Routes.{seventeen_routes};
 
 use matchit::{InsertError, Router};
 use std::alloc::Global;

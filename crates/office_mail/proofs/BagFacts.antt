@@ -6,11 +6,11 @@ use Rattle.std.proofs.lemmas.List.{append_assoc, append-nil, length-append, take
 use Rattle.std.proofs.lemmas.Bool.{cases_lt, le-leb}
 use Rattle.std.proofs.Math.Seq.{take-nil}
 use Rattle.office_mail.specs.Bag.{header, handed, BeginsHeader, IsCutHeader, IsTruncated, EndsSo}
-use Rattle.office_mail.specs.Line.{spelled, IsLine}
+use Rattle.office_mail.specs.steps.Line.{spelled, IsLine}
 use Rattle.office_mail.specs.Reading.{Reading}
 use Rattle.office_mail.specs.Counts.{most, HasRisen}
 use Rattle.office_mail.specs.BagSteps.{TakesMessage, Stops, ReadFails, ReadsPieces, CountsEach}
-use Rattle.office_mail.specs.BagReads.{GoesOn, TakesBody, Waits, BreaksOff, IsShort}
+use Rattle.office_mail.specs.steps.BagReads.{GoesOn, TakesBody, Waits, BreaksOff, IsShort}
 use Rattle.office_mail.specs.declared.bag.BagFault.{BagFault}
 use Rattle.office_mail.specs.declared.bag.BagFault.TheVariants.{BadHeader, Truncated, ReadFault, NoMemory}
 use Rattle.office_mail.proofs.HeaderFacts.{spelled_digits, length-header}

@@ -6,10 +6,10 @@ use Rattle.deb_control.specs.Binary.{binary_of}
 use Rattle.deb_control.specs.declared.binary.Binary.{Binary}
 use Rattle.deb_control.specs.declared.fault.BinaryFault.{BinaryFault}
 use Rattle.deb_control.specs.declared.fault.BinaryFault.TheVariants as binary_fault
-use Rattle.office_mail_setup.specs.Steps.{Paragraph}
-use Rattle.office_mail.specs.Answers.{Gives}
+use Rattle.office_mail_setup.specs.WholeText.{Paragraph}
+use Rattle.office_mail.specs.steps.Answers.{Gives}
 use Rattle.office_mail.specs.Read.{of_binary, binary_in}
-use Rattle.office_mail.specs.BuildSteps.{AreRead}
+use Rattle.office_mail.specs.steps.BuildSteps.{AreRead}
 
 same : {A E : Type 0} (r : Result A E) (a b : A) → r ≡ Ok a → r ≡ Ok b → a ≡ b
 same r a b e f = cc

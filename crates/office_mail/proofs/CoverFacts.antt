@@ -9,7 +9,7 @@ use Rattle.deb_control.specs.Relations.{◌>>=◌, items}
 use Rattle.office_mail.specs.Covers.{BadCovers, cover_in, covers_in, numbers_by_sender}
 use Rattle.testing_rules_items.specs.Distinct.{is_distinct}
 use Rattle.office_mail_setup.specs.Lists.{Lists}
-use Rattle.office_mail_setup.specs.Steps.{needs, each_of}
+use Rattle.office_mail_setup.specs.WholeText.{needs, each_of}
 
 abbrev pub names : List (List ℕ × ℕ) → List (List ℕ)
 names cs = map (λ (c : List ℕ × ℕ). c.0) cs

@@ -4,7 +4,7 @@ use Rattle.deb_control.specs.Relations.{◌>>=◌}
 use Rattle.testing_rules_items.specs.declared.item.HintItem.{HintItem}
 use Rattle.testing_rules_items.specs.Distinct.{is_distinct}
 use Rattle.office_mail.specs.Hints.{BadHint, items_in, group_in}
-use Rattle.office_mail_setup.specs.Steps.{needs}
+use Rattle.office_mail_setup.specs.WholeText.{needs}
 
 abbrev names : List HintItem → List (List ℕ)
 names items = map (λ (i : HintItem). i.name) items

@@ -8,8 +8,9 @@ use Rattle.office_mail.specs.declared.message.Message.{Message}
 use Rattle.office_mail.specs.declared.message.MailFault.{MailFault}
 use Rattle.office_mail_setup.specs.Lists.{Lists}
 use Rattle.office_mail.specs.Read.{read}
-use Rattle.office_mail.specs.Kept.{Place, place_cmp, place_of, placed_as, placed, kept_from}
+use Rattle.office_mail.specs.Kept.{Place, place_cmp, place_of, placed, kept_from}
 use Rattle.office_mail.specs.Laws.{CanTake, Delivers, IsOneOf, OneText, SameTexts}
+use Rattle.office_mail.specs.steps.ReadSteps.{placed_as}
 use Rattle.office_mail.proofs.KeptFacts.{same_kept, places_total, tied, or_else, get-kept_from}
 
 -- what a list of deliveries has at a place

@@ -2,6 +2,7 @@ pub mod ReadyFacts
 pub mod KeptFacts
 pub mod RunFacts
 pub mod LawFacts
+pub mod DayFacts
 pub mod FieldFacts
 pub mod Views
 pub mod SlashFacts

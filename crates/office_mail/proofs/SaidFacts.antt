@@ -1,17 +1,16 @@
 -- Each message keeps to its setup, from how it is read.
 use Rattle.std.proofs.Common.{◌≡◌, ℕ, ◌+◌, ◌≤◌, Bool, true, false, ◌&&◌, cond, Option, Some, None, Result, Ok, Err, List, [], ◌∷◌, length, refl, sym, ap, subst, ◌∙◌, arith}
-use Rattle.std.specs.Prelude.{◌==◌, nat_le}
+use Rattle.std.specs.Prelude.{nat_le}
 use Rattle.std.specs.Str.{bytes_eq}
 use Rattle.std.specs.List.{list_all}
 use Rattle.std.specs.Cmp.{first_so, second_so}
-use Rattle.std.proofs.lemmas.Bool.{eqb-true}
 use Rattle.std.proofs.lemmas.List.Sums.{sum_by-cons}
 use Rattle.deb_control.specs.Relations.{◌>>=◌, is_package_name, is_version, clauses_in, provisions_in}
 use Rattle.deb_control.specs.Paragraphs.{reading, value_of}
-use Rattle.deb_control.specs.Binary.{binary_of, present, checked, is_architecture, of_field, optional, source_of, field_name}
+use Rattle.deb_control.specs.Binary.{binary_of, is_architecture, of_field, optional, field_name}
+use Rattle.deb_control.specs.steps.BinarySteps.{source_of}
 use Rattle.deb_control.specs.Binary.{required as binary_required}
 use Rattle.deb_control.specs.declared.binary.Binary.{Binary}
-use Rattle.deb_control.specs.declared.fault.BinaryField.{BinaryField}
 use Rattle.deb_control.specs.declared.fault.BinaryField.TheVariants as binary
 use Rattle.deb_control.specs.declared.fault.BinaryFault.{BinaryFault}
 use Rattle.deb_control.specs.declared.fault.BinaryFault.TheVariants.{BadName, BadVersion}
@@ -27,15 +26,16 @@ use Rattle.office_mail.specs.declared.message.MailFault.{MailFault}
 use Rattle.office_mail.specs.declared.message.MailFault.TheVariants.{TooLong, BadParagraph, UnknownSender, BadNumber, UnknownKind, WrongRole, TooManyParagraphs, UnknownArchitecture}
 use Rattle.office_mail_setup.specs.declared.setup.Sender.{Sender}
 use Rattle.office_mail_setup.specs.declared.setup.Role.{Role}
-use Rattle.office_mail_setup.specs.declared.setup.Role.TheVariants.{Upload, Build, Bugs, Release, Runs}
 use Rattle.office_mail_setup.specs.Lists.{Lists}
-use Rattle.office_mail_setup.specs.Steps.{Paragraph, needs, given, each_of, whole, first_of, rest_of}
-use Rattle.office_mail_setup.specs.Values.{number_in, days_in, day_in, package_in, version_in, urgency_in, severity_in}
+use Rattle.office_mail_setup.specs.WholeText.{Paragraph, needs, given, each_of, whole, first_of, rest_of}
+use Rattle.office_mail_setup.specs.Values.{number_in, days_in, package_in, version_in, urgency_in, severity_in}
+use Rattle.office_mail.specs.Days.{day_in}
 use Rattle.office_mail.specs.Fields.{text_of, required, value_in, value_if_there}
 use Rattle.office_mail_setup.specs.Kinds.{kind_named, may_send, has_role, role_needed}
 use Rattle.office_mail.specs.Hints.{hint_in}
-use Rattle.office_mail.specs.Read.{read, paragraphs_say, message_of, has_fields_of, sender_from, sender_named, most_paragraphs, is_arch, is_arch_if_there, knows_arch, knows_archs, body_of, upload_of, drop_of, build_of, bug_of, hint_of, unhint_of, delays_of, order_of, binary_in, of_binary}
-use Rattle.office_mail_setup.specs.Setup.{count_of, place_of_role, same_role, role_number}
+use Rattle.office_mail.specs.Read.{read, paragraphs_say, message_of, has_fields_of, sender_from, sender_named, most_paragraphs, is_arch, knows_arch, knows_archs, body_of, upload_of, drop_of, build_of, bug_of, hint_of, unhint_of, delays_of, order_of, binary_in, of_binary}
+use Rattle.office_mail_setup.specs.Setup.{count_of, place_of_role, same_role}
+use Rattle.office_mail_setup.proofs.RoleFacts.{is_same, itself}
 use Rattle.office_mail.specs.Said.{kind_of, knows_named, KeepsTo}
 
 same : {A E : Type 0} (r : Result A E) (a b : A) → r ≡ Ok a → r ≡ Ok b → a ≡ b
@@ -64,27 +64,6 @@ both true b h k = k
 both false b h k = absurd (cc)
 
 -- The sender of a name, and its role.
-
--- the role of a number
-abbrev role_at : ℕ → Role
-role_at n = cond (n == 0) Upload (cond (n == 1) Build (cond (n == 2) Bugs (cond (n == 3) Release Runs)))
-
-back : (role : Role) → role_at (role_number role) ≡ role
-back Upload = refl
-back Build = refl
-back Bugs = refl
-back Release = refl
-back Runs = refl
-
-is_same : (a b : Role) → same_role a b ≡ true → a ≡ b
-is_same a b e = sym (back a) ∙ ap role_at (eqb-true (role_number a) (role_number b) e) ∙ back b
-
-itself : (role : Role) → same_role role role ≡ true
-itself Upload = refl
-itself Build = refl
-itself Bugs = refl
-itself Release = refl
-itself Runs = refl
 
 some_is : (x y : ℕ × Role) → Some x ≡ Some y → x ≡ y
 some_is x y e = cc
@@ -136,11 +115,11 @@ sender_is setup name k sender role named may needed one =
 
 arch_known : (setup : Lists) (p : Paragraph) (arch : List ℕ) → text_of p field.Architecture ≡ Some arch → knows_arch setup p ≡ true → is_arch setup.archs arch ≡ true
 unfolding knows_arch
-arch_known setup p arch e known = subst (λ o. is_arch_if_there setup.archs o ≡ true) e known
+arch_known setup p arch e known = subst (λ (o : Option (List ℕ)). elim o [ None ↦ true | Some name ↦ is_arch setup.archs name ] ≡ true) e known
 
-present_ok : (o : Option (List ℕ)) (f : BinaryField) (text : List ℕ) → present o f ≡ Ok text → o ≡ Some text
-present_ok (Some x) f text e = ap Some (same (present (Some x) f) x text refl e)
-present_ok None f text e = absurd (cc)
+given_some : (o : Option (List ℕ)) (fault : BinaryFault) (text : List ℕ) → given o fault ≡ Ok text → o ≡ Some text
+given_some (Some x) fault text e = ap Some (same (given (Some x) fault) x text refl e)
+given_some None fault text e = absurd (cc)
 
 binary_ok : (r : Result Binary BinaryFault) (b : Binary) → of_binary r ≡ Ok b → r ≡ Ok b
 binary_ok (Ok x) b e = ap Ok (same (of_binary (Ok x)) x b refl e)
@@ -153,13 +132,13 @@ arch_of p b e =
     then_ok _ (binary_required p binary.Package) _ _ e (λ name en e.
     then_ok _ (binary_required p binary.Version) _ _ e (λ version ev e.
     then_ok _ (binary_required p binary.Architecture) _ _ e (λ arch ea e.
-    then_ok _ (checked (is_package_name name) name (BadName binary.Package)) _ _ e (λ x ex e.
-    then_ok _ (checked (is_version version) version (BadVersion binary.Version)) _ _ e (λ y ey e.
-    then_ok _ (checked (is_architecture arch) arch (BadName binary.Architecture)) _ _ e (λ z ez e.
+    then_ok _ (needs (is_package_name name) (BadName binary.Package)) _ _ e (λ x ex e.
+    then_ok _ (needs (is_version version) (BadVersion binary.Version)) _ _ e (λ y ey e.
+    then_ok _ (needs (is_architecture arch) (BadName binary.Architecture)) _ _ e (λ z ez e.
     then_ok _ (of_field binary.Source (source_of (value_of p (field_name binary.Source)) name version)) _ _ e (λ source es e.
     then_ok _ (of_field binary.PreDepends (clauses_in (optional p binary.PreDepends))) _ _ e (λ before eb e.
     then_ok _ (of_field binary.Depends (clauses_in (optional p binary.Depends))) _ _ e (λ depends ed e.
-    ends (λ (b : Binary). text_of p field.Architecture ≡ Some b.architecture) (of_field binary.Provides (provisions_in (optional p binary.Provides))) _ _ e (λ provides ep. present_ok _ binary.Architecture arch ea))))))))))
+    ends (λ (b : Binary). text_of p field.Architecture ≡ Some b.architecture) (of_field binary.Provides (provisions_in (optional p binary.Provides))) _ _ e (λ provides ep. given_some _ _ arch ea))))))))))
 
 each_known : (setup : Lists) (ps : List Paragraph) (bs : List Binary) → each_of binary_in ps ≡ Ok bs → list_all (knows_arch setup) ps ≡ true → list_all (λ (b : Binary). is_arch setup.archs b.architecture) bs ≡ true
 unfolding binary_in
@@ -231,7 +210,7 @@ saying setup k r body e fits = ends (Fits setup k) r (λ i. Saying i) body e fit
 body_fits : (setup : Lists) (k : Kind) (first : Paragraph) (rest : List Paragraph) (body : Body) → body_of setup k first rest ≡ Ok body → knows_archs setup k first rest ≡ true → Fits setup k body
 unfolding body_of knows_archs
 body_fits setup kind.Upload first rest body e known = saying setup _ (upload_of first) body e (upload_fits setup first)
-body_fits setup kind.Drop first rest body e known = saying setup _ (drop_of first) body e (λ i ei. drop_fits setup first i ei known)
+body_fits setup kind.Drop first rest body e known = saying setup _ (drop_of first) body e (λ i ei. drop_fits setup first i ei (first_so _ _ known))
 body_fits setup kind.Build first rest body e known = saying setup _ (build_of rest) body e (λ i ei. build_fits setup rest i ei known)
 body_fits setup kind.Bug first rest body e known = saying setup _ (bug_of first) body e (bug_fits setup first)
 body_fits setup kind.Hint first rest body e known = saying setup _ (hint_of first) body e (hint_fits setup first)

@@ -10,7 +10,7 @@ use Rattle.office_mail.specs.declared.message.MailFault.{MailFault}
 use Rattle.office_mail.specs.declared.message.MailFault.TheVariants.{BadValue}
 use Rattle.office_mail_setup.specs.Lists.{Lists}
 use Rattle.office_mail_setup.specs.Setup.{same_role}
-use Rattle.office_mail_setup.specs.Steps.{needs, given, each_of}
+use Rattle.office_mail_setup.specs.WholeText.{needs, given, each_of}
 use Rattle.office_mail_setup.specs.Values.{number_in, words}
 use Rattle.testing_rules_items.specs.Distinct.{is_distinct}
 

@@ -4,7 +4,7 @@ use Rattle.deb_control.specs.Relations.{◌>>=◌}
 use Rattle.office_mail_setup.specs.declared.field.Field.{Field}
 use Rattle.office_mail.specs.declared.message.MailFault.{MailFault}
 use Rattle.office_mail.specs.declared.message.MailFault.TheVariants.{MissingField, BadValue}
-use Rattle.office_mail_setup.specs.Steps.{Paragraph, given}
+use Rattle.office_mail_setup.specs.WholeText.{Paragraph, given}
 pub use Rattle.office_mail_setup.specs.Fields.{field_name, text_of}
 
 -- the text of a mandatory field

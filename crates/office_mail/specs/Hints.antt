@@ -1,6 +1,7 @@
 -- Hints of the release team.
-use Rattle.std.specs.Prelude.{ℕ, Bool, ◌&&◌, if◌then◌else◌, ◌==◌, List, [], ◌∷◌, map, codes, Result, Ok, Err}
+use Rattle.std.specs.Prelude.{ℕ, Bool, ◌&&◌, if◌then◌else◌, ◌==◌, List, [], ◌∷◌, map, codes, unwrap_or, Result, Ok, Err}
 use Rattle.std.specs.List.{list_any, before_first, after_first}
+use Rattle.std.specs.Map.{lookup}
 use Rattle.std.specs.Str.{bytes_eq}
 use Rattle.deb_version.specs.Characters.{char}
 use Rattle.deb_control.specs.Relations.{◌>>=◌, is_package_name, is_version}
@@ -10,7 +11,7 @@ use Rattle.testing_rules_items.specs.declared.item.HintItem.{HintItem}
 use Rattle.office_mail_setup.specs.declared.field.Field.TheVariants as field
 use Rattle.office_mail.specs.declared.message.MailFault.{MailFault}
 use Rattle.office_mail.specs.declared.message.MailFault.TheVariants.{BadValue}
-use Rattle.office_mail_setup.specs.Steps.{needs, given, each_of}
+use Rattle.office_mail_setup.specs.WholeText.{needs, given, each_of}
 use Rattle.office_mail_setup.specs.Values.{days_in, words}
 use Rattle.testing_rules_items.specs.Distinct.{is_distinct}
 
@@ -68,14 +69,10 @@ all_in ws = Err BadHint
 
 -- the hint with this word and the words after it
 unfoldable pub hint_of : List ℕ → List (List ℕ) → Result Hint MailFault
-hint_of word ws =
-    if bytes_eq word (codes "block") then (names_in ws >>= λ names. Ok (Block names))
-    else if bytes_eq word (codes "unblock") then (items_in ws >>= λ items. Ok (Unblock items))
-    else if bytes_eq word (codes "easy") then (group_in ws >>= λ items. Ok (Easy items))
-    else if bytes_eq word (codes "age-days") then aged_in ws
-    else if bytes_eq word (codes "remove") then (items_in ws >>= λ items. Ok (Remove items))
-    else if bytes_eq word (codes "block-all") then all_in ws
-    else Err BadHint
+hint_of word ws = unwrap_or (lookup (bytes_eq word) (
+    (codes "block", names_in ws >>= λ names. Ok (Block names)) ∷ (codes "unblock", items_in ws >>= λ items. Ok (Unblock items))
+    ∷ (codes "easy", group_in ws >>= λ items. Ok (Easy items)) ∷ (codes "age-days", aged_in ws)
+    ∷ (codes "remove", items_in ws >>= λ items. Ok (Remove items)) ∷ (codes "block-all", all_in ws) ∷ [])) (Err BadHint)
 
 -- the hint in these words
 abbrev pub hint_by : List (List ℕ) → Result Hint MailFault

@@ -25,8 +25,9 @@ use Rattle.office_mail.specs.declared.message.MailFault.TheVariants.{TooLong, Ba
 use Rattle.office_mail_setup.specs.declared.setup.Sender.{Sender}
 use Rattle.office_mail_setup.specs.declared.setup.Role.{Role}
 use Rattle.office_mail_setup.specs.Lists.{Lists}
-use Rattle.office_mail_setup.specs.Steps.{Paragraph, needs, given, each_of, whole, first_of, rest_of}
-use Rattle.office_mail_setup.specs.Values.{number_in, days_in, day_in, package_in, version_in, urgency_in, severity_in}
+use Rattle.office_mail_setup.specs.WholeText.{Paragraph, needs, given, each_of, whole, first_of, rest_of}
+use Rattle.office_mail_setup.specs.Values.{number_in, days_in, package_in, version_in, urgency_in, severity_in}
+use Rattle.office_mail.specs.Days.{day_in}
 use Rattle.office_mail.specs.Fields.{text_of, required, has_fields, value_in, value_if_there}
 use Rattle.office_mail_setup.specs.Kinds.{kind_named, may_send, fields_needed, binary_fields_needed}
 use Rattle.office_mail.specs.Hints.{hint_in}
@@ -169,20 +170,13 @@ most_paragraphs _ = 0
 abbrev pub is_arch : List (List ℕ) → List ℕ → Bool
 is_arch archs name = bytes_eq name (codes "all") || list_any (bytes_eq name) archs
 
--- a missing architecture, a listed one, or `all`
-abbrev pub is_arch_if_there : List (List ℕ) → Option (List ℕ) → Bool
-is_arch_if_there archs None = true
-is_arch_if_there archs (Some name) = is_arch archs name
-
 -- the paragraph names only known architectures
 unfoldable pub knows_arch : Lists → Paragraph → Bool
-knows_arch setup p = is_arch_if_there setup.archs (text_of p field.Architecture)
+knows_arch setup p = elim (text_of p field.Architecture) [ None ↦ true | Some name ↦ is_arch setup.archs name ]
 
--- the architectures in a message of this kind are known
+-- the architectures in a message of this kind are known: a drop names one, and so does each binary of a build
 unfoldable pub knows_archs : Lists → Kind → Paragraph → List Paragraph → Bool
-knows_archs setup kind.Drop first rest = knows_arch setup first
-knows_archs setup kind.Build first rest = list_all (knows_arch setup) rest
-knows_archs setup _ first rest = true
+knows_archs setup k first rest = list_all (knows_arch setup) (elim k [ kind.Drop ↦ first ∷ [] | kind.Build ↦ rest | _ ↦ [] ])
 
 -- the message of the paragraphs, with this sender, number and kind from the first
 unfoldable pub message_of : Lists → List ℕ → List ℕ → Option Kind → Paragraph → List Paragraph → Result Message MailFault

@@ -3,9 +3,9 @@ ghost use Rattle.std.specs.Prelude.{◌≡◌, ℕ, ◌+◌, ◌<◌, ◌≤◌,
 ghost use Rattle.std.specs.Io.KnownBytes.{Consumes, IsAtEnd, Keeps};
 ghost use Rattle.office_mail.specs.Counts.{HasRisen};
 ghost use Rattle.office_mail.specs.Bag.{header, handed, ReadsOneWay};
-ghost use Rattle.office_mail.specs.Line.{IsLine};
+ghost use Rattle.office_mail.specs.steps.Line.{IsLine};
 ghost use Rattle.office_mail.specs.BagSteps.{TakesMessage, Stops, ReadFails, CountsEach};
-ghost use Rattle.office_mail.specs.BagReads.{TakesBody, GoesOn, Waits, BreaksOff};
+ghost use Rattle.office_mail.specs.steps.BagReads.{TakesBody, GoesOn, Waits, BreaksOff};
 
 use crate::feed::Feed;
 use std::alloc::{AllocFailed, Global};
@@ -261,7 +261,7 @@ enum LineStep {
 const WORD: [u8; 5] = *b"mail ";
 
 impl Line {
-    ghost use Rattle.office_mail.specs.Step.{StepsTo};
+    ghost use Rattle.office_mail.specs.steps.Step.{StepsTo};
 
     fn new() -> Line
         ensures place { result.place ≡ 0 }

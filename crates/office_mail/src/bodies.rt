@@ -1,10 +1,10 @@
 //! The content of each kind of message.
 ghost use Rattle.std.specs.Prelude.{◌≡◌, ◌<◌, IfSome, Ok, length};
 ghost use Rattle.deb_control.specs.Binary.{binary_of};
-ghost use Rattle.office_mail.specs.Answers.{Gives, GivesBy};
+ghost use Rattle.office_mail.specs.steps.Answers.{Gives, GivesBy};
 ghost use Rattle.office_mail.specs.Read.{upload_of, drop_of, fault_of_binary, of_binary, binary_in, build_of, bug_of, hint_of, unhint_of, delays_of, order_of, body_of, said, binary_field};
-ghost use Rattle.office_mail.specs.BuildSteps.{AreRead};
-ghost use Rattle.office_mail_setup.specs.Steps.{each_of};
+ghost use Rattle.office_mail.specs.steps.BuildSteps.{AreRead};
+ghost use Rattle.office_mail_setup.specs.WholeText.{each_of};
 
 use crate::covers::covers_in;
 use crate::fields::{

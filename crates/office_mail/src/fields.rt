@@ -1,10 +1,11 @@
 //! Reads the fields of a paragraph.
 ghost use Rattle.std.specs.Prelude.{◌≡◌};
-ghost use Rattle.office_mail.specs.Answers.{Gives, GivesBy};
+ghost use Rattle.office_mail.specs.steps.Answers.{Gives, GivesBy};
 ghost use Rattle.office_mail.specs.declared.message.MailFault.TheVariants as fault;
+ghost use Rattle.office_mail.specs.Days.{day_in};
 ghost use Rattle.office_mail.specs.Fields.{required, has_fields, value_in, value_if_there};
-ghost use Rattle.office_mail_setup.specs.Steps.{given};
-ghost use Rattle.office_mail_setup.specs.Values.{number_in, days_in, day_in, package_in, version_in, urgency_in, severity_in};
+ghost use Rattle.office_mail_setup.specs.WholeText.{given};
+ghost use Rattle.office_mail_setup.specs.Values.{number_in, days_in, package_in, version_in, urgency_in, severity_in};
 
 use crate::message::{MAX_NUMBER, MailFault};
 use deb_control::{Paragraph, Text, is_package_name};
@@ -64,10 +65,17 @@ pub fn day(paragraph: &Paragraph<'_>, field: Field) -> Result<Date, MailFault>
     ensures { Gives result (value_in day_in paragraph.now field) }
 {
     let text = required(paragraph, field)?;
-    match values::day_in(text) {
+    match day_in(text) {
         Some(day) => Ok(day),
         None => Err(MailFault::BadValue(field)),
     }
+}
+
+/// The day in a text YYYY-MM-DD, from 1970-01-01 to 9999-12-31.
+fn day_in(text: &str) -> Option<Date>
+    ensures { result ≡ day_in text.now }
+{
+    values::day_in(text)
 }
 
 #[tactic(auto, unfolding(crate::specs::Fields::value_in))]

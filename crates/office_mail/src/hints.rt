@@ -1,10 +1,10 @@
 //! Reads hints of the release team.
 ghost use Rattle.std.specs.Prelude.{◌≡◌, map, true, false, IfOk, IfNone, IfSome};
 ghost use Rattle.std.specs.List.{list_any, before_first, after_first};
-ghost use Rattle.office_mail.specs.Answers.{Gives, GivesBy};
+ghost use Rattle.office_mail.specs.steps.Answers.{Gives, GivesBy};
 ghost use Rattle.testing_rules_items.specs.Distinct.{is_distinct};
 ghost use Rattle.office_mail.specs.Hints.{name_in, item_in, names_in, items_in, group_in, aged_in, all_in, hint_of, hint_in, is_slash};
-ghost use Rattle.office_mail_setup.specs.Steps.{each_of};
+ghost use Rattle.office_mail_setup.specs.WholeText.{each_of};
 ghost use Rattle.testing_rules_items.specs.declared.item.HintItem.{HintItem as HintItemValue};
 
 use crate::fields::version_from;

@@ -5,12 +5,12 @@ ghost use Rattle.std.specs.Str.{bytes_eq};
 ghost use Rattle.std.specs.Option.{option_map};
 ghost use Rattle.deb_control.specs.Paragraphs.{reading};
 ghost use Rattle.office_mail.specs.declared.message.MailFault.TheVariants as fault;
-ghost use Rattle.office_mail.specs.Answers.{Gives, GivesBy};
+ghost use Rattle.office_mail.specs.steps.Answers.{Gives, GivesBy};
 ghost use Rattle.office_mail.specs.Kept.{IsPlace, place_of};
 ghost use Rattle.office_mail_setup.specs.Kinds.{binary_fields_needed};
 ghost use Rattle.office_mail.specs.Read.{read, all_have, has_binaries, has_fields_of, sender_from, sender_named, most_paragraphs, is_arch, knows_arch, knows_archs, message_of, paragraphs_say};
 ghost use Rattle.office_mail.specs.Fields.{has_fields};
-ghost use Rattle.office_mail_setup.specs.Steps.{each_of, whole, needs};
+ghost use Rattle.office_mail_setup.specs.WholeText.{each_of, whole, needs};
 
 use crate::bodies::body_of;
 use crate::fields::{has_fields, required};

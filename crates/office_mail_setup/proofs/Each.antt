@@ -3,7 +3,7 @@ use Rattle.std.proofs.Common.{◌≡◌, ℕ, ◌+◌, ◌<◌, get_or, length, 
 use Rattle.std.specs.Borrow.{Bor}
 use Rattle.std.proofs.lemmas.List.{append-nil, append_assoc, map_push, map_more, take_more}
 use Rattle.deb_control.specs.Relations.{◌>>=◌}
-use Rattle.office_mail_setup.specs.Steps.{each_of}
+use Rattle.office_mail_setup.specs.WholeText.{each_of}
 
 -- texts as slices of the source, by their bytes
 abbrev pub texts : List (Bor (List ℕ)) → List (List ℕ)

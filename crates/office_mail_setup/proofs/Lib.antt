@@ -2,8 +2,10 @@ pub mod Each
 pub mod WordFacts
 pub mod ByteFacts
 pub mod NumberFacts
+pub mod OneDay
 pub mod DayFacts
 pub mod Views
 pub mod SetupAnswerFacts
 pub mod SetupFacts
 pub mod NoSetup
+pub mod RoleFacts

@@ -5,7 +5,7 @@ use Rattle.deb_control.specs.Paragraphs.{reading, value_of}
 use Rattle.office_mail_setup.specs.declared.setup.SetupFault.TheVariants as setup_fault
 use Rattle.office_mail_setup.specs.declared.setup.SetupField.TheVariants as setup_field
 use Rattle.office_mail_setup.specs.Setup.{setup_in, setup_of, stated}
-use Rattle.office_mail_setup.specs.Steps.{Paragraph, whole}
+use Rattle.office_mail_setup.specs.WholeText.{Paragraph, whole}
 
 none_set_up : (size : ℕ) → setup_of size [] ≡ Err (setup_fault.MissingField setup_field.Architectures)
 unfolding setup_of stated value_of

@@ -10,7 +10,7 @@ use Rattle.office_mail_setup.specs.declared.setup.Role.{Role}
 use Rattle.office_mail_setup.specs.declared.setup.SetupFault.{SetupFault}
 use Rattle.office_mail_setup.specs.declared.setup.SetupFault.TheVariants.{BadRoles}
 use Rattle.office_mail_setup.specs.Setup.{are_senders, are_roles, count_of, names_of, place_of_role, same_role, sender_in, IsSetup}
-use Rattle.office_mail_setup.specs.Steps.{given, each_of}
+use Rattle.office_mail_setup.specs.WholeText.{given, each_of}
 use Rattle.testing_rules_items.specs.Archs.{are_archs}
 use Rattle.testing_rules_items.proofs.ArchFacts.{archs_kept}
 

@@ -3,7 +3,7 @@ use Rattle.std.specs.Prelude.{ℕ, List, codes, Option}
 use Rattle.deb_control.specs.Paragraphs.{value_of}
 use Rattle.office_mail_setup.specs.declared.field.Field.{Field}
 use Rattle.office_mail_setup.specs.declared.field.Field.TheVariants.{From, Number, Kind, Source, Version, Urgency, Day, Package, Architecture, PreDepends, Depends, Provides, Bug, Severity, Found, Fixed, Hint, Cancels, Low, Medium, High, Critical, Covers}
-use Rattle.office_mail_setup.specs.Steps.{Paragraph}
+use Rattle.office_mail_setup.specs.WholeText.{Paragraph}
 
 -- the spelling of a field
 abbrev pub field_name : Field → List ℕ

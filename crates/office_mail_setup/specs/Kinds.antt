@@ -1,5 +1,6 @@
 -- The kinds of messages: their names, senders and fields.
-use Rattle.std.specs.Prelude.{ℕ, Bool, not, if◌then◌else◌, List, [], ◌∷◌, codes, Option, Some, None}
+use Rattle.std.specs.Prelude.{ℕ, Bool, not, List, [], ◌∷◌, codes, Option, Some, None}
+use Rattle.std.specs.List.{find}
 use Rattle.std.specs.Str.{bytes_eq}
 use Rattle.office_mail_setup.specs.declared.kind.Kind.{Kind}
 use Rattle.office_mail_setup.specs.declared.kind.Kind.TheVariants as kind
@@ -9,31 +10,30 @@ use Rattle.office_mail_setup.specs.Setup.{same_role}
 use Rattle.office_mail_setup.specs.declared.field.Field.{Field}
 use Rattle.office_mail_setup.specs.declared.field.Field.TheVariants as field
 
+-- of each kind: its name, the role needed to send it, and the fields needed in the first paragraph besides From, Number
+-- and Kind; a message that says nothing needs no role
+abbrev pub about : Kind → List ℕ × Option Role × List Field
+about kind.Upload = (codes "upload", Some Upload, field.Source ∷ field.Version ∷ field.Urgency ∷ field.Day ∷ [])
+about kind.Drop = (codes "drop", Some Upload, field.Package ∷ field.Architecture ∷ field.Version ∷ [])
+about kind.Build = (codes "build", Some Build, [])
+about kind.Bug = (codes "bug", Some Bugs, field.Bug ∷ field.Source ∷ field.Severity ∷ [])
+about kind.Hint = (codes "hint", Some Release, field.Hint ∷ [])
+about kind.Unhint = (codes "unhint", Some Release, field.Cancels ∷ [])
+about kind.Delays = (codes "delays", Some Release, field.Low ∷ field.Medium ∷ field.High ∷ field.Critical ∷ [])
+about kind.Run = (codes "run", Some Runs, field.Day ∷ field.Covers ∷ [])
+about kind.Nothing = (codes "none", None, [])
+
+-- all kinds
+abbrev pub kinds : List Kind
+kinds = kind.Upload ∷ kind.Drop ∷ kind.Build ∷ kind.Bug ∷ kind.Hint ∷ kind.Unhint ∷ kind.Delays ∷ kind.Run ∷ kind.Nothing ∷ []
+
 -- the kind with this name
 unfoldable pub kind_named : List ℕ → Option Kind
-kind_named text =
-    if bytes_eq text (codes "upload") then Some kind.Upload
-    else if bytes_eq text (codes "drop") then Some kind.Drop
-    else if bytes_eq text (codes "build") then Some kind.Build
-    else if bytes_eq text (codes "bug") then Some kind.Bug
-    else if bytes_eq text (codes "hint") then Some kind.Hint
-    else if bytes_eq text (codes "unhint") then Some kind.Unhint
-    else if bytes_eq text (codes "delays") then Some kind.Delays
-    else if bytes_eq text (codes "run") then Some kind.Run
-    else if bytes_eq text (codes "none") then Some kind.Nothing
-    else None
+kind_named text = find (λ k. bytes_eq text (about k).0) kinds
 
--- the role needed to send a kind; a message that says nothing needs none
+-- the role needed to send a kind
 abbrev pub role_needed : Kind → Option Role
-role_needed kind.Upload = Some Upload
-role_needed kind.Drop = Some Upload
-role_needed kind.Build = Some Build
-role_needed kind.Bug = Some Bugs
-role_needed kind.Hint = Some Release
-role_needed kind.Unhint = Some Release
-role_needed kind.Delays = Some Release
-role_needed kind.Run = Some Runs
-role_needed kind.Nothing = None
+role_needed k = (about k).1
 
 -- the sender has the needed role; if none is needed, it isn't the sender of runs
 abbrev pub has_role : Option Role → Role → Bool
@@ -44,17 +44,9 @@ has_role (Some needed) role = same_role needed role
 abbrev pub may_send : Role → Kind → Bool
 may_send role k = has_role (role_needed k) role
 
--- the fields needed in the first paragraph besides From, Number and Kind
+-- the fields needed in the first paragraph
 abbrev pub fields_needed : Kind → List Field
-fields_needed kind.Upload = field.Source ∷ field.Version ∷ field.Urgency ∷ field.Day ∷ []
-fields_needed kind.Drop = field.Package ∷ field.Architecture ∷ field.Version ∷ []
-fields_needed kind.Build = []
-fields_needed kind.Bug = field.Bug ∷ field.Source ∷ field.Severity ∷ []
-fields_needed kind.Hint = field.Hint ∷ []
-fields_needed kind.Unhint = field.Cancels ∷ []
-fields_needed kind.Delays = field.Low ∷ field.Medium ∷ field.High ∷ field.Critical ∷ []
-fields_needed kind.Run = field.Day ∷ field.Covers ∷ []
-fields_needed kind.Nothing = []
+fields_needed k = (about k).2
 
 -- the fields needed in each further paragraph of a build
 abbrev pub binary_fields_needed : List Field

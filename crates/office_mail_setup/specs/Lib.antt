@@ -4,5 +4,6 @@ pub mod Kinds
 pub mod Lists
 pub mod Setup
 pub mod SetupAnswers
-pub mod Steps
+pub mod WholeText
 pub mod Values
+pub mod steps

@@ -1,6 +1,6 @@
 -- The setup of an office: the content of a setup's text, or its first fault.
-use Rattle.std.specs.Prelude.{ℕ, ◌+◌, ◌≡◌, ◌≤◌, Bool, true, false, ◌&&◌, ◌==◌, nat_le, if◌then◌else◌, List, [], ◌∷◌, length, map, codes, Option, Some, None, Result, Ok}
-use Rattle.std.specs.List.{list_all, count_by}
+use Rattle.std.specs.Prelude.{ℕ, ◌+◌, ◌≡◌, ◌≤◌, Bool, true, false, ◌&&◌, ◌==◌, nat_le, if◌then◌else◌, List, [], ◌∷◌, length, map, codes, Option, Result, Ok}
+use Rattle.std.specs.List.{list_all, count_by, find}
 use Rattle.std.specs.Str.{bytes_eq}
 use Rattle.deb_version.specs.Characters.{char}
 use Rattle.deb_control.specs.Paragraphs.{reading, value_of}
@@ -13,7 +13,7 @@ use Rattle.office_mail_setup.specs.declared.setup.SetupField.TheVariants as fiel
 use Rattle.office_mail_setup.specs.declared.setup.SetupFault.{SetupFault}
 use Rattle.office_mail_setup.specs.declared.setup.SetupFault.TheVariants.{BadParagraph, MissingField, BadArchitecture, BadSender, BadRoles, TooMany}
 use Rattle.office_mail_setup.specs.Lists.{Lists}
-use Rattle.office_mail_setup.specs.Steps.{Paragraph, needs, given, each_of, whole, first_of, rest_of}
+use Rattle.office_mail_setup.specs.WholeText.{Paragraph, needs, given, each_of, whole, first_of, rest_of}
 use Rattle.office_mail_setup.specs.Values.{words}
 use Rattle.testing_rules_items.specs.Archs.{are_archs, IsArchs}
 use Rattle.testing_rules_items.specs.Distinct.{is_distinct}
@@ -38,27 +38,21 @@ is_sender_name (c ∷ cs) = nat_le (char "a") c && nat_le c (char "z") && list_a
 unfoldable pub are_senders : List (List ℕ) → Bool
 are_senders names = list_all is_sender_name names && is_distinct names
 
--- the role with this name (this office decides the names)
+-- the word of a role (this office decides which roles exist, and their words)
+abbrev pub role_word : Role → List ℕ
+role_word Upload = codes "upload"
+role_word Build = codes "build"
+role_word Bugs = codes "bugs"
+role_word Release = codes "release"
+role_word Runs = codes "runs"
+
+-- the role with this word
 unfoldable pub role_named : List ℕ → Option Role
-role_named text =
-    if bytes_eq text (codes "upload") then Some Upload
-    else if bytes_eq text (codes "build") then Some Build
-    else if bytes_eq text (codes "bugs") then Some Bugs
-    else if bytes_eq text (codes "release") then Some Release
-    else if bytes_eq text (codes "runs") then Some Runs
-    else None
+role_named text = find (λ role. bytes_eq text (role_word role)) (Upload ∷ Build ∷ Bugs ∷ Release ∷ Runs ∷ [])
 
--- the number of a role
-abbrev pub role_number : Role → ℕ
-role_number Upload = 0
-role_number Build = 1
-role_number Bugs = 2
-role_number Release = 3
-role_number Runs = 4
-
--- both roles are the same (this office decides which roles exist)
+-- both roles are the same: they have the same word
 abbrev pub same_role : Role → Role → Bool
-same_role a b = role_number a == role_number b
+same_role a b = bytes_eq (role_word a) (role_word b)
 
 -- the number of senders with a role
 abbrev pub count_of : Role → List Sender → ℕ

@@ -2,6 +2,7 @@
 use Rattle.std.specs.Prelude.{◌≡◌, ℕ, Bool, true, false, not, ◌&&◌, ◌||◌, ◌==◌, nat_le, if◌then◌else◌, List, [], ◌∷◌, length, take, drop, slice_index, codes, Option, Some, None}
 use Rattle.std.specs.List.{list_all, filter, slice_split, before_first}
 use Rattle.std.specs.Char.{is_ascii_digit}
+use Rattle.std.specs.Map.{lookup}
 use Rattle.std.specs.Str.{bytes_eq, str_eq_ignore_ascii_case}
 use Rattle.std.specs.Str.Parse.{digits_value}
 use Rattle.deb_version.specs.Characters.{char}
@@ -9,7 +10,7 @@ use Rattle.deb_control.specs.Text.{is_white}
 use Rattle.deb_control.specs.Paragraphs.{not_empty}
 use Rattle.deb_control.specs.Relations.{is_package_name, is_version}
 use Rattle.jiff_core.specs.declared.civil.date.Date.{Date}
-use Rattle.office_mail_setup.specs.Calendar.{day_if_real}
+use Rattle.office_mail_setup.specs.Calendar.{IsDay}
 use Rattle.testing_rules_items.specs.declared.item.Urgency.{Urgency}
 use Rattle.testing_rules_items.specs.declared.item.Urgency.TheVariants.{Low, Medium, High, Emergency, Critical}
 use Rattle.testing_rules_items.specs.declared.item.Severity.{Severity}
@@ -43,19 +44,10 @@ is_day_form text =
     length text == 10 && slice_index text 4 == char "-" && slice_index text 7 == char "-"
     && list_all is_ascii_digit (take 4 text) && list_all is_ascii_digit (take 2 (drop 5 text)) && list_all is_ascii_digit (take 2 (drop 8 text))
 
--- the text has these parts
-pub record DayForm (text : List ℕ) : Type 0 where
-  pub size : length text ≡ 10
-  pub year : list_all is_ascii_digit (take 4 text) ≡ true
-  pub month : list_all is_ascii_digit (take 2 (drop 5 text)) ≡ true
-  pub day : list_all is_ascii_digit (take 2 (drop 8 text)) ≡ true
-
--- the day in a text YYYY-MM-DD: a real one, from 1970-01-01 to 9999-12-31 (ISO 8601)
-unfoldable pub day_in : List ℕ → Option Date
-day_in text =
-    if is_day_form text
-    then day_if_real (digits_value 10 (take 4 text)) (digits_value 10 (take 2 (drop 5 text))) (digits_value 10 (take 2 (drop 8 text)))
-    else None
+-- the text is this date, as YYYY-MM-DD (ISO 8601)
+abbrev pub IsDayText : List ℕ → Date → Type 0
+IsDayText text date =
+    (is_day_form text ≡ true) × IsDay (digits_value 10 (take 4 text)) (digits_value 10 (take 2 (drop 5 text))) (digits_value 10 (take 2 (drop 8 text))) date
 
 -- a package name (Debian Policy 5.6.1), whose value is its text
 abbrev pub package_in : List ℕ → Option (List ℕ)
@@ -67,13 +59,9 @@ version_in text = some_if (is_version text) text
 
 -- an urgency (Debian Policy 5.6.17), without regard to ASCII case
 unfoldable pub urgency_named : List ℕ → Option Urgency
-urgency_named word =
-    if str_eq_ignore_ascii_case word (codes "low") then Some Low
-    else if str_eq_ignore_ascii_case word (codes "medium") then Some Medium
-    else if str_eq_ignore_ascii_case word (codes "high") then Some High
-    else if str_eq_ignore_ascii_case word (codes "emergency") then Some Emergency
-    else if str_eq_ignore_ascii_case word (codes "critical") then Some Critical
-    else None
+urgency_named word = lookup (str_eq_ignore_ascii_case word) (
+    (codes "low", Low) ∷ (codes "medium", Medium) ∷ (codes "high", High) ∷ (codes "emergency", Emergency)
+    ∷ (codes "critical", Critical) ∷ [])
 
 -- an urgency ends at the first space or tab, where commentary may begin, or at the end
 abbrev pub ends_urgency : ℕ → Bool
@@ -85,12 +73,7 @@ urgency_in text = urgency_named (before_first ends_urgency text)
 
 -- a bug's severity
 unfoldable pub severity_in : List ℕ → Option Severity
-severity_in text =
-    if bytes_eq text (codes "critical") then Some severity.Critical
-    else if bytes_eq text (codes "grave") then Some severity.Grave
-    else if bytes_eq text (codes "serious") then Some severity.Serious
-    else if bytes_eq text (codes "important") then Some severity.Important
-    else if bytes_eq text (codes "normal") then Some severity.Normal
-    else if bytes_eq text (codes "minor") then Some severity.Minor
-    else if bytes_eq text (codes "wishlist") then Some severity.Wishlist
-    else None
+severity_in text = lookup (bytes_eq text) (
+    (codes "critical", severity.Critical) ∷ (codes "grave", severity.Grave) ∷ (codes "serious", severity.Serious)
+    ∷ (codes "important", severity.Important) ∷ (codes "normal", severity.Normal) ∷ (codes "minor", severity.Minor)
+    ∷ (codes "wishlist", severity.Wishlist) ∷ [])

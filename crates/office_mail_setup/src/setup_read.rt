@@ -6,7 +6,7 @@ ghost use Rattle.deb_control.specs.Relations.{is_qualifier_char};
 ghost use Rattle.office_mail_setup.specs.declared.setup.SetupFault.TheVariants as fault;
 ghost use Rattle.office_mail_setup.specs.SetupAnswers.{SetupGives, SetupGivesBy};
 ghost use Rattle.office_mail_setup.specs.Setup.{setup_in, setup_of, setup_by, stated, sender_texts, are_senders, is_sender_name, sender_in, are_roles, same_role, count_of};
-ghost use Rattle.office_mail_setup.specs.Steps.{each_of, whole};
+ghost use Rattle.office_mail_setup.specs.WholeText.{each_of, whole};
 
 use crate::paragraphs::all_paragraphs;
 use crate::setup::{Role, Sender, Setup, SetupFault, SetupField};

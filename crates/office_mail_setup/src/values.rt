@@ -4,8 +4,9 @@ ghost use Rattle.std.specs.Char.{is_ascii_digit, digit_value};
 ghost use Rattle.std.specs.List.{list_all, position, position_or_len, before_first};
 ghost use Rattle.std.specs.Str.Parse.{digits_value};
 ghost use Rattle.deb_control.specs.Text.{is_white};
-ghost use Rattle.office_mail_setup.specs.Calendar.{day_if_real};
-ghost use Rattle.office_mail_setup.specs.Values.{some_if, is_number, number_in, days_in, words, is_day_form, DayForm, day_in, ends_urgency, urgency_named, urgency_in, severity_in};
+ghost use Rattle.office_mail_setup.specs.Calendar.{IsDay, IsOnly};
+ghost use Rattle.office_mail_setup.specs.Values.{some_if, is_number, number_in, days_in, words, is_day_form, IsDayText, ends_urgency, urgency_named, urgency_in, severity_in};
+ghost use Rattle.office_mail_setup.specs.steps.Values.{DayForm};
 
 use deb_control::{is_white, skip_white};
 use jiff_core::civil::Date;
@@ -92,9 +93,8 @@ fn white_at(bytes: &[u8]) -> Option<usize>
 }
 
 /// The day in a text YYYY-MM-DD, from 1970-01-01 to 9999-12-31.
-#[tactic(auto, unfolding(crate::specs::Values::day_in))]
 pub fn day_in(text: &str) -> Option<Date>
-    ensures { result ≡ day_in text.now }
+    ensures { IsOnly (IsDayText text.now) result }
 {
     let bytes = text.as_bytes();
     if !is_day_form(bytes) {
@@ -158,7 +158,7 @@ fn real_day(year: u16, month: u16, day: u16) -> Option<Date>
     requires year { year < 10_000 }
     requires month { month < 100 }
     requires day { day < 100 }
-    ensures { result ≡ day_if_real year month day }
+    ensures { IsOnly (IsDay year month day) result }
 {
     if year < 1970 {
         return None;

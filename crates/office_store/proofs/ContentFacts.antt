@@ -11,9 +11,14 @@ use Rattle.std.specs.declared.cmp.Ordering.TheVariants.{Less}
 use Rattle.std.specs.FinMap.{FinMap, put, empty, entries, from_entries, entries-insert, len-entries, len-empty}
 use Rattle.sqlite.specs.Tree.{Trees}
 use Rattle.sqlite_rules.specs.Lists.{Has}
+use Rattle.deb_control.specs.declared.binary.Binary.{Binary}
+use Rattle.testing_rules_items.specs.declared.item.Item.TheVariants.{Upload, Build}
 use Rattle.testing_rules_items.specs.Words.{byte_cmp, arch_name}
+use Rattle.testing_rules_model.specs.Covered.{Covered, CoveredItem}
+use Rattle.testing_rules_model.specs.Provenance.{IsUploaded, IsBuilt, binary_in as built_in}
 use Rattle.testing_rules_model.specs.Moves.{row_cmp, row_key}
-use Rattle.testing_rules_model.specs.InOrder.{AreByName, AreByKey, IsInOrder}
+use Rattle.testing_rules_model.specs.InOrder.{AreByName, AreByKey}
+use Rattle.testing_rules_model.specs.steps.InOrder.{IsInOrder}
 use Rattle.testing_rules_model.specs.declared.suite.SourceIn.{SourceIn}
 use Rattle.testing_rules_model.specs.declared.suite.RowIn.{RowIn}
 use Rattle.testing_rules_model.proofs.Orders.{text_order}
@@ -21,17 +26,19 @@ use Rattle.office_mail.specs.Lists.{Lists}
 use Rattle.office_mail.specs.Kept.{Kept, Place}
 use Rattle.office_mail.specs.declared.message.Message.{Message}
 use Rattle.office_store_keeper.specs.declared.values.Finished.{Finished}
-use Rattle.office_store_keeper.specs.Content.{reports_in, with_run}
+use Rattle.office_store_keeper.specs.Content.{item_from_one, reports_in, with_run}
 use Rattle.office_store_keeper.specs.FactSet.{AreHoldable, facts_after}
-use Rattle.office_store_keeper.specs.Provenance.{IsKept, GivesSource, IsArchPlace, GivesRow, IsGiven}
+use Rattle.office_store_keeper.specs.Provenance.{IsArchPlace, IsGiven, IsSaid}
+use Rattle.office_store_keeper.proofs.SaidItems.{said_text, saying}
 use Rattle.office_store_tables.specs.Tables.{kept_rows, said_in, run_map}
 use Rattle.office_store_tables.specs.TableSteps.{Rows, AddsLetter}
 use Rattle.sqlite.specs.Effect.{Database}
 use Rattle.office_store_tables.specs.Entries.{source_map, entry_map}
 use Rattle.office_store_tables.specs.EntrySteps.{source_entry, row_entry}
 use Rattle.office_store_tables.specs.FactTables.{facts_in}
-use Rattle.office_store_tables.specs.Finishing.{FinishesRun}
-use Rattle.office_store_tables.specs.TableContent.{own_by, message_by, message_at, source_as, source_by_message, source_at, is_arch_place, row_as, row_by_message, row_at, suite_in, reports_to, count_said, content_in, release_place}
+use Rattle.office_store_tables.specs.steps.Finishing.{FinishesRun}
+use Rattle.office_store_tables.specs.TableContent.{own_by, message_at, source_at, is_arch_place, row_as, row_at, suite_in, reports_to, count_said, content_in, release_place}
+use Rattle.office_store_tables.specs.ReadingSteps.{message_by, source_by_message, row_by_message}
 use Rattle.office_store_tables.proofs.MailLemmas.{empty_of}
 use Rattle.office_store_tables.proofs.SettingLemmas.{row_order}
 use Rattle.office_store_tables.proofs.EntryLists.{suite_of}
@@ -77,19 +84,20 @@ module _ (setup : Lists) (kept : Kept) where
       let b : (m.number == number) ≡ true = ap (λ x. x == number) n ∙ same_number number in
       ap (λ x. cond (x && (m.number == number)) (Some m) None) a ∙ ap (λ x. cond x (Some m) None) b
 
-  kept_message : (sender number : ℕ) (m : Message) → IsKept setup kept (sender, number) m → message_at setup kept sender number ≡ Some m
+  kept_message : (m : CoveredItem) → IsSaid setup kept m → message_at setup kept m.sender m.number ≡ Some (saying m)
   unfolding message_at
-  kept_message sender number m it =
-      ap (message_by setup sender number) it.stands ∙ ap (own_by sender number) it.says ∙ own_message sender number m (ap (λ (p : Place). p.0) it.own) (ap (λ (p : Place). p.1) it.own)
+  kept_message m said =
+      let it = said_text setup kept m said in
+      ap (message_by setup m.sender m.number) it.stands ∙ ap (own_by m.sender m.number) it.reads ∙ own_message m.sender m.number (saying m) refl refl
 
   same_text : (t : List ℕ) → bytes_eq t t ≡ true
   same_text t = (bytes_eq-Decides t t).1 refl
 
-  pub given_source : (s : SourceIn) → GivesSource setup kept s → source_at setup kept (source_entry s) ≡ Some s
+  pub given_source : (items : Covered) → ((m : CoveredItem) → Contains items m → IsSaid setup kept m) → (s : SourceIn) → IsUploaded items s → source_at setup kept (source_entry s) ≡ Some s
   unfolding source_at
-  given_source s it =
-      ap (source_by_message s.name s.sender s.number) (kept_message s.sender s.number it.message it.is_kept)
-      ∙ ap (source_as s.name s.sender s.number) it.says
+  given_source items said s it =
+      let m : CoveredItem = record { sender = s.sender; number = s.number; item = Upload s.name s.version it.urgency it.day } in
+      ap (source_by_message s.name s.sender s.number) (kept_message m (said m it.upload))
       ∙ ap (λ b. cond b (Some s) None) (same_text s.name)
 
   arch_test : (archs : List (List ℕ)) (arch : ℕ) → IsArchPlace archs arch → is_arch_place archs arch ≡ true
@@ -100,11 +108,16 @@ module _ (setup : Lists) (kept : Kept) where
       go true = refl
       go false = ap (λ n. n == 16) all ∙ same_number 16
 
-  pub given_row : (r : RowIn) → GivesRow setup kept r → row_at setup kept (row_entry r) ≡ Some r
+  same_binary : (place : ℕ) (binaries : List Binary) → item_from_one place binaries ≡ built_in binaries place
+  same_binary zero binaries = refl
+  same_binary (suc i) binaries = refl
+
+  pub given_row : (items : Covered) → ((m : CoveredItem) → Contains items m → IsSaid setup kept m) → (r : RowIn) → IsBuilt setup.archs items r → row_at setup kept (row_entry r) ≡ Some r
   unfolding row_at
-  given_row r it =
-      ap (row_by_message setup.archs r.arch r.binary.name r.sender r.number r.place) (kept_message r.sender r.number it.message it.is_kept)
-      ∙ ap (row_as setup.archs r.arch r.binary.name r.sender r.number r.place) it.says
+  given_row items said r it =
+      let m : CoveredItem = record { sender = r.sender; number = r.number; item = Build it.binaries } in
+      ap (row_by_message setup.archs r.arch r.binary.name r.sender r.number r.place) (kept_message m (said m it.build))
+      ∙ ap (row_as setup.archs r.arch r.binary.name r.sender r.number r.place) (same_binary r.place it.binaries ∙ it.placed)
       ∙ ap (λ b. cond (b && (bytes_eq r.binary.name r.binary.name && bytes_eq (arch_name setup.archs r.arch) r.binary.architecture)) (Some r) None) (arch_test setup.archs r.arch it.known)
       ∙ ap (λ b. cond (b && bytes_eq (arch_name setup.archs r.arch) r.binary.architecture) (Some r) None) (same_text r.binary.name)
       ∙ ap (λ b. cond b (Some r) None) ((bytes_eq-Decides (arch_name setup.archs r.arch) r.binary.architecture).1 it.arch)
@@ -134,16 +147,16 @@ module _ (setup : Lists) (db next : Trees) (run : ℕ) (done : Finished) (it : F
 
   pub sources_named : IsGiven setup (content_in setup db) done.testing → AllByRecursion (λ s. source_at setup (kept_rows (db 1)) (source_entry s) ≡ Some s) done.testing.sources
   unfolding suite_in
-  sources_named given = each_contained (λ s. source_at setup (kept_rows (db 1)) (source_entry s) ≡ Some s) done.testing.sources (λ s c. elim (given.sources s c) [
+  sources_named given = each_contained (λ s. source_at setup (kept_rows (db 1)) (source_entry s) ≡ Some s) done.testing.sources (λ s c. elim (given.given.sources s c) [
     | inl old ↦ old_source setup (kept_rows (db 1)) (source_map (db 4)) s old
-    | inr new ↦ given_source setup (kept_rows (db 1)) s new
+    | inr new ↦ given_source setup (kept_rows (db 1)) given.items given.said s new
   ])
 
   pub rows_named : IsGiven setup (content_in setup db) done.testing → AllByRecursion (λ r. row_at setup (kept_rows (db 1)) (row_entry r) ≡ Some r) done.testing.rows
   unfolding suite_in
-  rows_named given = each_contained (λ r. row_at setup (kept_rows (db 1)) (row_entry r) ≡ Some r) done.testing.rows (λ r c. elim (given.rows r c) [
+  rows_named given = each_contained (λ r. row_at setup (kept_rows (db 1)) (row_entry r) ≡ Some r) done.testing.rows (λ r c. elim (given.given.rows r c) [
     | inl old ↦ old_row setup (kept_rows (db 1)) (entry_map (db 6)) r old
-    | inr new ↦ given_row setup (kept_rows (db 1)) r new
+    | inr new ↦ given_row setup (kept_rows (db 1)) given.items given.said r new
   ])
 
   pub testing_after : AreByName done.testing.sources → AreByKey done.testing.rows → IsGiven setup (content_in setup db) done.testing → (content_in setup next).testing ≡ done.testing

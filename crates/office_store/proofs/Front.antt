@@ -2,7 +2,7 @@
 use Rattle.std.specs.Prelude.{◌≡◌, ℕ, List, [], ◌++◌, Option, Some, None, IfSome, take}
 use Rattle.std.specs.Option.{option_map}
 use Rattle.std.proofs.Common.{subst}
-use Rattle.office_store.specs.Conf.{front}
+use Rattle.office_store.specs.steps.Conf.{front}
 
 pub of_known : (left : Option (List ℕ)) (bytes : List ℕ) → IfSome (option_map (take 65_537) left) (λ xs. bytes ≡ xs) → IfSome left (λ all. bytes ≡ front all)
 unfolding front

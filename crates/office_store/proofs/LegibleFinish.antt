@@ -6,7 +6,7 @@ use Rattle.std.specs.Ordering.{nat_cmp, eq_by_cmp}
 use Rattle.std.specs.FinMap.{get, len, nat_cmp-IsAntisymmetric, get-insert, get-from_entries}
 use Rattle.sqlite.specs.Tree.{Trees}
 use Rattle.sqlite.specs.Effect.{Database}
-use Rattle.testing_rules_model.specs.InOrder.{IsInOrder}
+use Rattle.testing_rules_model.specs.steps.InOrder.{IsInOrder}
 use Rattle.testing_rules_model.specs.Suite.{Suite}
 use Rattle.testing_rules_model.specs.declared.suite.SourceIn.{SourceIn}
 use Rattle.testing_rules_model.specs.declared.suite.RowIn.{RowIn}
@@ -23,7 +23,7 @@ use Rattle.office_store_keeper.specs.Provenance.{IsGiven}
 use Rattle.office_store_tables.specs.Tables.{IsWhole, kept_rows, said_in, run_in, run_map}
 use Rattle.office_store_tables.specs.Entries.{source_map, entry_map}
 use Rattle.office_store_tables.specs.EntrySteps.{source_entry, row_entry}
-use Rattle.office_store_tables.specs.Finishing.{with_count, FinishesRun}
+use Rattle.office_store_tables.specs.steps.Finishing.{with_count, FinishesRun}
 use Rattle.office_store_tables.specs.TableContent.{source_at, row_at, count_said, content_in, release_place}
 use Rattle.office_store_tables.specs.Legible.{SaysOnce, AreReported, AreNamed, IsLegible}
 use Rattle.office_store_tables.proofs.LetterFacts.{nat_is}

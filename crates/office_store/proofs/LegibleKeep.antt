@@ -21,7 +21,8 @@ use Rattle.office_store_keeper.specs.Content.{with_text}
 use Rattle.office_store_tables.specs.Tables.{letter_in, kept_rows, said_in, run_map}
 use Rattle.office_store_tables.specs.TableSteps.{Rows, AddsLetter}
 use Rattle.office_store_tables.specs.Entries.{source_map, entry_map}
-use Rattle.office_store_tables.specs.TableContent.{message_by, message_at, source_by_message, source_at, row_by_message, row_at, suite_in, reports_to, count_said, content_in, release_place}
+use Rattle.office_store_tables.specs.TableContent.{message_at, source_at, row_at, suite_in, reports_to, count_said, content_in, release_place}
+use Rattle.office_store_tables.specs.ReadingSteps.{message_by, source_by_message, row_by_message}
 use Rattle.office_store_tables.specs.FactTables.{facts_in}
 use Rattle.office_store_tables.specs.Legible.{IsWhole, SaysOnce, AreReported, AreNamed, AreRead, IsLegible}
 use Rattle.office_store_tables.proofs.KeyedFacts.{tied}

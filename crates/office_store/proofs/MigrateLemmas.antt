@@ -22,12 +22,13 @@ use Rattle.office_store_tables.specs.Layout.{schema_before, office_schema, fact_
 use Rattle.office_store_tables.specs.Tables.{number_in, text_in, office_by, office_in, said_in, kept_rows, IsWhole}
 use Rattle.office_store_tables.specs.TableContent.{release_place}
 use Rattle.office_store_tables.specs.TableSteps.{Rows, rows_in, SaysAlone, Silences, SaysMore, office_columns}
-use Rattle.office_store_tables.specs.CreatingSteps.{Makes, schema_of_six}
+use Rattle.office_store_tables.specs.steps.CreatingSteps.{Makes, schema_of_six}
 use Rattle.office_store_tables.specs.SetupText.{setup_text}
-use Rattle.office_store.specs.Opening.{text_by, shown_office, text_of_one, text_before, kept_text, lists_by, open_fault, IsKeptFor, IsKeptBefore, IsKeptForOther, IsMigrated, IsUnreadable}
+use Rattle.office_store.specs.Opening.{text_by, text_of_one, text_before, kept_text, lists_by, open_fault, IsKeptFor, IsKeptBefore, IsKeptForOther, IsMigrated, IsUnreadable}
+use Rattle.office_store.specs.steps.Opening.{shown_office}
 use Rattle.office_store_keeper.specs.LastDelays.{IsLastTold}
 use Rattle.office_store.specs.Migrating.{AreMessages, KeepsDelays, Migrates}
-use Rattle.office_store.specs.MigratingSteps.{count_by, count_shown, IsJudged, PutsLast, Widens, WritesAnew}
+use Rattle.office_store.specs.steps.MigratingSteps.{count_by, count_shown, IsJudged, PutsLast, Widens, WritesAnew}
 use Rattle.office_store_tables.proofs.MailLemmas.{as_many, only_shown}
 use Rattle.office_store.proofs.OpenLemmas.{shown_text}
 use Rattle.office_store_tables.proofs.RunLemmas.{said_one}

@@ -9,12 +9,13 @@ use Rattle.office_mail.specs.declared.message.Message.{Message}
 use Rattle.office_mail.specs.declared.message.MailFault.{MailFault}
 use Rattle.office_mail.specs.declared.message.MailFault.TheVariants.{TooLong, BadParagraph, UnknownSender, BadNumber, UnknownKind, WrongRole, TooManyParagraphs, UnknownArchitecture}
 use Rattle.office_mail.specs.Lists.{Lists}
-use Rattle.office_mail.specs.Steps.{Paragraph, needs, given, whole, first_of, rest_of}
+use Rattle.office_mail.specs.WholeText.{Paragraph, needs, given, whole, first_of, rest_of}
 use Rattle.office_mail.specs.Values.{number_in}
 use Rattle.office_mail.specs.Fields.{required}
 use Rattle.office_mail.specs.Kinds.{kind_named, may_send}
 use Rattle.office_mail.specs.Read.{read, paragraphs_say, message_of, has_fields_of, sender_named, most_paragraphs, knows_archs, body_of}
-use Rattle.office_mail.specs.Kept.{Kept, Place, place_of, placed_as}
+use Rattle.office_mail.specs.Kept.{Kept, Place, place_of}
+use Rattle.office_mail.specs.steps.ReadSteps.{placed_as}
 use Rattle.office_mail_setup.proofs.NumberFacts.{number_range}
 use Rattle.office_store_keeper.specs.Provenance.{AreOwnTexts}
 use Rattle.office_store_tables.specs.TableSteps.{AreSmall}

@@ -14,7 +14,8 @@ use Rattle.office_store_tables.specs.Tables.{office_in, said_in}
 use Rattle.office_store_tables.specs.TableSteps.{office_columns}
 use Rattle.office_store_tables.specs.Creating.{IsBlank}
 use Rattle.office_store_tables.specs.SetupText.{setup_text}
-use Rattle.office_store.specs.Opening.{text_by, shown_office, text_of_one, kept_text, lists_by, IsKeptFor, OpensAsLeft}
+use Rattle.office_store.specs.Opening.{text_by, text_of_one, kept_text, lists_by, IsKeptFor, OpensAsLeft}
+use Rattle.office_store.specs.steps.Opening.{shown_office}
 use Rattle.office_store_tables.specs.declared.said.Said.{Said}
 use Rattle.office_store_tables.specs.Legible.{IsLegible}
 use Rattle.office_store_tables.proofs.SaidFacts.{said_alone}

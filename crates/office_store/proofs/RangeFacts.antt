@@ -4,21 +4,27 @@ use Rattle.std.proofs.lemmas.Bool.Decides.{nat_tests}
 use Rattle.std.proofs.lemmas.Bool.{cases_lt}
 use Rattle.std.specs.List.{range_with_len, cons_option}
 use Rattle.std.specs.FinMap.{get}
+use Rattle.testing_rules_model.specs.Covered.{CoveredItem, delays_of}
 use Rattle.testing_rules_model.specs.declared.facts.DelaysIn.{DelaysIn}
+use Rattle.office_mail.specs.declared.message.Body.{Body}
+use Rattle.office_mail.specs.declared.message.Body.TheVariants.{Item, Run}
 use Rattle.office_mail.specs.declared.message.Message.{Message}
 use Rattle.office_mail.specs.declared.message.MailFault.{MailFault}
 use Rattle.office_mail.specs.declared.message.RunOrder.{RunOrder}
 use Rattle.office_mail.specs.Kept.{Kept, Place, place_of}
 use Rattle.office_mail.specs.Lists.{Lists}
 use Rattle.office_mail.specs.Read.{read}
-use Rattle.office_mail.specs.Runs.{runs, cover, cover_of, orders_to, order_at, order_in_body, order_in_answer}
+use Rattle.office_mail.specs.Runs.{runs, cover, cover_of, orders_to, order_at, order_in_body}
+use Rattle.office_mail.specs.steps.ReadSteps.{order_in_answer}
 use Rattle.office_mail.proofs.ReadyFacts.{cover_of-push}
 use Rattle.office_store_keeper.specs.declared.values.Letter.{Letter}
 use Rattle.office_store_keeper.specs.Content.{letter_at, letters_within}
 use Rattle.office_store_keeper.specs.LastDelays.{TellsDelays, IsLastTold}
+use Rattle.office_store_keeper.specs.Provenance.{IsSaid}
+use Rattle.office_store_keeper.proofs.SaidItems.{is_said, said_text, saying}
 use Rattle.office_store_tables.specs.TableContent.{own_by, message_at, release_place}
 use Rattle.office_store.specs.Migrating.{order_of, AreMessages}
-use Rattle.office_store.specs.MigratingSteps.{stated_by, next_stated, cover_on, delays_told, told_by, next_told, told_on}
+use Rattle.office_store.specs.steps.MigratingSteps.{stated_by, next_stated, cover_on, delays_in_body, delays_told, told_by, next_told, told_on}
 
 -- an own message that is an order
 own_order : (answer : Result Message MailFault) (sender number : ℕ) (order : RunOrder) → order_of (own_by sender number answer) ≡ Some order → order_in_answer answer ≡ Some order
@@ -242,8 +248,11 @@ module _ (setup : Lists) (kept : Kept) where
 
   tells_there : (number : ℕ) → TellsDelays setup kept number → IsSome (told_at number)
   tells_there number t =
-      let is : message_at setup kept release number ≡ Some t.message = message_is release number t.is_kept.text t.is_kept.stands ∙ ap (own_by release number) t.is_kept.says ∙ own_by_is t.message number t.is_kept.own in
-      subst (λ m. IsSome (delays_told release number m)) (sym is) t.tells
+      let m : CoveredItem = record { sender = release; number = number; item = t.0.item } in
+      let same : t.0 ≡ m = λ i. record { sender = t.1 i; number = t.2 i; item = t.0.item } in
+      let it = said_text setup kept m (subst (IsSaid setup kept) same t.3) in
+      let is : message_at setup kept release number ≡ Some (saying m) = message_is release number it.text it.stands ∙ ap (own_by release number) it.reads ∙ own_by_is (saying m) number refl in
+      subst (λ o. IsSome (delays_told release number o)) (sym is) (subst (λ (x : CoveredItem). IsSome (delays_of x)) same t.4)
 
   there_tells : (number : ℕ) → IsSome (told_at number) → TellsDelays setup kept number
   there_tells number some = go (get kept (release, number)) refl
@@ -252,11 +261,18 @@ module _ (setup : Lists) (kept : Kept) where
       own text is (Err f) e h = absurd (let x = h in cc)
       own text is (Ok m) e h = at ((m.sender == release)) refl ((m.number == number)) refl h
         where
+          of_body : (b : Body) → m.body ≡ b → m.sender ≡ release → m.number ≡ number → IsSome (delays_in_body release number b) → TellsDelays setup kept number
+          of_body (Run order) here s n h = absurd (let x = h in cc)
+          of_body (Item item) here s n h =
+              let c : CoveredItem = record { sender = release; number = number; item = item } in
+              let same : m ≡ saying c = λ i. record { sender = s i; number = n i; body = here i } in
+              (c, refl, refl, is_said setup kept c text is (e ∙ ap Ok same), h)
+
           at : (a : Bool) → (m.sender == release) ≡ a → (b : Bool) → (m.number == number) ≡ b → IsSome (delays_told release number (cond (a && b) (Some m) None)) → TellsDelays setup kept number
           at true p true q h =
               let s : m.sender ≡ release = grind (arith, nat_tests) in
               let n : m.number ≡ number = grind (arith, nat_tests) in
-              record { message = m; is_kept = record { text = text; stands = is; says = e; own = λ i. (s i, n i) }; tells = h }
+              of_body m.body refl s n h
           at true p false q h = absurd (let x = h in cc)
           at false p b q h = absurd (let x = h in cc)
 

@@ -1,13 +1,9 @@
 -- Setups read from a file, and exit statuses.
-use Rattle.std.specs.Prelude.{ℕ, List, take}
+use Rattle.std.specs.Prelude.{ℕ}
 use Rattle.office_store.specs.declared.conf.ConfFault.{ConfFault}
 use Rattle.office_store.specs.declared.conf.ConfFault.TheVariants.{Refused, Unreadable}
 use Rattle.office_mail_setup.specs.declared.setup.SetupFault.{SetupFault}
 use Rattle.office_mail_setup.specs.declared.setup.SetupFault.TheVariants.{BadParagraph, MissingField, BadArchitecture, BadSender, BadRoles, TooMany, NoMemory}
-
--- at most one byte more than the longest setup is read from a file
-unfoldable pub front : List ℕ → List ℕ
-front bytes = take 65_537 bytes
 
 -- the exit status for a refused setup: 4 if memory ran out, else 3
 abbrev pub status_of_fault : SetupFault → ℕ

@@ -1,5 +1,4 @@
 pub mod Migrating
-pub mod MigratingSteps
 pub mod Opening
 pub mod TablesState
 pub use Rattle.office_store_keeper.specs.FactSet
@@ -20,3 +19,4 @@ pub use Rattle.office_store_tables.specs.Fresh
 pub use Rattle.office_store_tables.specs.Unchanged
 pub mod Conf
 pub mod Store
+pub mod steps

@@ -3,7 +3,7 @@ use Rattle.std.specs.Prelude.{◌≡◌, ◌≢◌, ◌⊎◌, IsTrue, ◌&&◌,
 use Rattle.std.specs.List.{filter}
 use Rattle.std.specs.Result.{result_ok}
 use Rattle.sqlite.specs.Effect.{Database}
-use Rattle.sqlite.specs.Order.{Row, column}
+use Rattle.sqlite.specs.Order.{Row}
 use Rattle.sqlite.specs.Schema.{Schema}
 use Rattle.sqlite_schema.specs.declared.schema.Index.{Index}
 use Rattle.office_mail.specs.Lists.{Lists}
@@ -14,7 +14,7 @@ use Rattle.office_store.specs.declared.opening.OpenFault.{OpenFault}
 use Rattle.office_store.specs.declared.opening.OpenFault.TheVariants as opening
 use Rattle.office_store_tables.specs.declared.said.Said.{Said}
 use Rattle.office_store_tables.specs.Layout.{no_schema, schema_before, office_schema, has_none, table_by, HasEach, HasEachBefore}
-use Rattle.office_store_tables.specs.Tables.{IsWhole, number_in, text_in, kept_rows, office_by, office_in, said_in}
+use Rattle.office_store_tables.specs.Tables.{IsWhole, kept_rows, office_in, said_in}
 use Rattle.office_store_tables.specs.Creating.{IsBlank}
 use Rattle.office_store_tables.specs.SetupText.{setup_text}
 use Rattle.office_store_tables.specs.Fresh.{IsEmptyFor}
@@ -30,10 +30,6 @@ open_fault (Store cause) = opening.Store cause
 abbrev pub text_by : ℕ → Option (ℕ × Said) → Option (List ℕ)
 text_by number None = None
 text_by number (Some (id, said)) = if id == 1 && said.schema == number && nat_le said.finished 4_294_967_295 then Some said.setup else None
-
--- the content of a row whose id is shown with its copy of the rowid as one
-abbrev pub shown_office : Row → Option (ℕ × Said)
-shown_office row = office_by (number_in (column row 0)) (number_in (column row 1)) (text_in (column row 2)) (number_in (column row 3))
 
 -- the kept setup's text, if the office has exactly one row
 abbrev pub text_of_one : ℕ → (Row → Option (ℕ × Said)) → List Row → Option (List ℕ)

@@ -10,19 +10,7 @@ use Rattle.sqlite_disk.specs.declared.Disk.{Ghosts}
 use Rattle.office_mail.specs.Lists.{Lists}
 use Rattle.office_store.specs.Opening.{IsOpened, IsAlone, IsTakeable}
 use Rattle.office_store.specs.Tables.{IsTrusted}
-use Rattle.office_store_keeper.specs.declared.faults.Cause.TheVariants.{BadRow, Sqlite}
-use Rattle.office_store.specs.declared.opening.OpenFault.{OpenFault}
-use Rattle.office_store.specs.declared.opening.OpenFault.TheVariants as opening
 use Rattle.office_store.specs.declared.store.FileFault.{FileFault}
-use Rattle.office_store.specs.declared.store.FileFault.TheVariants as fault
-
--- the result for a fault in opening the tables
-abbrev pub told : OpenFault → FileFault
-told opening.NoMemory = fault.NoMemory
-told opening.OtherSetup = fault.OtherSetup
-told opening.UnknownSchema = fault.UnknownSchema
-told (opening.Store BadRow) = fault.Unreadable
-told (opening.Store (Sqlite error)) = fault.Failed error
 
 -- the exit status for any fault of a store
 abbrev pub status_of_store : FileFault → ℕ

@@ -1,7 +1,8 @@
 //! The setup's file.
 
 ghost use Rattle.std.specs.Prelude.{◌≡◌, IfOk, IfSome};
-ghost use Rattle.office_store.specs.Conf.{front, status_of_conf, status_of_fault};
+ghost use Rattle.office_store.specs.Conf.{status_of_conf, status_of_fault};
+ghost use Rattle.office_store.specs.steps.Conf.{front};
 
 use office_mail::{Setup, SetupFault};
 use std::alloc::Global;

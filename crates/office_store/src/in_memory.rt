@@ -4,14 +4,15 @@ ghost use Rattle.std.specs.List.{list_all};
 ghost use Rattle.std.specs.Str.{IsUtf8};
 ghost use Rattle.sqlite.specs.Held.{state};
 ghost use Rattle.sqlite.specs.State.{HasCleanDisk};
-ghost use Rattle.testing_rules_model.specs.InOrder.{IsInOrder};
+ghost use Rattle.testing_rules_model.specs.steps.InOrder.{IsInOrder};
 ghost use Rattle.office_store_keeper.specs.Provenance.{KnowsArchs};
 ghost use Rattle.office_store_tables.specs.Entries.{source_map, entry_map};
-ghost use Rattle.office_store_tables.specs.Finishing.{FinishesRun};
+ghost use Rattle.office_store_tables.specs.steps.Finishing.{FinishesRun};
 ghost use Rattle.office_store_tables.specs.Legible.{IsWhole, AreNamed, SaysOnce};
 ghost use Rattle.office_store_tables.specs.TableContent.{is_arch_place, release_place, suite_in};
 ghost use Rattle.office_store_tables.specs.ReadsOnly.{ReadsOnly, BeginsOurs, Finds};
-ghost use Rattle.office_store_tables.specs.Tables.{IsTrusted, IsOurs, Lasts, kept_rows};
+ghost use Rattle.office_store_tables.specs.Tables.{IsTrusted, IsOurs, kept_rows};
+ghost use Rattle.office_store_tables.specs.steps.Tables.{Lasts};
 
 use deb_control::NoMemory;
 use office_mail::Setup;

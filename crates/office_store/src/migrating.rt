@@ -8,19 +8,21 @@ ghost use Rattle.office_mail.specs.Lists.{Lists};
 ghost use Rattle.office_mail.specs.Runs.{runs, cover, order_in_body};
 ghost use Rattle.office_mail.specs.Setup.{IsSetup};
 ghost use Rattle.office_store_keeper.specs.Content.{letters_within};
-ghost use Rattle.office_store_keeper.specs.LastDelays.{delays_in_body, IsLastTold};
+ghost use Rattle.office_store_keeper.specs.LastDelays.{IsLastTold};
 ghost use Rattle.office_store_keeper.specs.declared.faults.Cause.TheVariants.{BadRow};
 ghost use Rattle.office_store_tables.specs.Layout.{schema_before};
-ghost use Rattle.office_store_tables.specs.Tables.{IsTrusted, IsOurs, IsWhole, Lasts, number_in, kept_rows};
+ghost use Rattle.office_store_tables.specs.Tables.{IsTrusted, IsOurs, IsWhole, number_in, kept_rows};
+ghost use Rattle.office_store_tables.specs.steps.Tables.{Lasts};
 ghost use Rattle.office_store_tables.specs.TableSteps.{IsCrowded, SaysMore, is_between, letter_columns, office_columns};
 ghost use Rattle.office_store_tables.specs.StepsWithin.{StepsWithin, BeginsInside, Yields, LeavesAll};
 ghost use Rattle.office_store_tables.specs.TableContent.{release_place};
-ghost use Rattle.office_store_tables.specs.CreatingSteps.{IsBuilding};
+ghost use Rattle.office_store_tables.specs.steps.CreatingSteps.{IsBuilding};
 ghost use Rattle.office_store_tables.specs.SetupText.{setup_text as text_of};
 ghost use Rattle.office_store_tables.specs.Unchanged.{IsAsItWas};
-ghost use Rattle.office_store.specs.Opening.{lists_by, shown_office, text_before, text_of_one, IsKeptForOther, IsMigrated, IsUnreadable};
+ghost use Rattle.office_store.specs.Opening.{lists_by, text_before, text_of_one, IsKeptForOther, IsMigrated, IsUnreadable};
+ghost use Rattle.office_store.specs.steps.Opening.{shown_office};
 ghost use Rattle.office_store.specs.Migrating.{AreMessages};
-ghost use Rattle.office_store.specs.MigratingSteps.{count_by, count_shown, IsJudged, stated_by, next_stated, cover_on, next_told, told_on, PutsLast, Widens, WritesAnew};
+ghost use Rattle.office_store.specs.steps.MigratingSteps.{count_by, count_shown, IsJudged, stated_by, next_stated, cover_on, delays_in_body, next_told, told_on, PutsLast, Widens, WritesAnew};
 
 use crate::opening::{OpenFault, judge, number_at};
 use office_mail::{Body, Message, RunOrder, Setup};
@@ -178,7 +180,7 @@ fn stated_in(message: Message, release: u32) -> Result<u32, KeepFault>
 }
 
 /// What the letter after this many orders states for the release team.
-#[tactic(auto, unfolding(crate::specs::MigratingSteps::next_stated))]
+#[tactic(auto, unfolding(crate::specs::steps::MigratingSteps::next_stated))]
 fn next_stated(alloc: Global, setup: &Setup, count: u32, letter: &Letter) -> Result<u32, KeepFault>
     ensures ok { IfOk result (λ stated. next_stated setup.now count letter.now ≡ Some stated) }
     ensures bad { result ≡ Err (KeepFault.Store BadRow) → next_stated setup.now count letter.now ≡ None }
@@ -205,7 +207,7 @@ fn greater(a: u32, b: u32) -> u32
 }
 
 /// The greatest number that these orders state for the release team. Each must be an order, and none may be missing.
-#[tactic(auto, unfolding(crate::specs::MigratingSteps::cover_on))]
+#[tactic(auto, unfolding(crate::specs::steps::MigratingSteps::cover_on))]
 fn cover_of(
     alloc: Global,
     setup: &Setup,
@@ -237,7 +239,7 @@ fn tells_delays(message: &Message, sender: u32, number: u32) -> bool
 }
 
 /// The number of the last delays after reading a letter of the release team.
-#[tactic(auto, unfolding(crate::specs::MigratingSteps::next_told))]
+#[tactic(auto, unfolding(crate::specs::steps::MigratingSteps::next_told))]
 fn next_told(
     alloc: Global,
     setup: &Setup,
@@ -259,7 +261,7 @@ fn next_told(
 }
 
 /// The number of the last of these letters that sets delays. Each must be a message of the release team.
-#[tactic(auto, unfolding(crate::specs::MigratingSteps::told_on))]
+#[tactic(auto, unfolding(crate::specs::steps::MigratingSteps::told_on))]
 fn last_told(alloc: Global, setup: &Setup, letters: &[Letter]) -> Result<Option<u32>, KeepFault>
     ensures ok { IfOk result (λ last. told_on setup.now None letters.now ≡ Some last) }
     ensures bad { result ≡ Err (KeepFault.Store BadRow) → told_on setup.now None letters.now ≡ None }

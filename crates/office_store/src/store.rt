@@ -9,7 +9,8 @@ ghost use Rattle.sqlite.specs.State.{HasCleanDisk};
 ghost use Rattle.sqlite.specs.WalFiles.{image_at};
 ghost use Rattle.office_store.specs.Opening.{IsOpened, IsAlone, IsTakeable};
 ghost use Rattle.office_store.specs.Tables.{IsTrusted, Endures};
-ghost use Rattle.office_store.specs.Store.{FindsStore, OpensStore, status_of_store, told};
+ghost use Rattle.office_store.specs.Store.{FindsStore, OpensStore, status_of_store};
+ghost use Rattle.office_store.specs.steps.Store.{told};
 
 use crate::{Cause, OpenFault, Tables};
 use office_mail::Setup;

@@ -21,8 +21,9 @@ use Rattle.testing_rules_model.specs.declared.fact_row.FactRow.{FactRow}
 use Rattle.testing_rules_model.specs.declared.fact_row.FactChanges.{FactChanges}
 use Rattle.testing_rules_model.proofs.FactKinds.{kind_is}
 use Rattle.testing_rules_model.specs.FactRows.{number_of, is_kind, is_row, row_order, times}
-use Rattle.office_store_keeper.specs.FactSet.{FactSet, HasRow, count_in, is_among, rows_in, set_of_rows, without_rows, with_rows, facts_after}
-use Rattle.office_store_keeper.specs.MemoryState.{rows_left}
+use Rattle.office_store_keeper.specs.FactSet.{FactSet, HasRow, count_in, rows_in, set_of_rows, without_rows, with_rows, facts_after}
+use Rattle.office_store_keeper.specs.steps.FactSet.{is_among}
+use Rattle.office_store_keeper.specs.steps.MemoryState.{rows_left}
 
 -- The order of rows.
 

@@ -4,8 +4,8 @@ use Rattle.std.specs.Prelude.{get_or}
 use Rattle.std.proofs.lemmas.List.{append-nil, append_assoc, take_more}
 use Rattle.std.proofs.lemmas.List.Elements.{filter-append}
 use Rattle.testing_rules_model.specs.declared.fact_row.FactRow.{FactRow}
-use Rattle.office_store_keeper.specs.FactSet.{is_among}
-use Rattle.office_store_keeper.specs.MemoryState.{rows_left}
+use Rattle.office_store_keeper.specs.steps.FactSet.{is_among}
+use Rattle.office_store_keeper.specs.steps.MemoryState.{rows_left}
 
 -- one row more
 pub one_gone : (left gone : List FactRow) (r : FactRow) → is_among r gone ≡ true → left ≡ left ++ rows_left gone (r ∷ [])

@@ -3,3 +3,4 @@ pub mod KeyCounts
 pub mod LeftRows
 pub mod MemoryFacts
 pub mod PartFacts
+pub mod SaidItems

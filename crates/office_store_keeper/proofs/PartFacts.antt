@@ -18,7 +18,8 @@ use Rattle.office_mail.specs.Kept.{Place, place_cmp}
 use Rattle.office_mail.proofs.KeptFacts.{places_total, exact_places}
 use Rattle.office_store_keeper.specs.declared.values.Letter.{Letter}
 use Rattle.office_store_keeper.specs.Content.{letter_at, letters_within, IsNextNumber}
-use Rattle.office_store_keeper.specs.MemoryState.{kept_in, letter_of}
+use Rattle.office_store_keeper.specs.MemoryState.{kept_in}
+use Rattle.office_store_keeper.specs.steps.MemoryState.{letter_of}
 use Rattle.office_store_keeper.proofs.MemoryFacts.{get-kept_in}
 
 abbrev Entry : Type 0

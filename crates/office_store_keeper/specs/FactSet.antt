@@ -1,11 +1,10 @@
 -- The kept facts: a set of rows that each name the message giving a fact. This office decides to keep facts as rows.
-use Rattle.std.specs.Prelude.{◌≡◌, ◌≤◌, ◌⊎◌, ℕ, ⊤, Bool, is_some, if◌then◌else◌, List, [], ◌∷◌, map, IsSome}
-use Rattle.std.specs.List.{list_any}
+use Rattle.std.specs.Prelude.{◌≡◌, ℕ, ⊤, is_some, if◌then◌else◌, List, [], ◌∷◌, map, IsSome}
 use Rattle.std.specs.FinMap.{FinMap, get, insert, remove, keys, from_entries}
 use Rattle.testing_rules_model.specs.declared.fact_row.FactKind.TheVariants.{Delays}
 use Rattle.testing_rules_model.specs.declared.fact_row.FactRow.{FactRow}
 use Rattle.testing_rules_model.specs.declared.fact_row.FactChanges.{FactChanges}
-use Rattle.testing_rules_model.specs.FactRows.{is_row, row_order}
+use Rattle.testing_rules_model.specs.FactRows.{row_order}
 pub use Rattle.testing_rules_model.specs.FactRows.{IsFactRow}
 use Rattle.office_mail.specs.Lists.{Lists}
 use Rattle.office_mail_setup.specs.declared.setup.Role.TheVariants.{Release}
@@ -26,10 +25,6 @@ count_in facts r = if is_some (get facts r) then 1 else 0
 -- the rows of a set, by kind, sender, number and place
 abbrev pub rows_in : FactSet → List FactRow
 rows_in facts = keys facts
-
--- whether a row is one of these
-abbrev pub is_among : FactRow → List FactRow → Bool
-is_among r rows = list_any (is_row r) rows
 
 -- the set of these rows
 abbrev pub set_of_rows : List FactRow → FactSet

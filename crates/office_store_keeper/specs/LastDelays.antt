@@ -2,12 +2,8 @@
 use Rattle.std.specs.Prelude.{◌≡◌, ◌≤◌, ℕ, length, Option, Some, None, IsSome}
 use Rattle.std.specs.FinMap.{insert}
 use Rattle.testing_rules_model.specs.Covered.{CoveredItem, delays_of}
-use Rattle.testing_rules_model.specs.declared.facts.DelaysIn.{DelaysIn}
 use Rattle.testing_rules_model.specs.declared.fact_row.FactKind.TheVariants.{Delays}
 use Rattle.testing_rules_model.specs.declared.fact_row.FactRow.{FactRow}
-use Rattle.office_mail.specs.declared.message.Body.{Body}
-use Rattle.office_mail.specs.declared.message.Body.TheVariants.{Item, Run}
-use Rattle.office_mail.specs.declared.message.Message.{Message}
 use Rattle.office_mail_setup.specs.declared.setup.Role.TheVariants.{Release}
 use Rattle.office_mail.specs.Kept.{Kept}
 use Rattle.office_mail.specs.Lists.{Lists}
@@ -15,18 +11,11 @@ use Rattle.office_mail.specs.Runs.{cover}
 use Rattle.office_mail.specs.Setup.{place_of_role}
 use Rattle.office_store_keeper.specs.Content.{Content}
 use Rattle.office_store_keeper.specs.FactSet.{FactSet}
-use Rattle.office_store_keeper.specs.Provenance.{IsKept}
-
--- the delays set by a message
-abbrev pub delays_in_body : ℕ → ℕ → Body → Option DelaysIn
-delays_in_body sender number (Item item) = let m : CoveredItem = record { sender = sender; number = number; item = item } in delays_of m
-delays_in_body sender number (Run order) = None
+use Rattle.office_store_keeper.specs.Provenance.{IsSaid}
 
 -- the release team's message with this number is kept and sets delays
-pub record TellsDelays (setup : Lists) (kept : Kept) (number : ℕ) : Type 0 where
-  pub message : Message
-  pub is_kept : IsKept setup kept (place_of_role Release setup.senders, number) message
-  pub tells : IsSome (delays_in_body (place_of_role Release setup.senders) number message.body)
+abbrev pub TellsDelays : Lists → Kept → ℕ → Type 0
+TellsDelays setup kept number = (m : CoveredItem) × (m.sender ≡ place_of_role Release setup.senders) × (m.number ≡ number) × IsSaid setup kept m × IsSome (delays_of m)
 
 -- the greatest number up to a cover whose message of the release team sets delays, if there is one
 abbrev pub IsLastTold : Lists → Kept → ℕ → Option ℕ → Type 0

@@ -6,3 +6,4 @@ pub mod MemoryState
 pub mod LastDelays
 pub mod NewMail
 pub mod MailBytes
+pub mod steps

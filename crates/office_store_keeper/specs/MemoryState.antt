@@ -1,16 +1,13 @@
 -- The state of the store in memory.
-use Rattle.std.specs.Prelude.{◌≤◌, ℕ, not, List, length}
-use Rattle.std.specs.List.{filter}
+use Rattle.std.specs.Prelude.{ℕ, List}
 use Rattle.std.specs.FinMap.{from_entries}
 use Rattle.office_mail.specs.Lists.{Lists}
 use Rattle.office_mail.specs.Kept.{Kept, Place}
 use Rattle.testing_rules_model.specs.Suite.{Suite}
 use Rattle.testing_rules_model.specs.declared.fact_row.FactRow.{FactRow}
-use Rattle.office_store_keeper.specs.declared.values.Letter.{Letter}
 use Rattle.office_store_keeper.specs.declared.values.Reports.{Reports}
 use Rattle.office_store_keeper.specs.Content.{Content}
-use Rattle.office_store_keeper.specs.FactSet.{is_among, set_of_rows}
-use Rattle.office_store_keeper.specs.Provenance.{KnowsArchs}
+use Rattle.office_store_keeper.specs.FactSet.{set_of_rows}
 
 pub record MemoryState : Type 0 where
   -- the setup that the store was made for
@@ -26,19 +23,6 @@ pub record MemoryState : Type 0 where
 abbrev pub kept_in : List (Place × List ℕ) → Kept
 kept_in mail = from_entries mail
 
--- a text at a sender's place, with its number
-abbrev pub letter_of : Place × List ℕ → Letter
-letter_of e = record { number = e.0.1; text = e.1 }
-
--- the rows that aren't gone
-abbrev pub rows_left : List FactRow → List FactRow → List FactRow
-rows_left gone rows = filter (λ r. not (is_among r gone)) rows
-
 -- the content of the store in memory
 abbrev pub content_of : MemoryState → Content
 content_of s = record { kept = kept_in s.mail; reports = s.runs; testing = s.testing; facts = set_of_rows s.facts }
-
--- runs can be numbered, and testing has only architectures of the setup
-pub record IsMemoryState (setup : Lists) (runs : List Reports) (testing : Suite) : Type 0 where
-  pub few : length runs ≤ 4_294_967_295
-  pub known : KnowsArchs setup.archs testing.rows

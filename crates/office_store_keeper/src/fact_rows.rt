@@ -3,8 +3,9 @@ ghost use Rattle.std.specs.Prelude.{◌≡◌, ◌++◌, ◌∷◌, [], length, 
 ghost use Rattle.std.specs.List.Sorted.{IsBinarySearchResult, IsSearchInRange, IsSorted};
 ghost use Rattle.testing_rules_model.specs.FactRows.{row_order};
 ghost use Rattle.testing_rules_model.specs.declared.fact_row.FactRow.{FactRow as ARow};
-ghost use Rattle.office_store_keeper.specs.FactSet.{facts_after, is_among, rows_in, set_of_rows};
-ghost use Rattle.office_store_keeper.specs.MemoryState.{rows_left};
+ghost use Rattle.office_store_keeper.specs.FactSet.{facts_after, rows_in, set_of_rows};
+ghost use Rattle.office_store_keeper.specs.steps.FactSet.{is_among};
+ghost use Rattle.office_store_keeper.specs.steps.MemoryState.{rows_left};
 
 use deb_control::NoMemory;
 use std::alloc::Global;

@@ -8,7 +8,8 @@ ghost use Rattle.std.specs.FinMap.{get, len};
 ghost use Rattle.std.specs.Option.{option_copied};
 ghost use Rattle.office_store_keeper.specs.Content.{letters_within, item_from_one, reports_in, IsNextNumber};
 ghost use Rattle.office_store_keeper.specs.FactSet.{facts_after, set_of_rows};
-ghost use Rattle.office_store_keeper.specs.MemoryState.{kept_in, letter_of, content_of};
+ghost use Rattle.office_store_keeper.specs.MemoryState.{kept_in, content_of};
+ghost use Rattle.office_store_keeper.specs.steps.MemoryState.{letter_of};
 
 use crate::fact_rows::{rows_after, rows_in_order};
 use crate::faults::KeepFault;
@@ -48,7 +49,8 @@ impl Drop for Plain {
 }
 
 impl Model for Plain {
-    ghost use Rattle.office_store_keeper.specs.MemoryState.{MemoryState, IsMemoryState};
+    ghost use Rattle.office_store_keeper.specs.MemoryState.{MemoryState};
+    ghost use Rattle.office_store_keeper.specs.steps.MemoryState.{IsMemoryState};
 
     ghost Value = { MemoryState };
 

@@ -19,11 +19,12 @@ use Rattle.office_store_tables.specs.Layout.{no_schema, office, mail, run, testi
 use Rattle.office_store_tables.specs.Texts.{create_office_text, create_mail_text, create_run_text, create_testing_source_text, create_testing_row_text, create_fact_text, create_fact_delays_text}
 use Rattle.sqlite.specs.Tree.{Trees, put_row}
 use Rattle.office_store_testing_tables.specs.declared.said.Said.{Said}
-use Rattle.office_store_tables.specs.Tables.{IsTrusted, Lasts, said_in}
+use Rattle.office_store_tables.specs.Tables.{IsTrusted, said_in}
+use Rattle.office_store_tables.specs.steps.Tables.{Lasts}
 use Rattle.office_store_tables.specs.TableSteps.{Rows, SaysMore}
 use Rattle.office_store_tables.proofs.RunLemmas.{said_one}
 use Rattle.office_store_tables.specs.Creating.{IsBlank}
-use Rattle.office_store_tables.specs.CreatingSteps.{IsBuilding, Makes, MakesAll, schema_of_one, schema_of_two, schema_of_three, schema_of_four, schema_of_five, schema_of_six}
+use Rattle.office_store_tables.specs.steps.CreatingSteps.{IsBuilding, Makes, MakesAll, schema_of_one, schema_of_two, schema_of_three, schema_of_four, schema_of_five, schema_of_six}
 use Rattle.office_store_tables.proofs.StepLemmas.{Stepped, step_before, step_on, begun_ok}
 use Rattle.office_store_tables.proofs.WriteLemmas.{went, same_value}
 use Rattle.office_store_tables.proofs.WithinLemmas.{WentWithin}

@@ -6,14 +6,14 @@ use Rattle.sqlite.specs.Tree.{Trees}
 use Rattle.office_store_keeper.specs.declared.values.Finished.{Finished}
 use Rattle.office_store_testing_tables.specs.declared.said.Said.{Said}
 use Rattle.office_store_testing_tables.specs.Tables.{IsWhole, run_map}
-use Rattle.office_store_testing_tables.specs.TableSteps.{Rows, SaysAlone, RecordsRun}
+use Rattle.office_store_testing_tables.specs.steps.TableSteps.{Rows, SaysAlone, RecordsRun}
 use Rattle.office_store_testing_tables.specs.Entries.{source_map, entry_map}
-use Rattle.office_store_testing_tables.specs.EntrySteps.{SetsSources, SetsRows}
+use Rattle.office_store_testing_tables.specs.steps.EntrySteps.{SetsSources, SetsRows}
 use Rattle.office_store_keeper.specs.FactSet.{FactSet, facts_after}
 use Rattle.office_store_testing_tables.specs.Legible.{AreRead}
 use Rattle.office_store_testing_tables.specs.FactTables.{facts_in}
-use Rattle.office_store_testing_tables.specs.FactSteps.{MovesFacts, ChangesFacts}
-use Rattle.office_store_tables.specs.Finishing.{WritesRun, with_count}
+use Rattle.office_store_testing_tables.specs.steps.FactSteps.{MovesFacts, ChangesFacts}
+use Rattle.office_store_tables.specs.steps.Finishing.{WritesRun, with_count}
 
 -- the same between tables that have the same facts
 moves_between : (release : ℕ) (a c e d : Trees) (made : FactSet → FactSet) → c 8 ≡ a 8 → c 10 ≡ a 10 → d 8 ≡ e 8 → d 10 ≡ e 10 → MovesFacts release c e made → MovesFacts release a d made

@@ -5,7 +5,7 @@ use Rattle.office_mail.specs.Kept.{Kept}
 use Rattle.office_store_keeper.specs.declared.values.NewLetter.{NewLetter}
 use Rattle.office_store_keeper.specs.NewMail.{AreFree, with_letters}
 use Rattle.office_store_testing_tables.specs.Tables.{kept_rows}
-use Rattle.office_store_testing_tables.specs.TableSteps.{AddsLetter, AddsLetters}
+use Rattle.office_store_testing_tables.specs.steps.TableSteps.{AddsLetter, AddsLetters}
 use Rattle.office_store_testing_tables.proofs.Eights.{take_on}
 use Rattle.office_store_testing_tables.proofs.KeepLemmas.{inserted}
 

@@ -35,9 +35,9 @@ use Rattle.office_mail.specs.Kept.{Place}
 use Rattle.office_mail.proofs.KeptFacts.{places_total, exact_places}
 use Rattle.office_store_keeper.specs.Content.{IsNextNumber}
 use Rattle.office_store_testing_tables.specs.Layout.{office_schema}
-use Rattle.office_store_testing_tables.specs.Texts.{next_text}
+use Rattle.office_store_testing_tables.specs.steps.Texts.{next_text}
 use Rattle.office_store_testing_tables.specs.Tables.{letter_in, kept_rows}
-use Rattle.office_store_testing_tables.specs.TableSteps.{AreSmall, IsCrowded, IsOnlyNumber, ShowsLeast, is_from, letter_columns}
+use Rattle.office_store_testing_tables.specs.steps.TableSteps.{AreSmall, IsCrowded, IsOnlyNumber, ShowsLeast, is_from, letter_columns}
 use Rattle.office_store_testing_tables.proofs.Compiled.{plain_query, equals}
 use Rattle.office_store_testing_tables.proofs.Answered.{passes, picked}
 use Rattle.office_store_testing_tables.proofs.LetterFacts.{letter_parts, letter_of_parts, int_is}

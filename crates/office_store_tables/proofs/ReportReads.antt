@@ -11,7 +11,7 @@ use Rattle.sqlite_rules.specs.Lists.{Has}
 use Rattle.sqlite_rules.proofs.ListLemmas.{has_filtered}
 use Rattle.office_store_keeper.specs.declared.values.Reports.{Reports}
 use Rattle.office_store_testing_tables.specs.Tables.{number_in, text_in, run_by, run_in, run_map}
-use Rattle.office_store_testing_tables.specs.TableSteps.{is_run, run_columns}
+use Rattle.office_store_testing_tables.specs.steps.TableSteps.{is_run, run_columns}
 use Rattle.office_store_testing_tables.specs.Legible.{AreReported}
 use Rattle.office_store_testing_tables.proofs.KeyedFacts.{tied}
 use Rattle.office_store_testing_tables.proofs.LetterFacts.{number_is}

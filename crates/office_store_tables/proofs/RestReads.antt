@@ -12,12 +12,12 @@ use Rattle.office_mail.specs.Setup.{setup_in}
 use Rattle.office_mail.proofs.KeptFacts.{places_total, exact_places}
 use Rattle.office_store_testing_tables.specs.declared.said.Said.{Said}
 use Rattle.office_store_testing_tables.specs.Tables.{letter_in, kept_rows, said_in}
-use Rattle.office_store_testing_tables.specs.TableSteps.{office_columns, IsOnlyOffice}
+use Rattle.office_store_testing_tables.specs.steps.TableSteps.{office_columns, IsOnlyOffice}
 use Rattle.office_store_testing_tables.specs.Legible.{SaysOnce, IsLegible, IsWhole, AreReported, AreNamed, AreRead}
 use Rattle.office_store_testing_tables.specs.TableContent.{release_place}
 use Rattle.office_store_testing_tables.proofs.MailLemmas.{as_many}
 use Rattle.office_store_testing_tables.proofs.Whole.{at_most}
-use Rattle.office_store_tables.specs.Reading.{IsSaidFor, SaysFor, IsOwnCount, ReadRest}
+use Rattle.office_store_tables.specs.steps.Reading.{IsSaidFor, SaysFor, IsOwnCount, ReadRest}
 
 some_said : {x y : Said} → Some x ≡ Some y → x ≡ y
 some_said e = cc

@@ -13,8 +13,8 @@ use Rattle.sqlite.specs.Effect.{Answers}
 use Rattle.sqlite.specs.Listing.{understood, reads_listing}
 use Rattle.sqlite.proofs.Callers.{IsPlain, command_of, reads_as}
 use Rattle.office_store_testing_tables.specs.Layout.{office_schema}
-use Rattle.office_store_testing_tables.specs.Texts.{mail_rowids_text, run_numbers_text}
-use Rattle.office_store_testing_tables.specs.TableSteps.{rowid_column}
+use Rattle.office_store_testing_tables.specs.steps.Texts.{mail_rowids_text, run_numbers_text}
+use Rattle.office_store_testing_tables.specs.steps.TableSteps.{rowid_column}
 use Rattle.office_store_testing_tables.proofs.Compiled.{plain_query}
 use Rattle.office_store_testing_tables.proofs.Answered.{plain_answer}
 use Rattle.office_store_testing_tables.proofs.MailLemmas.{filter_all}

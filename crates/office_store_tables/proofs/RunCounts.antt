@@ -16,7 +16,7 @@ use Rattle.office_store_testing_tables.proofs.LetterFacts.{nat_is}
 use Rattle.office_store_testing_tables.proofs.Passed.{no_none}
 use Rattle.office_store_testing_tables.proofs.Whole.{at_most}
 use Rattle.office_store_tables.proofs.ReportFacts.{other}
-use Rattle.office_store_tables.specs.Reading.{IsRecorded}
+use Rattle.office_store_tables.specs.steps.Reading.{IsRecorded}
 
 over : (a b : ℕ) → b < a → eq_by_cmp nat_cmp a b ≡ false
 over a b h = nat_is a b ∙ grind (arith, nat_tests)

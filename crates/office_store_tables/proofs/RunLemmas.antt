@@ -19,9 +19,9 @@ use Rattle.sqlite.proofs.Callers.{IsPlain, command_of, reads_as}
 use Rattle.office_store_keeper.specs.declared.values.Reports.{Reports}
 use Rattle.office_store_testing_tables.specs.declared.said.Said.{Said}
 use Rattle.office_store_testing_tables.specs.Layout.{office_schema}
-use Rattle.office_store_testing_tables.specs.Texts.{office_text, reports_text}
+use Rattle.office_store_testing_tables.specs.steps.Texts.{office_text, reports_text}
 use Rattle.office_store_testing_tables.specs.Tables.{number_in, text_in, office_in, said_in, run_by, run_in, run_map}
-use Rattle.office_store_testing_tables.specs.TableSteps.{office_columns, IsOnlyOffice, is_run, run_columns, IsOnlyRun}
+use Rattle.office_store_testing_tables.specs.steps.TableSteps.{office_columns, IsOnlyOffice, is_run, run_columns, IsOnlyRun}
 use Rattle.office_store_testing_tables.proofs.Compiled.{plain_query, equals}
 use Rattle.office_store_testing_tables.proofs.Answered.{passes, plain_answer}
 use Rattle.office_store_testing_tables.proofs.KeyedFacts.{get_at, found_one}

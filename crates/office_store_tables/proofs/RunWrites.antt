@@ -25,9 +25,9 @@ use Rattle.sqlite_value.proofs.OrderLemmas.{value_cmp_total}
 use Rattle.office_store_keeper.specs.declared.values.Reports.{Reports}
 use Rattle.office_store_testing_tables.specs.declared.said.Said.{Said}
 use Rattle.office_store_testing_tables.specs.Layout.{office_schema, run, office}
-use Rattle.office_store_testing_tables.specs.Texts.{add_run_text, clear_office_text, add_office_text}
+use Rattle.office_store_testing_tables.specs.steps.Texts.{add_run_text, clear_office_text, add_office_text}
 use Rattle.office_store_testing_tables.specs.Tables.{number_in, text_in, run_in, run_map, office_by, office_in, said_in, IsWhole}
-use Rattle.office_store_testing_tables.specs.TableSteps.{Rows, SaysAlone, AddsRun, Silences, SaysMore, RecordsRun}
+use Rattle.office_store_testing_tables.specs.steps.TableSteps.{Rows, SaysAlone, AddsRun, Silences, SaysMore, RecordsRun}
 use Rattle.office_store_testing_tables.proofs.Compiled.{plain_query}
 use Rattle.office_store_testing_tables.proofs.WriteLemmas.{Inserted, inserts_one, cast_int}
 use Rattle.office_store_testing_tables.proofs.DeleteLemmas.{Deleted, deletes_some, nothing_left}

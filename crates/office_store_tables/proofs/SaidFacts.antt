@@ -8,7 +8,7 @@ use Rattle.sqlite.specs.declared.types.Value.TheVariants.{Int, Text}
 use Rattle.sqlite.specs.Order.{Row, column}
 use Rattle.office_store_testing_tables.specs.declared.said.Said.{Said}
 use Rattle.office_store_testing_tables.specs.Tables.{number_in, text_in, office_by, office_in, said_in}
-use Rattle.office_store_testing_tables.specs.TableSteps.{office_columns}
+use Rattle.office_store_testing_tables.specs.steps.TableSteps.{office_columns}
 use Rattle.office_store_testing_tables.specs.Legible.{SaysOnce}
 use Rattle.office_store_testing_tables.proofs.KeyedFacts.{tied}
 use Rattle.office_store_testing_tables.proofs.LetterFacts.{number_is}

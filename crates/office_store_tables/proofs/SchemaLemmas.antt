@@ -4,7 +4,7 @@ use Rattle.sqlite_tied.specs.Compute.{everything}
 use Rattle.sqlite.specs.Schema.{Schema}
 use Rattle.sqlite_schema.specs.Names.{same_name}
 use Rattle.office_store_tables.specs.Layout.{no_schema, office_schema, schema_before, HasEach, HasEachBefore}
-use Rattle.office_store_tables.specs.LayoutSteps.{office_tables, tables_before, office_indexes, mail_index, testing_source_index, testing_row_index, fact_index}
+use Rattle.office_store_tables.specs.steps.LayoutSteps.{office_tables, tables_before, office_indexes, mail_index, testing_source_index, testing_row_index, fact_index}
 
 tables_are : office_schema.tables ≡ office_tables
 unfolding everything office_tables
@@ -30,7 +30,7 @@ parts s is = (ap (λ (x : Schema). x.tables) is ∙ tables_are, ap (λ (x : Sche
 
 each_there : HasEach office_schema
 unfolding everything same_name
-each_there = record { has_office = refl; has_mail = refl; has_run = refl; has_source = refl; has_row = refl; has_fact = refl; has_delays = refl }
+each_there = (refl, (refl, (refl, (refl, (refl, (refl, (refl, tt)))))))
 
 pub each : (s : Schema) → s ≡ office_schema → HasEach s
 each s is = subst HasEach (sym is) each_there
@@ -58,7 +58,7 @@ parts_before s is = (ap (λ (x : Schema). x.tables) is ∙ before_tables_are, ap
 
 each_there_before : HasEachBefore schema_before
 unfolding everything same_name
-each_there_before = record { has_office = refl; has_mail = refl; has_run = refl; has_source = refl; has_row = refl; has_fact = refl; no_delays = refl }
+each_there_before = ((refl, (refl, (refl, (refl, (refl, (refl, tt)))))), refl)
 
 pub each_before : (s : Schema) → s ≡ schema_before → HasEachBefore s
 each_before s is = subst HasEachBefore (sym is) each_there_before

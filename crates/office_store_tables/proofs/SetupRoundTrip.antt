@@ -23,9 +23,10 @@ use Rattle.office_mail_setup.specs.declared.setup.SetupFault.{SetupFault}
 use Rattle.office_mail_setup.specs.declared.setup.SetupField.TheVariants as field
 use Rattle.office_mail.specs.Lists.{Lists}
 use Rattle.office_mail.specs.Setup.{setup_in, setup_of, setup_by, stated, sender_texts, sender_in, role_named, are_senders, are_roles, is_small, is_sender_name, names_of, count_of, IsSetup}
-use Rattle.office_mail.specs.Steps.{each_of}
+use Rattle.office_mail.specs.WholeText.{each_of}
 use Rattle.office_mail.specs.Values.{words}
-use Rattle.office_store_tables.specs.SetupText.{role_word, spaced, sender_lines, setup_text}
+use Rattle.office_mail_setup.specs.Setup.{role_word}
+use Rattle.office_store_tables.specs.SetupText.{spaced, sender_lines, setup_text}
 use Rattle.office_store_tables.proofs.WrittenWords.{IsWord, AreWords, trim_word, words_spaced}
 use Rattle.office_store_tables.proofs.WrittenSetup.{NameWords, two_lines, sender_fields, is_within, word_within, one_line, begins_blank, archs_not_blank, one_first, paragraphs_written, no_fault, two_fields, no_fault_archs, archs_field, role_trimmed}
 

@@ -5,14 +5,15 @@ use Rattle.std.proofs.lemmas.List.{append_assoc}
 use Rattle.deb_control.specs.Text.{is_line_feed, lines, is_blank_line, continues, trim_white}
 use Rattle.deb_control.specs.Paragraphs.{Field, fields, field_of, first_fault, line_fault, is_field_name, paragraph_lines}
 use Rattle.deb_control.specs.Relations.{is_qualifier_char}
-use Rattle.deb_control.specs.ReaderSteps.{front_run, after_run}
+use Rattle.deb_control.specs.steps.ReaderSteps.{front_run, after_run}
 use Rattle.deb_control.proofs.Lines.{lines_cut, lines_nil, paragraphs_past_blank, paragraphs_nil, first_paragraph, front_run_head, front_run_blank, empty_is_blank}
 use Rattle.deb_control.proofs.Split.{left_after_yes, left_after_no}
 use Rattle.deb_control.proofs.Fronts.{pass_wider}
 use Rattle.office_mail_setup.specs.declared.setup.Sender.{Sender}
 use Rattle.office_mail_setup.specs.declared.setup.Role.{Role}
 use Rattle.office_mail_setup.specs.declared.setup.Role.TheVariants.{Upload, Build, Bugs, Release, Runs}
-use Rattle.office_store_tables.specs.SetupText.{role_word, sender_lines}
+use Rattle.office_mail_setup.specs.Setup.{role_word}
+use Rattle.office_store_tables.specs.SetupText.{sender_lines}
 use Rattle.office_store_tables.proofs.WrittenWords.{IsWord, uncut, word_not_feed}
 
 -- a sender's name is a word

@@ -2,16 +2,7 @@
 use Rattle.std.specs.Prelude.{ℕ, List, [], ◌∷◌, ◌++◌, codes, flat_map}
 use Rattle.office_mail.specs.Lists.{Lists}
 use Rattle.office_mail_setup.specs.declared.setup.Sender.{Sender}
-use Rattle.office_mail_setup.specs.declared.setup.Role.{Role}
-use Rattle.office_mail_setup.specs.declared.setup.Role.TheVariants.{Upload, Build, Bugs, Release, Runs}
-
--- the name of a role in a setup
-abbrev pub role_word : Role → List ℕ
-role_word Upload = codes "upload"
-role_word Build = codes "build"
-role_word Bugs = codes "bugs"
-role_word Release = codes "release"
-role_word Runs = codes "runs"
+use Rattle.office_mail_setup.specs.Setup.{role_word}
 
 -- a name after a space
 abbrev pub spaced : List ℕ → List ℕ

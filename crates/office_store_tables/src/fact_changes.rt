@@ -1,7 +1,7 @@
 //! Changes of the tables of facts.
 ghost use Rattle.std.specs.Prelude.{◌≢◌, Err};
-ghost use Rattle.office_store_testing_tables.specs.StepsWithin.{StepsWithin, BeginsInside, Yields};
-ghost use Rattle.office_store_testing_tables.specs.FactSteps.{ChangesFacts, DropsEach};
+ghost use Rattle.office_store_testing_tables.specs.steps.StepsWithin.{StepsWithin, BeginsInside, Yields};
+ghost use Rattle.office_store_testing_tables.specs.steps.FactSteps.{ChangesFacts, DropsEach};
 
 use office_store_keeper::{Cause, KeepFault};
 pub use office_store_testing_tables::fact_changes::add_delays;

@@ -3,12 +3,13 @@ ghost use Rattle.std.specs.Prelude.{◌≡◌, ◌≢◌, Err, OnOk, OnErr};
 ghost use Rattle.std.specs.Str.{IsUtf8};
 ghost use Rattle.sqlite.specs.Held.{state};
 ghost use Rattle.sqlite.specs.State.{HasCleanDisk};
-ghost use Rattle.office_store_testing_tables.specs.Tables.{IsTrusted, IsOurs, Lasts};
-ghost use Rattle.office_store_testing_tables.specs.StepsWithin.{StepsWithin, BeginsInside, Yields};
+ghost use Rattle.office_store_testing_tables.specs.Tables.{IsTrusted, IsOurs};
+ghost use Rattle.office_store_testing_tables.specs.steps.Tables.{Lasts};
+ghost use Rattle.office_store_testing_tables.specs.steps.StepsWithin.{StepsWithin, BeginsInside, Yields};
 ghost use Rattle.office_store_testing_tables.specs.Legible.{SaysOnce};
-ghost use Rattle.testing_rules_model.specs.InOrder.{IsInOrder};
+ghost use Rattle.testing_rules_model.specs.steps.InOrder.{IsInOrder};
 ghost use Rattle.office_store_testing_tables.specs.TableContent.{release_place};
-ghost use Rattle.office_store_tables.specs.Finishing.{WritesRun, FinishesRun, with_count};
+ghost use Rattle.office_store_tables.specs.steps.Finishing.{WritesRun, FinishesRun, with_count};
 
 use crate::fact_changes::change_facts;
 use crate::runs::{record_run, said};

@@ -2,7 +2,7 @@
 ghost use Rattle.std.specs.Prelude.{◌≡◌, ◌↔◌, [], ◌∷◌, codes, IsTrue, IfOk};
 ghost use Rattle.std.specs.Option.{option_copied};
 ghost use Rattle.office_store_tables.specs.Layout.{column_by, to_mail, office, mail, run, testing_source, testing_row, fact, fact_delays, no_schema, schema_before, office_schema, standing, is_free, has_none, table_by, IsFound};
-ghost use Rattle.office_store_tables.specs.LayoutSteps.{key_index, IsBare, IsAt, IsNumbered, IsKeyed, office_tables, tables_before, office_indexes, mail_index, testing_source_index, testing_row_index, fact_index};
+ghost use Rattle.office_store_tables.specs.steps.LayoutSteps.{key_index, IsBare, IsAt, IsNumbered, IsKeyed, office_tables, tables_before, office_indexes, mail_index, testing_source_index, testing_row_index, fact_index};
 ghost use Rattle.sqlite_value.specs.Keys.{plain};
 
 use sqlite_items::Items;
@@ -353,7 +353,7 @@ fn are_of_facts(alloc: Global, facts: &Table, delays: &Table) -> Result<bool, Al
 }
 
 /// Whether these are the office's seven tables.
-#[tactic(auto, unfolding(crate::specs::LayoutSteps::office_tables))]
+#[tactic(auto, unfolding(crate::specs::steps::LayoutSteps::office_tables))]
 fn are_tables(alloc: Global, tables: &[Table]) -> Result<bool, AllocError>
     ensures { IfOk result (λ same. IsTrue same ↔ (tables.now ≡ office_tables)) }
 {
@@ -371,7 +371,7 @@ fn are_tables(alloc: Global, tables: &[Table]) -> Result<bool, AllocError>
 }
 
 /// Whether these are the office's six tables of schema 1.
-#[tactic(auto, unfolding(crate::specs::LayoutSteps::tables_before))]
+#[tactic(auto, unfolding(crate::specs::steps::LayoutSteps::tables_before))]
 fn are_tables_before(alloc: Global, tables: &[Table]) -> Result<bool, AllocError>
     ensures { IfOk result (λ same. IsTrue same ↔ (tables.now ≡ tables_before)) }
 {
@@ -389,7 +389,7 @@ fn are_tables_before(alloc: Global, tables: &[Table]) -> Result<bool, AllocError
 }
 
 /// Whether an index is that of mail's key.
-#[tactic(auto, unfolding(crate::specs::LayoutSteps::mail_index))]
+#[tactic(auto, unfolding(crate::specs::steps::LayoutSteps::mail_index))]
 fn is_mail_index(index: &Index) -> bool
     ensures { IsTrue result ↔ (index.now ≡ mail_index) }
 {
@@ -397,7 +397,7 @@ fn is_mail_index(index: &Index) -> bool
 }
 
 /// Whether an index is that of the key of testing's sources.
-#[tactic(auto, unfolding(crate::specs::LayoutSteps::testing_source_index))]
+#[tactic(auto, unfolding(crate::specs::steps::LayoutSteps::testing_source_index))]
 fn is_testing_source_index(index: &Index) -> bool
     ensures { IsTrue result ↔ (index.now ≡ testing_source_index) }
 {
@@ -405,7 +405,7 @@ fn is_testing_source_index(index: &Index) -> bool
 }
 
 /// Whether an index is that of the key of testing's rows.
-#[tactic(auto, unfolding(crate::specs::LayoutSteps::testing_row_index))]
+#[tactic(auto, unfolding(crate::specs::steps::LayoutSteps::testing_row_index))]
 fn is_testing_row_index(index: &Index) -> bool
     ensures { IsTrue result ↔ (index.now ≡ testing_row_index) }
 {
@@ -413,7 +413,7 @@ fn is_testing_row_index(index: &Index) -> bool
 }
 
 /// Whether an index is that of the key of facts.
-#[tactic(auto, unfolding(crate::specs::LayoutSteps::fact_index))]
+#[tactic(auto, unfolding(crate::specs::steps::LayoutSteps::fact_index))]
 fn is_fact_index(index: &Index) -> bool
     ensures { IsTrue result ↔ (index.now ≡ fact_index) }
 {
@@ -421,7 +421,7 @@ fn is_fact_index(index: &Index) -> bool
 }
 
 /// Whether these are the indexes of their keys.
-#[tactic(auto, unfolding(crate::specs::LayoutSteps::office_indexes))]
+#[tactic(auto, unfolding(crate::specs::steps::LayoutSteps::office_indexes))]
 fn are_indexes(indexes: &[Index]) -> bool
     ensures { IsTrue result ↔ (indexes.now ≡ office_indexes) }
 {

@@ -5,11 +5,12 @@ ghost use Rattle.sqlite.specs.declared.types.Value.TheVariants.{Int, Blob};
 ghost use Rattle.sqlite.specs.Held.{state};
 ghost use Rattle.sqlite.specs.Values.{bound};
 ghost use Rattle.sqlite.specs.State.{HasCleanDisk};
-ghost use Rattle.office_store_testing_tables.specs.Tables.{IsTrusted, IsOurs, kept_rows, Lasts};
+ghost use Rattle.office_store_testing_tables.specs.Tables.{IsTrusted, IsOurs, kept_rows};
+ghost use Rattle.office_store_testing_tables.specs.steps.Tables.{Lasts};
 ghost use Rattle.std.specs.List.Sorted.{IsPermutation};
-ghost use Rattle.office_store_testing_tables.specs.TableSteps.{AddsLetter, AddsLetters, letter_parameters, rowid_column, AreSmall, IsCrowded, IsOnlyNumber, ShowsLeast};
-ghost use Rattle.office_store_testing_tables.specs.ReadsOnly.{ReadsOnly, BeginsOurs, Finds};
-ghost use Rattle.office_store_testing_tables.specs.StepsWithin.{StepsWithin, BeginsInside, Yields};
+ghost use Rattle.office_store_testing_tables.specs.steps.TableSteps.{AddsLetter, AddsLetters, letter_parameters, rowid_column, AreSmall, IsCrowded, IsOnlyNumber, ShowsLeast};
+ghost use Rattle.office_store_testing_tables.specs.steps.ReadsOnly.{ReadsOnly, BeginsOurs, Finds};
+ghost use Rattle.office_store_testing_tables.specs.steps.StepsWithin.{StepsWithin, BeginsInside, Yields};
 
 use office_store_keeper::{Cause, KeepFault, NewLetter};
 use office_store_testing_tables::mail::letter_in;

@@ -4,10 +4,10 @@ ghost use Rattle.std.specs.FinMap.{len};
 ghost use Rattle.sqlite.specs.Held.{state};
 ghost use Rattle.office_mail.specs.Setup.{setup_in};
 ghost use Rattle.office_store_testing_tables.specs.Legible.{SaysOnce, AreNamed, AreRead, IsLegible, IsWhole};
-ghost use Rattle.office_store_testing_tables.specs.ReadsOnly.{ReadsOnly, BeginsOurs, Finds};
+ghost use Rattle.office_store_testing_tables.specs.steps.ReadsOnly.{ReadsOnly, BeginsOurs, Finds};
 ghost use Rattle.office_store_testing_tables.specs.TableContent.{release_place};
 ghost use Rattle.office_store_testing_tables.specs.Tables.{IsTrusted, kept_rows};
-ghost use Rattle.office_store_tables.specs.Reading.{IsSaidFor, IsOwnCount, ReadRest};
+ghost use Rattle.office_store_tables.specs.steps.Reading.{IsSaidFor, IsOwnCount, ReadRest};
 
 use crate::mail::count;
 use crate::runs::{are_reported, said};

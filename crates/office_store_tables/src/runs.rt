@@ -12,10 +12,10 @@ ghost use Rattle.sqlite.specs.Order.{column};
 ghost use Rattle.sqlite.specs.declared.types.Value.TheVariants.{Int, Text as Words};
 ghost use Rattle.sqlite.specs.Held.{state};
 ghost use Rattle.office_store_testing_tables.specs.Tables.{IsTrusted, said_in as said_rows, run_map};
-ghost use Rattle.office_store_testing_tables.specs.TableSteps.{IsOnlyOffice, IsOnlyRun, AddsRun, Silences, SaysMore, RecordsRun, office_columns, is_run, run_columns, rowid_column};
-ghost use Rattle.office_store_tables.specs.Reading.{IsRecorded};
-ghost use Rattle.office_store_testing_tables.specs.ReadsOnly.{ReadsOnly, BeginsOurs, Finds};
-ghost use Rattle.office_store_testing_tables.specs.StepsWithin.{StepsWithin, BeginsInside, Yields};
+ghost use Rattle.office_store_testing_tables.specs.steps.TableSteps.{IsOnlyOffice, IsOnlyRun, AddsRun, Silences, SaysMore, RecordsRun, office_columns, is_run, run_columns, rowid_column};
+ghost use Rattle.office_store_tables.specs.steps.Reading.{IsRecorded};
+ghost use Rattle.office_store_testing_tables.specs.steps.ReadsOnly.{ReadsOnly, BeginsOurs, Finds};
+ghost use Rattle.office_store_testing_tables.specs.steps.StepsWithin.{StepsWithin, BeginsInside, Yields};
 
 use deb_control::Text;
 use office_store_keeper::{Cause, KeepFault, Reports};

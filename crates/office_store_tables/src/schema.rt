@@ -3,11 +3,12 @@ ghost use Rattle.std.specs.Prelude.{◌≡◌, ◌≢◌, Err, OnOk, OnErr};
 ghost use Rattle.sqlite.specs.Held.{state};
 ghost use Rattle.sqlite.specs.State.{HasCleanDisk};
 ghost use Rattle.office_store_tables.specs.Layout.{no_schema, office, mail, run, testing_source, testing_row, fact, fact_delays};
-ghost use Rattle.office_store_tables.specs.Tables.{IsTrusted, IsOurs, Lasts};
+ghost use Rattle.office_store_tables.specs.Tables.{IsTrusted, IsOurs};
+ghost use Rattle.office_store_tables.specs.steps.Tables.{Lasts};
 ghost use Rattle.office_store_tables.specs.StepsWithin.{StepsWithin, Yields};
 ghost use Rattle.office_store_tables.specs.Unchanged.{IsAsItWas};
 ghost use Rattle.office_store_tables.specs.Creating.{IsBlank};
-ghost use Rattle.office_store_tables.specs.CreatingSteps.{IsBuilding, Makes, MakesAll, schema_of_one, schema_of_two, schema_of_three, schema_of_four, schema_of_five, schema_of_six};
+ghost use Rattle.office_store_tables.specs.steps.CreatingSteps.{IsBuilding, Makes, MakesAll, schema_of_one, schema_of_two, schema_of_three, schema_of_four, schema_of_five, schema_of_six};
 
 use crate::runs::add_office;
 use office_store_keeper::{Cause, KeepFault};

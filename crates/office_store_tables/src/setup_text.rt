@@ -2,7 +2,8 @@
 ghost use Rattle.std.specs.Prelude.{◌≡◌, ◌++◌, ◌↔◌, flat_map, IfOk, OnOk, IsTrue};
 ghost use Rattle.std.specs.String.{string_bytes};
 ghost use Rattle.office_mail.specs.Setup.{IsSetup};
-ghost use Rattle.office_store_tables.specs.SetupText.{role_word, spaced, sender_lines, setup_text};
+ghost use Rattle.office_mail_setup.specs.Setup.{role_word};
+ghost use Rattle.office_store_tables.specs.SetupText.{spaced, sender_lines, setup_text};
 
 use deb_control::Text;
 use office_mail::{Role, Sender, Setup};

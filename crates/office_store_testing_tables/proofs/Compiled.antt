@@ -12,7 +12,7 @@ use Rattle.sqlite.specs.Command.TheVariants.{Insert, Select}
 use Rattle.sqlite.specs.Listing.{understood, reads_listing}
 use Rattle.sqlite.proofs.Callers.{IsPlain, command_of}
 use Rattle.office_store_testing_tables.specs.Layout.{office_schema}
-use Rattle.office_store_testing_tables.specs.Texts.{find_text, keep_text, keep_eight_text}
+use Rattle.office_store_testing_tables.specs.steps.Texts.{find_text, keep_text, keep_eight_text}
 
 -- all rows that pass the terms, in any order
 abbrev pub plain_query : ℕ → List Term → List Term → Query

@@ -25,11 +25,11 @@ use Rattle.testing_rules_items.specs.Words.{byte_cmp}
 use Rattle.testing_rules_model.specs.Moves.{row_cmp, row_key}
 use Rattle.testing_rules_model.specs.InOrder.{AreByName, AreByKey}
 use Rattle.testing_rules_model.proofs.Orders.{text_order}
-use Rattle.office_store_testing_tables.specs.TableSteps.{Rows, rows_in}
+use Rattle.office_store_testing_tables.specs.steps.TableSteps.{Rows, rows_in}
 use Rattle.office_store_testing_tables.specs.Entries.{source_in, entry_in}
-use Rattle.office_store_testing_tables.specs.FactSteps.{TakesOut}
-use Rattle.office_store_testing_tables.specs.EntrySteps.{source_columns, source_entry, TakesSource, AddsSource, AddsSources, SetsSources, entry_columns, row_entry, TakesRow, AddsRow, AddsRows, SetsRows}
-use Rattle.office_store_testing_tables.specs.Differences.{AreCompared, SourcesCompared, RowsCompared}
+use Rattle.office_store_testing_tables.specs.steps.FactSteps.{TakesOut}
+use Rattle.office_store_testing_tables.specs.steps.EntrySteps.{source_columns, source_entry, TakesSource, AddsSource, AddsSources, SetsSources, entry_columns, row_entry, TakesRow, AddsRow, AddsRows, SetsRows}
+use Rattle.office_store_testing_tables.specs.steps.Differences.{AreCompared, SourcesCompared, RowsCompared}
 use Rattle.office_store_testing_tables.proofs.MailLemmas.{filter_same, has_permuted, empty_of, as_many, only_shown}
 use Rattle.office_store_testing_tables.proofs.DeleteLemmas.{itself}
 use Rattle.office_store_testing_tables.proofs.EntryReads.{source_shown, row_shown}

@@ -10,12 +10,15 @@ use Rattle.office_mail.specs.declared.message.Message.{Message}
 use Rattle.testing_rules_model.specs.declared.suite.RowIn.{RowIn}
 use Rattle.office_store_keeper.specs.Provenance.{IsArchPlace}
 use Rattle.deb_control.specs.declared.binary.Binary.{Binary}
-use Rattle.office_store_testing_tables.specs.Tables.{number_in, small_of, small_in, text_in}
+use Rattle.office_store_testing_tables.specs.Tables.{number_in, small_in, text_in}
+use Rattle.office_store_testing_tables.specs.steps.ReadingSteps.{small_of}
 use Rattle.office_store_testing_tables.specs.Entries.{integer_in, source_by, source_in, row_by, entry_in}
-use Rattle.office_store_testing_tables.specs.EntrySteps.{source_columns, entry_columns}
+use Rattle.office_store_testing_tables.specs.steps.EntrySteps.{source_columns, entry_columns}
 use Rattle.office_store_testing_tables.specs.declared.entries.KeptAt.{KeptAt}
-use Rattle.office_store_testing_tables.specs.Nearby.{IsKeptAt, read_binary}
-use Rattle.office_store_testing_tables.specs.TableContent.{message_at, source_by_message, source_at, source_by_entry, source_of, row_as, row_by_message, row_at, row_by_entry, row_of}
+use Rattle.office_store_testing_tables.specs.steps.Nearby.{IsKeptAt, read_binary}
+use Rattle.office_store_testing_tables.specs.TableContent.{message_at, source_at, row_as, row_at}
+use Rattle.office_store_testing_tables.specs.steps.TableContent.{source_of, row_of}
+use Rattle.office_store_testing_tables.specs.steps.ReadingSteps.{source_by_message, source_by_entry, row_by_message, row_by_entry}
 use Rattle.office_store_testing_tables.proofs.LetterFacts.{number_is}
 use Rattle.office_store_testing_tables.proofs.EntrySays.{Fits32, integer_is}
 

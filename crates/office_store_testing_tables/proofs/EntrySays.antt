@@ -4,7 +4,7 @@ use Rattle.std.proofs.lemmas.Bool.Decides.{nat_tests}
 use Rattle.sqlite.specs.declared.types.Value.{Value}
 use Rattle.sqlite.specs.declared.types.Value.TheVariants.{Null, Int, Real, Text, Blob}
 use Rattle.sqlite.specs.Order.{Row, column}
-use Rattle.office_store_testing_tables.specs.Tables.{small_of}
+use Rattle.office_store_testing_tables.specs.steps.ReadingSteps.{small_of}
 use Rattle.office_store_testing_tables.specs.Entries.{integer_in, source_by, source_in, row_by, entry_in}
 
 -- fewer than 2 ^ 32

@@ -20,10 +20,10 @@ use Rattle.sqlite_tied.specs.Compute.{everything}
 use Rattle.testing_rules_model.specs.declared.suite.SourceIn.{SourceIn}
 use Rattle.testing_rules_model.specs.declared.suite.RowIn.{RowIn}
 use Rattle.office_store_testing_tables.specs.Layout.{office_schema, testing_source, testing_row}
-use Rattle.office_store_testing_tables.specs.Texts.{take_source_text, add_source_text, add_eight_sources_text, take_row_text, add_row_text, add_eight_rows_text}
+use Rattle.office_store_testing_tables.specs.steps.Texts.{take_source_text, add_source_text, add_eight_sources_text, take_row_text, add_row_text, add_eight_rows_text}
 use Rattle.office_store_testing_tables.specs.Entries.{source_in, entry_in}
 use Rattle.office_store_testing_tables.proofs.EntrySays.{Fits32, source_says, entry_says}
-use Rattle.office_store_testing_tables.specs.EntrySteps.{TakesSource, source_parameters, FitsSource, AddsSource, AddsSources, TakesRow, row_parameters, FitsRow, AddsRow, AddsRows}
+use Rattle.office_store_testing_tables.specs.steps.EntrySteps.{TakesSource, source_parameters, FitsSource, AddsSource, AddsSources, TakesRow, row_parameters, FitsRow, AddsRow, AddsRows}
 use Rattle.office_store_testing_tables.proofs.Compiled.{plain_query}
 use Rattle.office_store_testing_tables.proofs.WriteLemmas.{Inserted, InsertedEach, inserts_one, inserts_each, cast_null, cast_int}
 use Rattle.office_store_testing_tables.proofs.Eights.{of_eight}

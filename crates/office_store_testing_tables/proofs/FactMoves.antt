@@ -20,11 +20,11 @@ use Rattle.testing_rules_model.specs.declared.fact_row.FactRow.{FactRow}
 use Rattle.testing_rules_model.specs.declared.fact_row.FactChanges.{FactChanges}
 use Rattle.office_mail.specs.Lists.{Lists}
 use Rattle.office_store_keeper.specs.FactSet.{FactSet, HasRow, without_rows, with_rows, facts_after, IsFactRow, AreHoldable}
-use Rattle.office_store_testing_tables.specs.TableSteps.{Rows, rows_in}
+use Rattle.office_store_testing_tables.specs.steps.TableSteps.{Rows, rows_in}
 use Rattle.office_store_testing_tables.specs.Legible.{AreRead}
 use Rattle.office_store_testing_tables.specs.TableContent.{release_place}
 use Rattle.office_store_testing_tables.specs.FactTables.{fact_entry, may_stand, fact_in, delays_of, delays_in, facts_in}
-use Rattle.office_store_testing_tables.specs.FactSteps.{is_fact, is_delays, id_columns, IsOnlyId, IsFound, TakesOut, TakesFact, TakesDelays, is_no_delays, AddsFact, AddsFacts, AddsDelays, CanStand, CanStandEach, MovesFacts, KeepsOthers, Leaves, DropsFact, DropsDelays, DropsOne, AddsOne, DropsEach, AddsEach, ChangesFacts}
+use Rattle.office_store_testing_tables.specs.steps.FactSteps.{is_fact, is_delays, id_columns, IsOnlyId, IsFound, TakesOut, TakesFact, TakesDelays, is_no_delays, AddsFact, AddsFacts, AddsDelays, CanStand, CanStandEach, MovesFacts, KeepsOthers, Leaves, DropsFact, DropsDelays, DropsOne, AddsOne, DropsEach, AddsEach, ChangesFacts}
 use Rattle.office_store_testing_tables.proofs.DeleteLemmas.{itself}
 use Rattle.office_store_testing_tables.proofs.MailLemmas.{empty_of, as_many, only_shown}
 use Rattle.office_store_testing_tables.proofs.KeepLemmas.{seven}

@@ -16,12 +16,13 @@ use Rattle.testing_rules_model.specs.declared.fact_row.FactRow.{FactRow}
 use Rattle.testing_rules_model.specs.FactRows.{number_of}
 use Rattle.testing_rules_model.proofs.FactKinds.{same_kind}
 use Rattle.office_store_keeper.specs.FactSet.{set_of_rows}
-use Rattle.office_store_testing_tables.specs.Tables.{number_in, small_of, small_in}
-use Rattle.office_store_testing_tables.specs.TableContent.{ReadsEach}
+use Rattle.office_store_testing_tables.specs.Tables.{number_in, small_in}
+use Rattle.office_store_testing_tables.specs.steps.ReadingSteps.{small_of}
+use Rattle.office_store_testing_tables.specs.steps.TableContent.{ReadsEach}
 use Rattle.office_store_testing_tables.specs.Legible.{AreRead}
 use Rattle.office_store_testing_tables.specs.Entries.{integer_in}
 use Rattle.office_store_testing_tables.specs.FactTables.{fact_entry, kind_in, may_stand, fact_of, fact_by, fact_in, delays_of, delays_by, delays_in, facts_in}
-use Rattle.office_store_testing_tables.specs.FactSteps.{fact_columns, delays_columns, shown_delays, IsOnlyDelays, is_fact, is_delays}
+use Rattle.office_store_testing_tables.specs.steps.FactSteps.{fact_columns, delays_columns, shown_delays, IsOnlyDelays, is_fact, is_delays}
 use Rattle.office_store_testing_tables.proofs.EntrySays.{Fits32, small_is, integer_is}
 use Rattle.office_store_testing_tables.proofs.EntryReads.{small_value}
 use Rattle.office_store_testing_tables.proofs.EntryValues.{read_has, has_read, has_map, map_has}

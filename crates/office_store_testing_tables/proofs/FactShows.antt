@@ -17,8 +17,8 @@ use Rattle.sqlite.proofs.Callers.{IsPlain, command_of, reads_as}
 use Rattle.testing_rules_model.specs.declared.fact_row.FactRow.{FactRow}
 use Rattle.testing_rules_model.specs.FactRows.{number_of}
 use Rattle.office_store_testing_tables.specs.Layout.{office_schema}
-use Rattle.office_store_testing_tables.specs.Texts.{facts_text, delays_text, fact_ids_text, delays_ids_text}
-use Rattle.office_store_testing_tables.specs.FactSteps.{fact_columns, delays_columns, id_columns, is_fact, is_delays}
+use Rattle.office_store_testing_tables.specs.steps.Texts.{facts_text, delays_text, fact_ids_text, delays_ids_text}
+use Rattle.office_store_testing_tables.specs.steps.FactSteps.{fact_columns, delays_columns, id_columns, is_fact, is_delays}
 use Rattle.office_store_testing_tables.proofs.Compiled.{plain_query, equals}
 use Rattle.office_store_testing_tables.proofs.Answered.{passes, plain_answer}
 use Rattle.office_store_testing_tables.proofs.MailLemmas.{equal_is, filter_same, filter_all}

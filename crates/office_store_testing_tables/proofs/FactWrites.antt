@@ -20,9 +20,9 @@ use Rattle.sqlite_tied.specs.Compute.{everything}
 use Rattle.testing_rules_model.specs.declared.fact_row.FactRow.{FactRow}
 use Rattle.testing_rules_model.specs.FactRows.{number_of}
 use Rattle.office_store_testing_tables.specs.Layout.{office_schema, fact, fact_delays}
-use Rattle.office_store_testing_tables.specs.Texts.{add_fact_text, add_eight_facts_text, add_delays_text, take_fact_text, take_delays_text}
+use Rattle.office_store_testing_tables.specs.steps.Texts.{add_fact_text, add_eight_facts_text, add_delays_text, take_fact_text, take_delays_text}
 use Rattle.office_store_testing_tables.specs.FactTables.{fact_of, fact_in}
-use Rattle.office_store_testing_tables.specs.FactSteps.{TakesFact, TakesDelays, fact_parameters, FitsFact, AddsFact, AddsFacts, AddsDelays}
+use Rattle.office_store_testing_tables.specs.steps.FactSteps.{TakesFact, TakesDelays, fact_parameters, FitsFact, AddsFact, AddsFacts, AddsDelays}
 use Rattle.office_store_testing_tables.proofs.Compiled.{plain_query}
 use Rattle.office_store_testing_tables.proofs.WriteLemmas.{Inserted, InsertedEach, inserts_one, inserts_each, cast_null, cast_int}
 use Rattle.office_store_testing_tables.proofs.Eights.{of_eight}

@@ -9,7 +9,7 @@ use Rattle.sqlite.specs.State.{State, HasCleanDisk, FailsToQuery, IsTooLate, Sho
 use Rattle.sqlite.proofs.Callers.{IsPlain}
 use Rattle.office_store_testing_tables.specs.Layout.{office_schema}
 use Rattle.office_store_testing_tables.specs.Tables.{IsTrusted}
-use Rattle.office_store_testing_tables.specs.TableSteps.{IsInside, WentOn}
+use Rattle.office_store_testing_tables.specs.steps.TableSteps.{IsInside, WentOn}
 use Rattle.office_store_testing_tables.proofs.StateLemmas.{Stays, query_stays, stays_open, shown_was_open, shown_is_open, shown_unchanged}
 
 -- what `query_all` of a transaction says of a call

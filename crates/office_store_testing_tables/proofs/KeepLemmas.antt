@@ -19,9 +19,9 @@ use Rattle.sqlite.proofs.Callers.{runs_as, statement_of}
 use Rattle.sqlite.specs.Table.{Table}
 use Rattle.office_store_keeper.specs.declared.values.NewLetter.{NewLetter}
 use Rattle.office_store_testing_tables.specs.Layout.{office_schema, mail}
-use Rattle.office_store_testing_tables.specs.Texts.{keep_text, keep_eight_text}
+use Rattle.office_store_testing_tables.specs.steps.Texts.{keep_text, keep_eight_text}
 use Rattle.office_store_testing_tables.specs.Tables.{letter_in, kept_rows}
-use Rattle.office_store_testing_tables.specs.TableSteps.{Rows, rows_in, letter_parameters, AddsLetter, AddsLetters}
+use Rattle.office_store_testing_tables.specs.steps.TableSteps.{Rows, rows_in, letter_parameters, AddsLetter, AddsLetters}
 use Rattle.office_store_testing_tables.proofs.Compiled.{keep_is, keep_plain, keep_eight_terms, keep_eight_is}
 use Rattle.office_store_testing_tables.proofs.WriteLemmas.{Inserted, InsertedEach, inserts_one, inserts_each, cast_null, cast_int}
 use Rattle.office_store_testing_tables.proofs.Eights.{of_eight}

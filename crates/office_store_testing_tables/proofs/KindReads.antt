@@ -8,9 +8,11 @@ use Rattle.testing_rules_model.specs.declared.fact_row.FactKind.TheVariants.{Sou
 use Rattle.testing_rules_model.specs.declared.fact_row.FactRow.{FactRow}
 use Rattle.testing_rules_model.specs.FactRows.{number_of, kind_of, is_kind}
 use Rattle.testing_rules_model.proofs.FactKinds.{kind_again, kind_is, kind_itself}
-use Rattle.office_store_testing_tables.specs.Tables.{small_of, small_in}
-use Rattle.office_store_testing_tables.specs.FactTables.{kind_by, kind_in}
-use Rattle.office_store_testing_tables.specs.FactSteps.{is_no_delays}
+use Rattle.office_store_testing_tables.specs.Tables.{small_in}
+use Rattle.office_store_testing_tables.specs.steps.ReadingSteps.{small_of}
+use Rattle.office_store_testing_tables.specs.FactTables.{kind_in}
+use Rattle.office_store_testing_tables.specs.steps.ReadingSteps.{kind_by}
+use Rattle.office_store_testing_tables.specs.steps.FactSteps.{is_no_delays}
 use Rattle.office_store_testing_tables.proofs.EntrySays.{Fits32, small_is}
 use Rattle.office_store_testing_tables.proofs.EntryReads.{small_value}
 use Rattle.office_store_testing_tables.proofs.LoadFacts.{same_number}

@@ -15,7 +15,7 @@ use Rattle.office_mail.specs.Kept.{Place, place_cmp}
 use Rattle.office_mail.proofs.KeptFacts.{places_total, exact_places}
 use Rattle.office_store_testing_tables.proofs.KeyedFacts.{get_at, found_one, map_put}
 use Rattle.office_store_testing_tables.specs.Tables.{number_in, bytes_in, letter_by, letter_in, kept_rows}
-use Rattle.office_store_testing_tables.specs.TableSteps.{is_at}
+use Rattle.office_store_testing_tables.specs.steps.TableSteps.{is_at}
 
 -- ---- values and what they say
 

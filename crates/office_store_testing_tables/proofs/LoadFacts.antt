@@ -16,7 +16,7 @@ use Rattle.office_mail.proofs.KeptFacts.{places_total, exact_places}
 use Rattle.office_store_keeper.specs.declared.values.Letter.{Letter}
 use Rattle.office_store_keeper.specs.Content.{letter_at, letters_within}
 use Rattle.office_store_testing_tables.specs.Tables.{letter_in, kept_rows}
-use Rattle.office_store_testing_tables.specs.TableSteps.{letter_columns, is_between, shown_letter, letter_entry, rises_from}
+use Rattle.office_store_testing_tables.specs.steps.TableSteps.{letter_columns, is_between, shown_letter, letter_entry, rises_from}
 use Rattle.office_store_testing_tables.proofs.LetterFacts.{letter_parts, int_is}
 use Rattle.office_store_testing_tables.proofs.MailLemmas.{has_permuted}
 use Rattle.office_store_testing_tables.proofs.EntryMaps.{from_first, has_first}

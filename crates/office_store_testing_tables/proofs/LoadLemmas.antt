@@ -26,9 +26,9 @@ use Rattle.sqlite_rules.proofs.ListLemmas.{has_filtered, has_kept, has_contained
 use Rattle.sqlite_trees.proofs.ListLemmas.{filter-map, IsPermutation-filter}
 use Rattle.office_store_keeper.specs.declared.values.Letter.{Letter}
 use Rattle.office_store_testing_tables.specs.Layout.{office_schema}
-use Rattle.office_store_testing_tables.specs.Texts.{load_text}
+use Rattle.office_store_testing_tables.specs.steps.Texts.{load_text}
 use Rattle.office_store_testing_tables.specs.Tables.{number_in, bytes_in}
-use Rattle.office_store_testing_tables.specs.TableSteps.{AreLetters, AreApart, is_at, letter_columns, ShowsLetters, is_between, shown_letter, letter_entry, rises_from}
+use Rattle.office_store_testing_tables.specs.steps.TableSteps.{AreLetters, AreApart, is_at, letter_columns, ShowsLetters, is_between, shown_letter, letter_entry, rises_from}
 use Rattle.office_store_testing_tables.proofs.Compiled.{plain_query, equals}
 use Rattle.office_store_testing_tables.proofs.Answered.{passes, plain_answer}
 use Rattle.office_store_testing_tables.proofs.LetterFacts.{letter_parts, parts_by, number_is, int_is}

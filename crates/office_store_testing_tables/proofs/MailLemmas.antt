@@ -24,9 +24,9 @@ use Rattle.office_mail.specs.Kept.{place_cmp}
 use Rattle.office_mail.proofs.KeptFacts.{exact_places}
 use Rattle.office_store_testing_tables.proofs.KeyedFacts.{tied}
 use Rattle.office_store_testing_tables.specs.Layout.{office_schema}
-use Rattle.office_store_testing_tables.specs.Texts.{find_text}
+use Rattle.office_store_testing_tables.specs.steps.Texts.{find_text}
 use Rattle.office_store_testing_tables.specs.Tables.{letter_in, kept_rows}
-use Rattle.office_store_testing_tables.specs.TableSteps.{is_at, letter_columns, IsOnly, IsCrowded}
+use Rattle.office_store_testing_tables.specs.steps.TableSteps.{is_at, letter_columns, IsOnly, IsCrowded}
 use Rattle.office_store_testing_tables.proofs.Compiled.{find_query, find_is, find_plain}
 use Rattle.office_store_testing_tables.proofs.Answered.{passes, plain_answer}
 use Rattle.office_store_testing_tables.proofs.LetterFacts.{kept_at, letter_found, letter_of_parts, letter_parts, at_place}

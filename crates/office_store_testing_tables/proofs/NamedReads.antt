@@ -16,8 +16,10 @@ use Rattle.testing_rules_model.proofs.Orders.{text_order}
 use Rattle.office_mail.specs.Lists.{Lists}
 use Rattle.office_mail.specs.Kept.{Kept, Place}
 use Rattle.office_store_testing_tables.specs.Entries.{source_in, source_map, entry_in, entry_map}
-use Rattle.office_store_testing_tables.specs.EntrySteps.{source_columns, entry_columns}
-use Rattle.office_store_testing_tables.specs.TableContent.{source_at, source_by_entry, source_of, row_at, row_by_entry, row_of, ReadsEach, put_all_sources, put_all_rows}
+use Rattle.office_store_testing_tables.specs.steps.EntrySteps.{source_columns, entry_columns}
+use Rattle.office_store_testing_tables.specs.TableContent.{source_at, row_at}
+use Rattle.office_store_testing_tables.specs.steps.TableContent.{source_of, row_of, ReadsEach, put_all_sources, put_all_rows}
+use Rattle.office_store_testing_tables.specs.steps.ReadingSteps.{source_by_entry, row_by_entry}
 use Rattle.office_store_testing_tables.specs.Legible.{IsWhole}
 use Rattle.office_store_testing_tables.proofs.MailLemmas.{has_permuted, as_many}
 use Rattle.office_store_testing_tables.proofs.SettingLemmas.{text_exact, row_order, row_exact}

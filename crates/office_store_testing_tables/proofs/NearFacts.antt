@@ -7,7 +7,7 @@ use Rattle.testing_rules_model.proofs.Sets.{given_by}
 use Rattle.office_mail.specs.Kept.{Kept}
 use Rattle.office_store_keeper.specs.declared.values.Letter.{Letter}
 use Rattle.office_store_keeper.specs.Content.{letter_at, letters_within}
-use Rattle.office_store_testing_tables.specs.Loaded.{AreLettersOf}
+use Rattle.office_store_testing_tables.specs.steps.Loaded.{AreLettersOf}
 
 at_number : (number : ℕ) (text : Option (List ℕ)) (x : Letter) → option_map (λ (t : List ℕ). record { number = number; text = t }) text ≡ Some x → (number ≡ x.number) × (text ≡ Some x.text)
 at_number number None x e = absurd (cc e)

@@ -7,8 +7,8 @@ use Rattle.sqlite.specs.Held.{Held, state}
 use Rattle.sqlite.specs.Listing.{understood}
 use Rattle.sqlite.proofs.Callers.{IsPlain}
 use Rattle.office_store_testing_tables.specs.Layout.{office_schema}
-use Rattle.office_store_testing_tables.specs.Tables.{Lasts}
-use Rattle.office_store_testing_tables.specs.ReadsOnly.{ReadsOnly, BeginsOurs}
+use Rattle.office_store_testing_tables.specs.steps.Tables.{Lasts}
+use Rattle.office_store_testing_tables.specs.steps.ReadsOnly.{ReadsOnly, BeginsOurs}
 use Rattle.office_store_testing_tables.proofs.StateLemmas.{Asked, asked_before, asked_same, asked_open, lasts_same, lasts_then, clean_before}
 
 -- the calls so far went well

@@ -11,8 +11,9 @@ use Rattle.sqlite.specs.State.{State, HasCleanDisk, IsUnchanged, IsRolledBack, I
 use Rattle.sqlite.specs.Clock.{timed}
 use Rattle.sqlite.proofs.Callers.{IsPlain}
 use Rattle.office_store_testing_tables.specs.Layout.{office_schema}
-use Rattle.office_store_testing_tables.specs.Tables.{IsTrusted, IsOurs, Endures, Lasts}
-use Rattle.office_store_testing_tables.specs.TableSteps.{Same}
+use Rattle.office_store_testing_tables.specs.Tables.{IsTrusted, IsOurs, Endures}
+use Rattle.office_store_testing_tables.specs.steps.Tables.{Lasts}
+use Rattle.office_store_testing_tables.specs.steps.TableSteps.{Same}
 use Rattle.office_mail.specs.Counts.{HasRisen}
 use Rattle.sqlite_trees.specs.Tree.{Trees}
 

@@ -7,7 +7,7 @@ use Rattle.sqlite.specs.declared.error.Error.{Error}
 use Rattle.sqlite.specs.State.{State, HasCleanDisk, Executes, ExecutesInside}
 use Rattle.office_store_testing_tables.specs.Layout.{office_schema}
 use Rattle.office_store_testing_tables.specs.Tables.{IsTrusted}
-use Rattle.office_store_testing_tables.specs.TableSteps.{IsInside, WentOn}
+use Rattle.office_store_testing_tables.specs.steps.TableSteps.{IsInside, WentOn}
 
 -- what `execute` of a transaction says of a call
 pub record Stepped (sql : List ℕ) (params : Row) (old new : State) (result : Result ℕ Error) : Type 0 where

@@ -10,7 +10,7 @@ use Rattle.sqlite.specs.Order.{Row, value_cmp}
 use Rattle.sqlite_rules.specs.Lists.{Has}
 use Rattle.office_mail.proofs.KeptFacts.{places_total, exact_places}
 use Rattle.office_store_testing_tables.specs.Tables.{letter_in, kept_rows}
-use Rattle.office_store_testing_tables.specs.TableSteps.{AreLetters, AreApart, IsCrowded}
+use Rattle.office_store_testing_tables.specs.steps.TableSteps.{AreLetters, AreApart, IsCrowded}
 use Rattle.office_store_testing_tables.specs.Legible.{IsWhole}
 use Rattle.office_store_testing_tables.proofs.LetterFacts.{at_place}
 use Rattle.office_store_testing_tables.proofs.KeyedFacts.{tied, map_put}

@@ -10,9 +10,10 @@ use Rattle.sqlite.specs.Listing.{understood}
 use Rattle.sqlite.specs.State.{State, Executes}
 use Rattle.sqlite.proofs.Callers.{IsPlain}
 use Rattle.office_store_testing_tables.specs.Layout.{office_schema}
-use Rattle.office_store_testing_tables.specs.Tables.{IsTrusted, Lasts}
-use Rattle.office_store_testing_tables.specs.TableSteps.{IsInside}
-use Rattle.office_store_testing_tables.specs.StepsWithin.{StepsWithin, BeginsInside}
+use Rattle.office_store_testing_tables.specs.Tables.{IsTrusted}
+use Rattle.office_store_testing_tables.specs.steps.Tables.{Lasts}
+use Rattle.office_store_testing_tables.specs.steps.TableSteps.{IsInside}
+use Rattle.office_store_testing_tables.specs.steps.StepsWithin.{StepsWithin, BeginsInside}
 use Rattle.office_store_testing_tables.proofs.StateLemmas.{lasts_same, lasts_then, clean_before}
 use Rattle.office_store_testing_tables.proofs.StepLemmas.{Stepped, step_before, step_open, step_counts_on, step_err}
 use Rattle.office_store_testing_tables.proofs.InsideLemmas.{AskedInside, inside_before, inside_open, inside_on, inside_err}

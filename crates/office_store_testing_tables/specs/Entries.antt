@@ -3,7 +3,7 @@ use Rattle.std.specs.Prelude.{ℕ, ℤ, List, filter_map, Option, Some, None}
 use Rattle.std.specs.FinMap.{FinMap, from_entries}
 use Rattle.sqlite.specs.Order.{Row, column}
 use Rattle.sqlite.specs.declared.types.Value.{Value}
-use Rattle.sqlite.specs.declared.types.Value.TheVariants.{Null, Int, Real, Text, Blob}
+use Rattle.sqlite.specs.declared.types.Value.TheVariants.{Int}
 use Rattle.testing_rules_items.specs.Words.{byte_cmp}
 use Rattle.testing_rules_model.specs.Moves.{row_cmp}
 use Rattle.office_mail.specs.Kept.{Place}
@@ -11,21 +11,15 @@ use Rattle.office_store_testing_tables.specs.Tables.{small_in, text_in}
 
 -- an integer
 abbrev pub integer_in : Value → Option ℤ
-integer_in Null = None
 integer_in (Int n) = Some n
-integer_in (Real x) = None
-integer_in (Text text) = None
-integer_in (Blob bytes) = None
+integer_in _ = None
 
 -- ---- sources
 
 -- the content of a row of sources from its columns, if all are readable
 abbrev pub source_by : Option ℤ → Option (List ℕ) → Option ℕ → Option ℕ → Option (List ℕ × Place)
-source_by None name sender number = None
-source_by (Some rowid) None sender number = None
-source_by (Some rowid) (Some name) None number = None
-source_by (Some rowid) (Some name) (Some sender) None = None
 source_by (Some rowid) (Some name) (Some sender) (Some number) = Some (name, (sender, number))
+source_by _ _ _ _ = None
 
 -- the content of a row of testing's sources: a name, and the place of the message that gave it
 unfoldable pub source_in : Row → Option (List ℕ × Place)
@@ -39,13 +33,8 @@ source_map rows = from_entries (filter_map source_in rows)
 
 -- the content of a row of rows from its columns, if all are readable
 abbrev pub row_by : Option ℤ → Option ℕ → Option (List ℕ) → Option ℕ → Option ℕ → Option ℕ → Option ((ℕ × List ℕ) × (Place × ℕ))
-row_by None arch name sender number place = None
-row_by (Some rowid) None name sender number place = None
-row_by (Some rowid) (Some arch) None sender number place = None
-row_by (Some rowid) (Some arch) (Some name) None number place = None
-row_by (Some rowid) (Some arch) (Some name) (Some sender) None place = None
-row_by (Some rowid) (Some arch) (Some name) (Some sender) (Some number) None = None
 row_by (Some rowid) (Some arch) (Some name) (Some sender) (Some number) (Some place) = Some ((arch, name), ((sender, number), place))
+row_by _ _ _ _ _ _ = None
 
 -- the content of a row of testing's rows: an architecture and a name, and the place of the message and of the paragraph
 -- that gave it

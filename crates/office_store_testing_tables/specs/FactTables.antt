@@ -1,5 +1,5 @@
 -- The tables of facts, and their content.
-use Rattle.std.specs.Prelude.{◌&&◌, ◌||◌, ◌==◌, ◌++◌, not, if◌then◌else◌, Bool, ℕ, ℤ, List, filter_map, Option, Some, None, ⊤}
+use Rattle.std.specs.Prelude.{◌&&◌, ◌||◌, ◌==◌, ◌++◌, not, if◌then◌else◌, Bool, ℕ, ℤ, List, filter_map, Option, Some, None, option_and_then, ⊤}
 use Rattle.std.specs.FinMap.{from_entries}
 use Rattle.sqlite.specs.declared.types.Value.{Value}
 use Rattle.sqlite.specs.Order.{Row, column}
@@ -15,14 +15,9 @@ use Rattle.office_store_testing_tables.specs.Entries.{integer_in}
 abbrev pub fact_entry : FactRow → FactRow × ⊤
 fact_entry fact = (fact, tt)
 
--- the kind whose number is this value
-abbrev pub kind_by : Option ℕ → Option FactKind
-kind_by None = None
-kind_by (Some number) = kind_of number
-
--- the kind in a column
+-- the kind whose number is in a column
 abbrev pub kind_in : Value → Option FactKind
-kind_in value = kind_by (small_in value)
+kind_in value = option_and_then kind_of (small_in value)
 
 -- whether the table of facts may have a row of this kind with this place
 abbrev pub may_stand : FactKind → ℕ → Bool
@@ -34,12 +29,8 @@ fact_of fact = if may_stand fact.kind fact.place then Some (fact_entry fact) els
 
 -- the content of a row of facts from its columns, if all are readable
 abbrev pub fact_by : Option ℤ → Option FactKind → Option ℕ → Option ℕ → Option ℕ → Option (FactRow × ⊤)
-fact_by None kind sender number place = None
-fact_by (Some rowid) None sender number place = None
-fact_by (Some rowid) (Some kind) None number place = None
-fact_by (Some rowid) (Some kind) (Some sender) None place = None
-fact_by (Some rowid) (Some kind) (Some sender) (Some number) None = None
 fact_by (Some rowid) (Some kind) (Some sender) (Some number) (Some place) = fact_of (record { kind = kind; sender = sender; number = number; place = place })
+fact_by _ _ _ _ _ = None
 
 -- the content of a row of the table of facts
 unfoldable pub fact_in : Row → Option (FactRow × ⊤)
@@ -51,9 +42,8 @@ delays_of release number = record { kind = Delays; sender = release; number = nu
 
 -- the content of a row of the last delays from its columns, if its id is 1
 abbrev pub delays_by : ℕ → Option ℕ → Option ℕ → Option (FactRow × ⊤)
-delays_by release None number = None
-delays_by release (Some id) None = None
 delays_by release (Some id) (Some number) = if id == 1 then Some (fact_entry (delays_of release number)) else None
+delays_by _ _ _ = None
 
 -- the content of the row with the id 1 in the table of the last delays
 unfoldable pub delays_in : ℕ → Row → Option (FactRow × ⊤)

@@ -1,15 +1,7 @@
-pub mod Texts
-pub mod Nearby
 pub mod Layout
 pub mod Tables
-pub mod TableSteps
 pub mod Entries
-pub mod EntrySteps
 pub mod FactTables
 pub mod TableContent
 pub mod Legible
-pub mod FactSteps
-pub mod Differences
-pub mod Loaded
-pub mod StepsWithin
-pub mod ReadsOnly
+pub mod steps

@@ -1,7 +1,7 @@
 -- The tables of an office, and their content.
 use Rattle.std.specs.Ordering.{nat_cmp}
 use Rattle.std.specs.declared.cmp.Ordering.{Ordering}
-use Rattle.std.specs.Prelude.{◌≡◌, ◌≤◌, ◌⊎◌, length, filter_map, ℕ, pos, negsuc, List, Option, Some, None, IsTrue, false, nat_lt, if◌then◌else◌}
+use Rattle.std.specs.Prelude.{◌≡◌, ◌≤◌, ◌⊎◌, length, filter_map, ℕ, pos, List, Option, Some, None, option_and_then, IsTrue, false, nat_lt, if◌then◌else◌}
 use Rattle.std.specs.FinMap.{FinMap, find, len, from_entries}
 use Rattle.office_store_keeper.specs.declared.values.Reports.{Reports}
 use Rattle.office_store_testing_tables.specs.declared.said.Said.{Said}
@@ -10,7 +10,7 @@ use Rattle.sqlite.specs.State.{State, HasCleanDisk}
 use Rattle.sqlite_trees.specs.View.{doubt}
 use Rattle.office_mail.specs.Counts.{HasRisen}
 use Rattle.sqlite.specs.declared.types.Value.{Value}
-use Rattle.sqlite.specs.declared.types.Value.TheVariants.{Null, Int, Real, Text, Blob}
+use Rattle.sqlite.specs.declared.types.Value.TheVariants.{Int, Text, Blob}
 use Rattle.office_mail.specs.Kept.{Kept, Place}
 use Rattle.office_store_testing_tables.specs.Layout.{office_schema}
 
@@ -26,11 +26,6 @@ pub record Endures (old new : State) : Type 0 where
   pub counts : old.faults ≤ new.faults
   pub closes : HasCleanDisk new → IsTrue old.is_open → IsTrue new.is_open ⊎ HasRisen old.faults new.faults
 
--- the same, and the limit on the steps of a statement is unchanged
-pub record Lasts (old new : State) : Type 0 where
-  pub endures : Endures old new
-  pub limit : new.step_limit ≡ old.step_limit
-
 -- between calls: exactly the seven tables, no transaction, and nothing uncommitted
 pub record IsOurs (s : State) : Type 0 where
   pub schema : s.now.schema ≡ office_schema
@@ -45,38 +40,24 @@ IsWhole map rows = len map ≡ length rows
 
 -- a number from 0
 abbrev pub number_in : Value → Option ℕ
-number_in Null = None
 number_in (Int (pos n)) = Some n
-number_in (Int (negsuc n)) = None
-number_in (Real x) = None
-number_in (Text text) = None
-number_in (Blob bytes) = None
+number_in _ = None
 
 -- a number of 32 bits
-abbrev pub small_of : Option ℕ → Option ℕ
-small_of None = None
-small_of (Some n) = if nat_lt n 4_294_967_296 then Some n else None
-
--- a number of 32 bits in a column
 abbrev pub small_in : Value → Option ℕ
-small_in v = small_of (number_in v)
+small_in v = option_and_then (λ n. if nat_lt n 4_294_967_296 then Some n else None) (number_in v)
 
 -- bytes
 abbrev pub bytes_in : Value → Option (List ℕ)
-bytes_in Null = None
-bytes_in (Int n) = None
-bytes_in (Real x) = None
-bytes_in (Text text) = None
 bytes_in (Blob bytes) = Some bytes
+bytes_in _ = None
 
 -- ---- mail
 
 -- the content of a row of mail from its columns, if all are readable
 abbrev pub letter_by : Option ℕ → Option ℕ → Option (List ℕ) → Option (Place × List ℕ)
-letter_by None number text = None
-letter_by (Some sender) None text = None
-letter_by (Some sender) (Some number) None = None
 letter_by (Some sender) (Some number) (Some text) = Some ((sender, number), text)
+letter_by _ _ _ = None
 
 -- the content of a row of mail: its sender's place, its number, and its text
 unfoldable pub letter_in : Row → Option (Place × List ℕ)
@@ -90,19 +71,13 @@ kept_rows rows = from_entries (filter_map letter_in rows)
 
 -- characters
 abbrev pub text_in : Value → Option (List ℕ)
-text_in Null = None
-text_in (Int n) = None
-text_in (Real x) = None
 text_in (Text text) = Some text
-text_in (Blob bytes) = None
+text_in _ = None
 
 -- the content of a row of the office from its columns, if all are readable
 abbrev pub office_by : Option ℕ → Option ℕ → Option (List ℕ) → Option ℕ → Option (ℕ × Said)
-office_by None schema setup finished = None
-office_by (Some id) None setup finished = None
-office_by (Some id) (Some schema) None finished = None
-office_by (Some id) (Some schema) (Some setup) None = None
 office_by (Some id) (Some schema) (Some setup) (Some finished) = Some (id, record { schema = schema; setup = setup; finished = finished })
+office_by _ _ _ _ = None
 
 -- the content of a row of the office, with its id
 unfoldable pub office_in : Row → Option (ℕ × Said)
@@ -116,10 +91,8 @@ said_in rows = find nat_cmp 1 (filter_map office_in rows)
 
 -- the content of a row of a finished run from its columns, if all are readable
 abbrev pub run_by : Option ℕ → Option (List ℕ) → Option (List ℕ) → Option (ℕ × Reports)
-run_by None excuses updates = None
-run_by (Some number) None updates = None
-run_by (Some number) (Some excuses) None = None
 run_by (Some number) (Some excuses) (Some updates) = Some (number, record { excuses = excuses; updates = updates })
+run_by _ _ _ = None
 
 -- the content of a row of a finished run: its number, and its two reports
 unfoldable pub run_in : Row → Option (ℕ × Reports)

@@ -1,8 +1,8 @@
 //! How the shown rows of testing's tables are compared with the wanted entries.
 ghost use Rattle.std.specs.Prelude.{◌≡◌, ◌≢◌, ◌<◌, ◌⊎◌, IsTrue, Err, Some, length, IfOk};
 ghost use Rattle.office_store_testing_tables.specs.Entries.{source_in, entry_in};
-ghost use Rattle.office_store_testing_tables.specs.EntrySteps.{source_entry as entry_of_source, row_entry as entry_of_row};
-ghost use Rattle.office_store_testing_tables.specs.Differences.{Agrees};
+ghost use Rattle.office_store_testing_tables.specs.steps.EntrySteps.{source_entry as entry_of_source, row_entry as entry_of_row};
+ghost use Rattle.office_store_testing_tables.specs.steps.Differences.{Agrees};
 
 use crate::rowids::id_in;
 use crate::shown::{name_in, number_in, row_entry, source_entry};

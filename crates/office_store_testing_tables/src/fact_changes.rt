@@ -3,8 +3,8 @@ ghost use Rattle.std.specs.Prelude.{◌≡◌, ◌≢◌, ◌≤◌, ◌<◌, Er
 ghost use Rattle.std.specs.List.{AllByRecursion, list_all};
 ghost use Rattle.std.specs.List.Sorted.{IsPermutation};
 ghost use Rattle.sqlite.specs.Values.{bound};
-ghost use Rattle.office_store_testing_tables.specs.StepsWithin.{StepsWithin, BeginsInside, Yields, LeavesAll};
-ghost use Rattle.office_store_testing_tables.specs.FactSteps.{is_fact, is_delays, id_columns, IsFound, TakesFact, TakesDelays, AddsFact, AddsFacts, AddsDelays, fact_parameters, FitsFact, is_no_delays, DropsFact, DropsDelays, DropsOne, AddsOne, DropsEach, AddsEach};
+ghost use Rattle.office_store_testing_tables.specs.steps.StepsWithin.{StepsWithin, BeginsInside, Yields, LeavesAll};
+ghost use Rattle.office_store_testing_tables.specs.steps.FactSteps.{is_fact, is_delays, id_columns, IsFound, TakesFact, TakesDelays, AddsFact, AddsFacts, AddsDelays, fact_parameters, FitsFact, is_no_delays, DropsFact, DropsDelays, DropsOne, AddsOne, DropsEach, AddsEach};
 
 use crate::rowids::{alone, only_id};
 use office_store_keeper::{Cause, KeepFault};

@@ -8,11 +8,12 @@ ghost use Rattle.testing_rules_model.specs.FactRows.{number_of};
 ghost use Rattle.testing_rules_model.specs.declared.fact_row.FactKind.{FactKind as AKind};
 ghost use Rattle.office_store_keeper.specs.FactSet.{rows_in as rows_in_set, set_of_rows};
 ghost use Rattle.office_store_testing_tables.specs.Tables.{IsTrusted};
-ghost use Rattle.office_store_testing_tables.specs.ReadsOnly.{ReadsOnly, BeginsOurs, Finds};
-ghost use Rattle.office_store_testing_tables.specs.TableContent.{ReadsEach, release_place};
+ghost use Rattle.office_store_testing_tables.specs.steps.ReadsOnly.{ReadsOnly, BeginsOurs, Finds};
+ghost use Rattle.office_store_testing_tables.specs.TableContent.{release_place};
+ghost use Rattle.office_store_testing_tables.specs.steps.TableContent.{ReadsEach};
 ghost use Rattle.office_store_testing_tables.specs.Legible.{AreRead};
 ghost use Rattle.office_store_testing_tables.specs.FactTables.{fact_entry, may_stand, fact_in, delays_of, facts_in};
-ghost use Rattle.office_store_testing_tables.specs.FactSteps.{fact_columns, delays_columns, shown_delays, IsOnlyDelays};
+ghost use Rattle.office_store_testing_tables.specs.steps.FactSteps.{fact_columns, delays_columns, shown_delays, IsOnlyDelays};
 
 use crate::shown::{number_in, rowid_in};
 use deb_control::NoMemory;

@@ -2,7 +2,7 @@
 ghost use Rattle.std.specs.Prelude.{◌≡◌, [], Some, Contains, IfSome};
 ghost use Rattle.std.specs.FinMap.{get};
 ghost use Rattle.office_mail.specs.Kept.{Kept};
-ghost use Rattle.office_store_testing_tables.specs.Loaded.{AreLettersOf};
+ghost use Rattle.office_store_testing_tables.specs.steps.Loaded.{AreLettersOf};
 
 use office_store_keeper::Letter;
 use std::alloc::Global;

@@ -7,8 +7,8 @@ ghost use Rattle.sqlite.specs.Order.{column};
 ghost use Rattle.sqlite.specs.declared.types.Value.TheVariants.{Int, Blob};
 ghost use Rattle.sqlite.specs.Held.{state};
 ghost use Rattle.office_store_testing_tables.specs.Tables.{IsTrusted, kept_rows};
-ghost use Rattle.office_store_testing_tables.specs.TableSteps.{IsCrowded, IsOnly, is_at, is_between, letter_columns, shown_letter, letter_entry, ShowsLetters, rises_from};
-ghost use Rattle.office_store_testing_tables.specs.ReadsOnly.{ReadsOnly, BeginsOurs, Finds};
+ghost use Rattle.office_store_testing_tables.specs.steps.TableSteps.{IsCrowded, IsOnly, is_at, is_between, letter_columns, shown_letter, letter_entry, ShowsLetters, rises_from};
+ghost use Rattle.office_store_testing_tables.specs.steps.ReadsOnly.{ReadsOnly, BeginsOurs, Finds};
 
 use crate::faults::unread;
 use office_store_keeper::{Cause, KeepFault, Letter, MailText};

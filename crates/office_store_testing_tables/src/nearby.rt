@@ -3,9 +3,9 @@
 ghost use Rattle.std.specs.Prelude.{◌≡◌, Err, Some};
 ghost use Rattle.sqlite.specs.Held.{state};
 ghost use Rattle.office_store_testing_tables.specs.Tables.{IsTrusted, kept_rows};
-ghost use Rattle.office_store_testing_tables.specs.TableSteps.{IsCrowded};
-ghost use Rattle.office_store_testing_tables.specs.ReadsOnly.{ReadsOnly, BeginsOurs, Finds};
-ghost use Rattle.office_store_testing_tables.specs.Loaded.{AreLettersOf};
+ghost use Rattle.office_store_testing_tables.specs.steps.TableSteps.{IsCrowded};
+ghost use Rattle.office_store_testing_tables.specs.steps.ReadsOnly.{ReadsOnly, BeginsOurs, Finds};
+ghost use Rattle.office_store_testing_tables.specs.steps.Loaded.{AreLettersOf};
 
 use crate::loaded::{LoadedLetters, loaded_text};
 use crate::mail;

@@ -2,7 +2,7 @@
 ghost use Rattle.std.specs.Prelude.{◌≡◌, ◌≢◌, Err, IfOk, OnOk};
 ghost use Rattle.sqlite.specs.Order.{column};
 ghost use Rattle.sqlite.specs.declared.types.Value.TheVariants.{Int};
-ghost use Rattle.office_store_testing_tables.specs.FactSteps.{IsOnlyId};
+ghost use Rattle.office_store_testing_tables.specs.steps.FactSteps.{IsOnlyId};
 
 use office_store_keeper::{Cause, KeepFault};
 use sqlite::{Constraint, Error, ErrorCode, Row};

@@ -7,9 +7,9 @@ ghost use Rattle.sqlite.specs.Values.{bound};
 ghost use Rattle.sqlite.specs.Tree.{Trees};
 ghost use Rattle.testing_rules_model.specs.InOrder.{AreByName, AreByKey};
 ghost use Rattle.office_store_testing_tables.specs.Tables.{IsTrusted};
-ghost use Rattle.office_store_testing_tables.specs.StepsWithin.{StepsWithin, BeginsInside, Yields, LeavesAll};
-ghost use Rattle.office_store_testing_tables.specs.EntrySteps.{source_columns, entry_columns, TakesSource, AddsSource, AddsSources, source_parameters, FitsSource, SetsSources, TakesRow, AddsRow, AddsRows, row_parameters, FitsRow, SetsRows};
-ghost use Rattle.office_store_testing_tables.specs.Differences.{GoesOn, SourcesCompared, RowsCompared};
+ghost use Rattle.office_store_testing_tables.specs.steps.StepsWithin.{StepsWithin, BeginsInside, Yields, LeavesAll};
+ghost use Rattle.office_store_testing_tables.specs.steps.EntrySteps.{source_columns, entry_columns, TakesSource, AddsSource, AddsSources, source_parameters, FitsSource, SetsSources, TakesRow, AddsRow, AddsRows, row_parameters, FitsRow, SetsRows};
+ghost use Rattle.office_store_testing_tables.specs.steps.Differences.{GoesOn, SourcesCompared, RowsCompared};
 
 use crate::differences::{
     Change, Compared, name_or_none, number_or_none, row_change, source_change,

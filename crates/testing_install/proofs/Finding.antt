@@ -10,9 +10,10 @@ use Rattle.deb_control.specs.declared.relation.Alternative.{Alternative}
 use Rattle.deb_control.specs.declared.relation.Clause.{Clause}
 use Rattle.testing_install.specs.Satisfies.{fits, is_itself, is_provided, gives, satisfies}
 use Rattle.testing_install.specs.Closed.{IsMet}
-use Rattle.testing_install.specs.Index.{bears, PlacesByName, places_at, IsIndex}
-use Rattle.testing_install.specs.Claims.{tagged, claims_from}
-use Rattle.testing_install.specs.Ground.{Misses}
+use Rattle.testing_install.specs.Index.{bears, PlacesByName, places_at}
+use Rattle.testing_install.specs.steps.Index.{IsIndex}
+use Rattle.testing_install.specs.steps.Claims.{tagged, claims_from}
+use Rattle.testing_install.specs.steps.Ground.{Misses}
 
 -- an element that passes
 pub any_true : {X : Type 0} (p : X → Bool) (xs : List X) (i : ℕ) (d : X) → i < length xs → p (get_or xs i d) ≡ true → list_any p xs ≡ true

@@ -6,10 +6,10 @@ use Rattle.deb_control.specs.declared.relation.Clause.{Clause}
 use Rattle.testing_install.specs.declared.claims.Claim.{Claim}
 use Rattle.testing_install.specs.Satisfies.{meets as row_meets}
 use Rattle.testing_install.specs.Closed.{IsMet, marked}
-use Rattle.testing_install.specs.Claims.{claims_from}
-use Rattle.testing_install.specs.Ground.{pairs, MeetsAt}
-use Rattle.testing_install.specs.Work.{Work, Turn, after_turn}
-use Rattle.testing_install.specs.Progress.{count_of, owner, clause, claim_count, claim_at, IsWork}
+use Rattle.testing_install.specs.steps.Claims.{claims_from}
+use Rattle.testing_install.specs.steps.Ground.{pairs, MeetsAt}
+use Rattle.testing_install.specs.steps.Work.{Work, Turn, after_turn}
+use Rattle.testing_install.specs.steps.Progress.{count_of, owner, clause, claim_count, claim_at, IsWork}
 use Rattle.testing_install.proofs.Counting.{count_of-same, count_of-cons}
 use Rattle.testing_install.proofs.Claiming.{owner_within}
 use Rattle.testing_install.proofs.Working.{work_rest, work_lose, work_skip, work_turn, work_start, start}

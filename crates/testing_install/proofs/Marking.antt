@@ -7,7 +7,8 @@ use Rattle.std.proofs.lemmas.List.Elements.{Contains-append_left, Contains-push,
 use Rattle.std.proofs.lemmas.List.Sums.{sum_by-set}
 use Rattle.testing_install.specs.Closed.{marked}
 use Rattle.testing_install.specs.Among.{with_all}
-use Rattle.testing_install.specs.Tracked.{Tracked, IsTracked, undone, confirmed}
+use Rattle.testing_install.specs.Tracked.{Tracked}
+use Rattle.testing_install.specs.steps.Tracked.{IsTracked, undone, confirmed}
 use Rattle.testing_install.proofs.Members.{contains_first, contains_later, contains_cons, contains_none}
 
 -- one mark

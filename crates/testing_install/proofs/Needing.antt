@@ -16,8 +16,9 @@ use Rattle.deb_control.specs.declared.relation.Alternative.{Alternative}
 use Rattle.deb_control.specs.declared.relation.Clause.{Clause}
 use Rattle.testing_install.specs.Satisfies.{satisfies, meets}
 use Rattle.testing_install.specs.Index.{bears, PlacesByName, places_at}
-use Rattle.testing_install.specs.Among.{may_need}
-use Rattle.testing_install.specs.Needers.{names, needs_name, IsNotedAt, IsNeeders, places_for}
+use Rattle.testing_install.specs.steps.Among.{may_need}
+use Rattle.testing_install.specs.Needers.{names, needs_name, IsNotedAt}
+use Rattle.testing_install.specs.steps.Needers.{IsNeeders, places_for}
 use Rattle.testing_install.proofs.Indexing.{IsAdded, added_stays, added_here, added_within}
 use Rattle.testing_install.proofs.Finding.{any_true, any_at, satisfies_bears}
 use Rattle.testing_install.proofs.Members.{members_from_all, contains_part, part_contains}

@@ -6,7 +6,7 @@ use Rattle.std.proofs.lemmas.Bool.{cases_Bool, false≢true, or_cases, or_right,
 use Rattle.deb_control.specs.declared.binary.Binary.{Binary}
 use Rattle.testing_install.specs.Satisfies.{meets}
 use Rattle.testing_install.specs.Closed.{IsClosed, IsInside}
-use Rattle.testing_install.specs.Among.{IsGreatestAmong, may_need}
+use Rattle.testing_install.specs.steps.Among.{IsGreatestAmong, may_need}
 use Rattle.testing_install.proofs.Sweeping.{met_by_larger}
 use Rattle.testing_install.proofs.Finding.{any_true}
 

@@ -7,9 +7,10 @@ use Rattle.std.proofs.lemmas.List.{length-append, get_or-set_same, get_or-set_ot
 use Rattle.std.proofs.lemmas.List.Elements.{Contains-append_left, Contains-append_right, Contains-push, Contains-push_cases}
 use Rattle.deb_control.specs.declared.binary.Binary.{Binary}
 use Rattle.testing_install.specs.Closed.{marked}
-use Rattle.testing_install.specs.Among.{with_all, may_need}
-use Rattle.testing_install.specs.Settling.{IsSettling, IsSized, IsReviving, IsRevived}
-use Rattle.testing_install.specs.Suite.{IsRight, IsChanged}
+use Rattle.testing_install.specs.Among.{with_all}
+use Rattle.testing_install.specs.steps.Among.{may_need}
+use Rattle.testing_install.specs.steps.Settling.{IsSettling, IsSized, IsReviving, IsRevived}
+use Rattle.testing_install.specs.steps.Suite.{IsRight, IsChanged}
 use Rattle.std.specs.declared.rc.Rc.{Rc}
 use Rattle.testing_install.specs.Rows.{shared}
 use Rattle.testing_install.proofs.Sharing.{shared_at, length-shared}

@@ -9,8 +9,8 @@ use Rattle.deb_control.specs.declared.binary.Binary.{Binary}
 use Rattle.deb_control.specs.declared.relation.Clause.{Clause}
 use Rattle.testing_install.specs.Satisfies.{meets}
 use Rattle.testing_install.specs.Closed.{IsMet, marked}
-use Rattle.testing_install.specs.Among.{IsGreatestAmong, may_need}
-use Rattle.testing_install.specs.Settling.{suspects, IsHeld, IsSized, IsSettling}
+use Rattle.testing_install.specs.steps.Among.{IsGreatestAmong, may_need}
+use Rattle.testing_install.specs.steps.Settling.{suspects, IsHeld, IsSized, IsSettling}
 use Rattle.testing_install.proofs.Members.{contains_cons, contains_none}
 use Rattle.testing_install.proofs.Sweeping.{keeps_taken, fewer_taken}
 use Rattle.testing_install.proofs.Working.{still_marked, same_row}

@@ -7,7 +7,8 @@ use Rattle.std.proofs.lemmas.Option.{slice_get-map, slice_get_read}
 use Rattle.std.proofs.lemmas.List.{length-map, length-append}
 use Rattle.deb_control.specs.declared.binary.Binary.{Binary}
 use Rattle.testing_install.specs.Index.{PlacesByName, places_at, IsNoted}
-use Rattle.testing_install.specs.Needers.{needs_name, IsNotedAt, IsGraph}
+use Rattle.testing_install.specs.Needers.{needs_name, IsNotedAt}
+use Rattle.testing_install.specs.steps.Needers.{IsGraph}
 use Rattle.testing_install.specs.Rows.{shared}
 use Rattle.testing_install.proofs.Indexing.{IsIndexTo, index_none, index_more, index_all}
 use Rattle.testing_install.proofs.Needing.{IsNeedersTo, needers_none, needers_more, needers_all}

@@ -6,11 +6,13 @@ use Rattle.std.proofs.lemmas.Bool.{cases_Bool, false≢true, or_cases, or_right,
 use Rattle.std.proofs.lemmas.List.{length-replicate, length-append}
 use Rattle.deb_control.specs.declared.binary.Binary.{Binary}
 use Rattle.testing_install.specs.Closed.{IsClosed, IsInside, IsInstallable, marked}
-use Rattle.testing_install.specs.Among.{IsLost, IsInstallableAmong, IsListOf, IsGreatestAmong}
+use Rattle.testing_install.specs.Among.{IsLost, IsInstallableAmong, IsListOf}
+use Rattle.testing_install.specs.steps.Among.{IsGreatestAmong}
 use Rattle.testing_install.specs.Index.{PlacesByName}
-use Rattle.testing_install.specs.Needers.{IsGraph}
-use Rattle.testing_install.specs.Suite.{IsRight, IsChanged, IsSuite}
-use Rattle.testing_install.specs.Tracked.{Tracked, longer}
+use Rattle.testing_install.specs.steps.Needers.{IsGraph}
+use Rattle.testing_install.specs.steps.Suite.{IsRight, IsChanged, IsSuite}
+use Rattle.testing_install.specs.Tracked.{Tracked}
+use Rattle.testing_install.specs.steps.Tracked.{longer}
 use Rattle.testing_install.proofs.Members.{in_filter, from_filter}
 use Rattle.testing_install.proofs.Sweeping.{met_by_larger}
 use Rattle.testing_install.proofs.Marking.{mark_within, marked_longer}

@@ -6,9 +6,10 @@ use Rattle.deb_control.specs.declared.binary.Binary.{Binary}
 use Rattle.testing_install.specs.Among.{IsLost, with_all, after_change}
 use Rattle.testing_install.specs.Closed.{marked}
 use Rattle.testing_install.specs.Index.{PlacesByName}
-use Rattle.testing_install.specs.Suite.{IsRight, IsSuite}
-use Rattle.testing_install.specs.Trials.{IsDifference, IsTried, IsReady}
-use Rattle.testing_install.specs.Tracked.{Tracked, IsTracked}
+use Rattle.testing_install.specs.steps.Suite.{IsRight, IsSuite}
+use Rattle.testing_install.specs.steps.Trials.{IsDifference, IsTried, IsReady}
+use Rattle.testing_install.specs.Tracked.{Tracked}
+use Rattle.testing_install.specs.steps.Tracked.{IsTracked}
 use Rattle.testing_install.specs.declared.trials.LastTrial.{LastTrial}
 use Rattle.testing_install.proofs.Members.{in_filter, from_filter, contains_none, all_from_members}
 use Rattle.testing_install.proofs.Marking.{length-with_all, with_stays, with_here, with_elsewhere, mark_within, same_list}

@@ -7,10 +7,12 @@ use Rattle.std.proofs.lemmas.List.Sums.{sum_by-cons, sum_by-append, sum_by-set, 
 use Rattle.deb_control.specs.declared.binary.Binary.{Binary}
 use Rattle.deb_control.specs.declared.relation.Clause.{Clause}
 use Rattle.testing_install.specs.Satisfies.{meets}
-use Rattle.testing_install.specs.Closed.{IsMet, IsClosed, IsInside, IsGreatestClosed, marked}
-use Rattle.testing_install.specs.Claims.{clauses_of, pair_count, claims_from}
-use Rattle.testing_install.specs.Work.{Work}
-use Rattle.testing_install.specs.Progress.{count_of, owner, clause, claim_count, gain, gain_of, gain_at, Rests, IsSound, IsBounded, IsWork}
+use Rattle.testing_install.specs.Closed.{IsMet, IsClosed, IsInside, marked}
+use Rattle.testing_install.specs.steps.Closed.{IsGreatestClosed}
+use Rattle.testing_install.specs.Claims.{clauses_of, pair_count}
+use Rattle.testing_install.specs.steps.Claims.{claims_from}
+use Rattle.testing_install.specs.steps.Work.{Work}
+use Rattle.testing_install.specs.steps.Progress.{count_of, owner, clause, claim_count, gain, gain_of, gain_at, Rests, IsSound, IsBounded, IsWork}
 use Rattle.testing_install.proofs.Counting.{count_of-cons, count_of-same, count_of-other, count_of-append, distinct-le-count, weight_full, weight-set, slice_get_some, count_both, range_within, range_after, range_at_most}
 use Rattle.testing_install.proofs.Sweeping.{fewer_taken, met_by_larger}
 use Rattle.testing_install.proofs.Claiming.{owner_within, closed_claim, closed_from_claims, length-claims_from, count_by-claims_from}

@@ -1,19 +1,12 @@
 -- Installable among the present rows, when some of the rows are absent.
 use Rattle.std.specs.Prelude.{◌≡◌, ℕ, ◌<◌, Bool, true, false, ◌⊎◌, List, [], ◌∷◌, length, Some, slice_set}
-use Rattle.std.specs.List.{slice_get, list_any}
+use Rattle.std.specs.List.{slice_get}
 use Rattle.deb_control.specs.declared.binary.Binary.{Binary}
-use Rattle.testing_install.specs.Satisfies.{meets}
 use Rattle.testing_install.specs.Closed.{IsClosed, IsInside}
 
 -- some closed set of present rows contains the row at the place
 abbrev pub IsInstallableAmong : List Binary → (ℕ → Bool) → ℕ → Type 0
 IsInstallableAmong rows there k = (set : ℕ → Bool) × IsClosed rows set × IsInside rows set there × (k < length rows) × (set k ≡ true)
-
--- the set is closed and contains only present rows, and every such set is inside it
-pub record IsGreatestAmong (rows : List Binary) (there set : ℕ → Bool) : Type 0 where
-  pub inside : (k : ℕ) → set k ≡ true → there k ≡ true
-  pub closed : IsClosed rows set
-  pub greatest : (other : ℕ → Bool) → IsClosed rows other → IsInside rows other there → IsInside rows other set
 
 -- a list with this value put at each of the places
 abbrev pub with_all : Bool → List ℕ → List Bool → List Bool
@@ -28,10 +21,6 @@ after_change leaving coming there = with_all true coming (with_all false leaving
 -- absent
 abbrev pub IsLost : List Binary → (ℕ → Bool) → (ℕ → Bool) → ℕ → Type 0
 IsLost rows before after k = (after k ≡ true) × (IsInstallableAmong rows after k → ⊥) × (IsInstallableAmong rows before k ⊎ (before k ≡ false))
-
--- the row meets some clause of the other
-abbrev pub may_need : Binary → Binary → Bool
-may_need other row = list_any (meets row) other.clauses
 
 -- the list contains exactly the present rows, in any order and any number of times: each of its rows is at some present
 -- place, and each present row has some number in it

@@ -3,14 +3,9 @@ pub mod Closed
 pub mod Installable
 pub mod Rows
 pub mod Claims
-pub mod Work
 pub mod Index
-pub mod Ground
-pub mod Progress
 pub mod Among
 pub mod Tracked
 pub mod Needers
-pub mod Settling
 pub mod Suite
-pub mod Trials
-pub mod Noting
+pub mod steps

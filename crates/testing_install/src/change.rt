@@ -2,13 +2,14 @@
 
 ghost use Rattle.std.specs.Prelude.{◌≡◌, ℕ, ◌+◌, ◌<◌, Bool, true, false, not, ◌⊎◌, List, [], ◌∷◌, ◌++◌, length, slice_set, OnOk, IfOk, Contains, ◌||◌, ◌↔◌, filter};
 ghost use Rattle.std.specs.List.{All, count_by};
-ghost use Rattle.testing_install.specs.Among.{IsGreatestAmong, IsLost, after_change};
+ghost use Rattle.testing_install.specs.Among.{IsLost, after_change};
+ghost use Rattle.testing_install.specs.steps.Among.{IsGreatestAmong};
 ghost use Rattle.testing_install.specs.Closed.{marked};
 ghost use Rattle.testing_install.specs.Index.{places_at};
-ghost use Rattle.testing_install.specs.Needers.{IsGraph, places_for};
+ghost use Rattle.testing_install.specs.steps.Needers.{IsGraph, places_for};
 ghost use Rattle.testing_install.specs.Rows.{shared};
-ghost use Rattle.testing_install.specs.Settling.{IsReviving, IsRevived};
-ghost use Rattle.testing_install.specs.Suite.{IsRight, IsChanged};
+ghost use Rattle.testing_install.specs.steps.Settling.{IsReviving, IsRevived};
+ghost use Rattle.testing_install.specs.steps.Suite.{IsRight, IsChanged};
 
 use crate::graph::Graph;
 use crate::index::NameIndex;

@@ -1,8 +1,8 @@
 ghost use Rattle.std.specs.Prelude.{◌≡◌, ℕ, ◌<◌, length, drop, Some, None, is_some, if◌then◌else◌, IfSome, IfNone};
 ghost use Rattle.std.specs.List.{All};
 ghost use Rattle.testing_install.specs.Closed.{IsMet, marked};
-ghost use Rattle.testing_install.specs.Ground.{Misses, IsHit, MeetsAt};
-ghost use Rattle.testing_install.specs.Index.{IsIndex};
+ghost use Rattle.testing_install.specs.steps.Ground.{Misses, IsHit, MeetsAt};
+ghost use Rattle.testing_install.specs.steps.Index.{IsIndex};
 ghost use Rattle.testing_install.specs.Rows.{binaries};
 ghost use Rattle.testing_install.specs.Satisfies.{satisfies};
 

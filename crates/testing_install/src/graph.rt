@@ -4,8 +4,8 @@ ghost use Rattle.std.specs.Prelude.{◌≡◌, ℕ, ◌≤◌, ◌<◌, true, fa
 ghost use Rattle.std.specs.List.{All};
 ghost use Rattle.deb_control.specs.declared.binary.Binary.{Binary};
 ghost use Rattle.testing_install.specs.Closed.{IsMet, marked};
-ghost use Rattle.testing_install.specs.Ground.{Misses, IsHit};
-ghost use Rattle.testing_install.specs.Needers.{IsGraph};
+ghost use Rattle.testing_install.specs.steps.Ground.{Misses, IsHit};
+ghost use Rattle.testing_install.specs.steps.Needers.{IsGraph};
 ghost use Rattle.testing_install.specs.Rows.{shared};
 
 use crate::index::{NameIndex, note_row};

@@ -1,8 +1,9 @@
 ghost use Rattle.std.specs.Prelude.{◌≡◌, ℕ, ◌<◌, ◌≤◌, ◌&&◌, not, filter, false, [], length, OnOk, OnErr, IfOk, slice_set, slice_index_or};
 ghost use Rattle.testing_install.specs.Among.{with_all};
 ghost use Rattle.testing_install.specs.Closed.{marked};
-ghost use Rattle.testing_install.specs.Tracked.{Tracked, undone, confirmed, longer};
-ghost use Rattle.testing_install.specs.Trials.{IsDifference};
+ghost use Rattle.testing_install.specs.Tracked.{Tracked};
+ghost use Rattle.testing_install.specs.steps.Tracked.{undone, confirmed, longer};
+ghost use Rattle.testing_install.specs.steps.Trials.{IsDifference};
 ghost use Rattle.std.specs.List.{All};
 
 use deb_version::NoMemory;
@@ -19,7 +20,8 @@ pub struct Marks {
 }
 
 impl Model for Marks {
-    ghost use Rattle.testing_install.specs.Tracked.{Tracked, IsTracked};
+    ghost use Rattle.testing_install.specs.Tracked.{Tracked};
+    ghost use Rattle.testing_install.specs.steps.Tracked.{IsTracked};
 
     ghost Value = { Tracked };
 

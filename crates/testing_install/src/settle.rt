@@ -4,9 +4,9 @@ ghost use Rattle.std.specs.Prelude.{◌≡◌, ℕ, ◌+◌, ◌<◌, Bool, true
 ghost use Rattle.std.specs.List.{All, count_by};
 ghost use Rattle.std.specs.Option.{option_copied};
 ghost use Rattle.testing_install.specs.Closed.{IsMet, marked};
-ghost use Rattle.testing_install.specs.Needers.{IsGraph, places_for};
+ghost use Rattle.testing_install.specs.steps.Needers.{IsGraph, places_for};
 ghost use Rattle.testing_install.specs.Rows.{shared};
-ghost use Rattle.testing_install.specs.Settling.{suspects, IsSized, IsSettling};
+ghost use Rattle.testing_install.specs.steps.Settling.{suspects, IsSized, IsSettling};
 
 use crate::graph::{Graph, is_met};
 use crate::marks::Marks;

@@ -1,6 +1,6 @@
 ghost use Rattle.std.specs.Prelude.{map, ◌≡◌, ℕ, ◌+◌, ◌-◌, ◌^◌, ◌<◌, true, false, [], ◌∷◌, ◌++◌, length, replicate, min, OnOk, IfOk, IfSome, IfNone, slice_set, slice_index_or};
 ghost use Rattle.std.specs.List.{All};
-ghost use Rattle.testing_install.specs.Work.{Turn};
+ghost use Rattle.testing_install.specs.steps.Work.{Turn};
 
 use deb_version::NoMemory;
 use std::alloc::Global;
@@ -26,7 +26,7 @@ pub struct State {
 
 impl Model for State {
     ghost use Rattle.std.specs.Prelude.{map};
-    ghost use Rattle.testing_install.specs.Work.{Work};
+    ghost use Rattle.testing_install.specs.steps.Work.{Work};
 
     ghost Value = { Work };
 

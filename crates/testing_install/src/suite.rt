@@ -43,7 +43,7 @@ impl Drop for Suite {
 impl Model for Suite {
     ghost use Rattle.testing_install.specs.Rows.{shared};
     ghost use Rattle.testing_install.specs.Suite.{SuiteState};
-    ghost use Rattle.testing_install.specs.Trials.{IsReady};
+    ghost use Rattle.testing_install.specs.steps.Trials.{IsReady};
 
     ghost Value = { SuiteState };
 

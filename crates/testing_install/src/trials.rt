@@ -5,10 +5,10 @@ ghost use Rattle.std.specs.List.{All};
 ghost use Rattle.deb_control.specs.declared.binary.Binary.{Binary as TheBinary};
 ghost use Rattle.testing_install.specs.Among.{IsLost, after_change};
 ghost use Rattle.testing_install.specs.Closed.{marked};
-ghost use Rattle.testing_install.specs.Needers.{IsGraph};
+ghost use Rattle.testing_install.specs.steps.Needers.{IsGraph};
 ghost use Rattle.testing_install.specs.Rows.{shared};
-ghost use Rattle.testing_install.specs.Suite.{IsRight};
-ghost use Rattle.testing_install.specs.Trials.{IsDifference, IsTried};
+ghost use Rattle.testing_install.specs.steps.Suite.{IsRight};
+ghost use Rattle.testing_install.specs.steps.Trials.{IsDifference, IsTried};
 
 use crate::change::{change, lost_by};
 use crate::graph::Graph;

@@ -1,8 +1,8 @@
 ghost use Rattle.std.specs.Prelude.{◌≡◌, ℕ, ◌+◌, ◌-◌, ◌^◌, ◌<◌, ◌≤◌, List, [], ◌∷◌, length, min, OnOk, IfOk};
 ghost use Rattle.std.specs.List.{range_with_len};
-ghost use Rattle.testing_install.specs.Ground.{IsGround};
+ghost use Rattle.testing_install.specs.steps.Ground.{IsGround};
 ghost use Rattle.testing_install.specs.Rows.{binaries};
-ghost use Rattle.testing_install.specs.Progress.{IsWork};
+ghost use Rattle.testing_install.specs.steps.Progress.{IsWork};
 
 use crate::Row;
 use crate::claims::Claim;

@@ -8,9 +8,9 @@ use Rattle.deb_control.specs.declared.binary.Binary.{Binary}
 use Rattle.testing_install.specs.Rows.{binaries}
 use Rattle.testing_install.specs.declared.Row.{Row}
 use Rattle.testing_install_why.specs.Certificate.{IsShownBy, everywhere}
-use Rattle.testing_install_why.specs.Checking.{ArePast, EndsAt, IsPlaced, IsRowPlaced}
+use Rattle.testing_install_why.specs.steps.Checking.{ArePast, EndsAt, IsPlaced, IsRowPlaced}
 use Rattle.testing_install_why.specs.Order.{IsStep}
-use Rattle.testing_install_why.specs.Steps.{AreSteps}
+use Rattle.testing_install_why.specs.steps.Steps.{AreSteps}
 use Rattle.testing_install_why.specs.declared.Step.{Step}
 
 -- each of the first n steps has its row and its clause

@@ -16,8 +16,8 @@ use Rattle.testing_install.specs.Needers.{IsNotedAt, names}
 use Rattle.testing_install.specs.Satisfies.{satisfies}
 use Rattle.testing_install.proofs.Finding.{any_at, any_true, satisfies_bears}
 use Rattle.testing_install_why.specs.declared.Step.{Step}
-use Rattle.testing_install_why.specs.Checking.{ArePast, IsClauseIndex, IsPast}
-use Rattle.testing_install_why.specs.Steps.{IsClauseOf}
+use Rattle.testing_install_why.specs.steps.Checking.{ArePast, IsClauseIndex, IsPast}
+use Rattle.testing_install_why.specs.steps.Steps.{IsClauseOf}
 use Rattle.testing_install_why.proofs.MarkedSteps.{same_clause}
 
 -- what is noted of the first n steps

@@ -11,8 +11,9 @@ use Rattle.testing_install.proofs.Places.{MissesBelow, misses_none, misses_more_
 use Rattle.testing_install.proofs.Counting.{slice_get_some}
 use Rattle.testing_install.proofs.Sweeping.{fewer_taken}
 use Rattle.testing_install_why.specs.declared.Step.{Step}
-use Rattle.testing_install_why.specs.Order.{IsStep, IsNamed, IsGroundless, IsWhole, Refutes, IsReaching}
-use Rattle.testing_install_why.specs.Taking.{IsOrder, IsHeldAt, FailsAt}
+use Rattle.testing_install_why.specs.Order.{IsStep, IsNamed, IsGroundless, IsWhole}
+use Rattle.testing_install_why.specs.steps.Order.{Refutes, IsReaching}
+use Rattle.testing_install_why.specs.steps.Taking.{IsOrder, IsHeldAt, FailsAt}
 use Rattle.std.proofs.lemmas.List.{get_or_default}
 use Rattle.testing_install_why.proofs.Taking.{all_at, groundless_out, order_none, order_more, order_whole, two_ways}
 

@@ -6,7 +6,7 @@ use Rattle.testing_install.specs.Among.{IsInstallableAmong}
 use Rattle.testing_install.specs.Closed.{IsMet, IsClosed, IsInside, marked}
 use Rattle.testing_install_why.specs.declared.Step.{Step}
 use Rattle.testing_install_why.specs.Order.{IsGroundless}
-use Rattle.testing_install_why.specs.Chain.{IsIn, IsChain, IsBreak}
+use Rattle.testing_install_why.specs.steps.Chain.{IsIn, IsChain, IsBreak}
 use Rattle.testing_install_why.proofs.Taking.{all_at, two_ways}
 use Rattle.testing_install_why.proofs.Finding.{is_met}
 

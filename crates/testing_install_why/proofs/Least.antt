@@ -10,9 +10,9 @@ use Rattle.deb_control.specs.declared.relation.Alternative.{Alternative}
 use Rattle.deb_control.specs.declared.relation.Clause.{Clause}
 use Rattle.testing_install.specs.Index.{PlacesByName, places_at}
 use Rattle.testing_install_why.specs.declared.Step.{Step}
-use Rattle.testing_install_why.specs.Bearers.{IsBearer, IsLast, IsLeast, IsNext}
-use Rattle.testing_install_why.specs.Needed.{IsStepIndex}
-use Rattle.testing_install_why.specs.Steps.{IsClauseOf}
+use Rattle.testing_install_why.specs.steps.Bearers.{IsBearer, IsLast, IsLeast, IsNext}
+use Rattle.testing_install_why.specs.steps.Needed.{IsStepIndex}
+use Rattle.testing_install_why.specs.steps.Steps.{IsClauseOf}
 use Rattle.testing_install_why.proofs.MarkedSteps.{IsAmongFirst, IsNamedTo, bearer_is_named}
 
 -- a step below one number stands below another, if its own is less than that

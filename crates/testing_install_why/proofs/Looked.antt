@@ -12,9 +12,9 @@ use Rattle.testing_install.specs.Closed.{IsMet, marked}
 use Rattle.testing_install.specs.Satisfies.{meets}
 use Rattle.testing_install.proofs.Finding.{any_true}
 use Rattle.testing_install.proofs.Members.{all_from_members, members_from_all}
-use Rattle.testing_install_why.specs.Reaching.{IsGrown}
-use Rattle.testing_install_why.specs.Taking.{FailsAt, FailsBy, IsHeldAt, IsLooked}
-use Rattle.testing_install_why.specs.Woken.{IsWokenFor}
+use Rattle.testing_install_why.specs.steps.Reaching.{IsGrown}
+use Rattle.testing_install_why.specs.steps.Taking.{FailsAt, FailsBy, IsHeldAt, IsLooked}
+use Rattle.testing_install_why.specs.steps.Woken.{IsWokenFor}
 use Rattle.testing_install_why.proofs.Reaching.{still_in}
 use Rattle.testing_install_why.proofs.Taking.{two_ways}
 

@@ -10,9 +10,9 @@ use Rattle.testing_install.specs.Index.{PlacesByName, bears, places_at}
 use Rattle.testing_install.specs.Satisfies.{satisfies}
 use Rattle.testing_install.proofs.Finding.{any_at, satisfies_bears}
 use Rattle.testing_install_why.specs.declared.Step.{Step}
-use Rattle.testing_install_why.specs.Bearers.{IsBearer}
-use Rattle.testing_install_why.specs.Needed.{IsMarkedFor, IsMarkedWhere, IsStepIndex}
-use Rattle.testing_install_why.specs.Steps.{IsClauseOf}
+use Rattle.testing_install_why.specs.steps.Bearers.{IsBearer}
+use Rattle.testing_install_why.specs.steps.Needed.{IsMarkedFor, IsMarkedWhere, IsStepIndex}
+use Rattle.testing_install_why.specs.steps.Steps.{IsClauseOf}
 
 -- what is noted of the first n steps
 pub record IsStepIndexTo (rows : List Binary) (order : List Step) (noted : PlacesByName) (n : ℕ) : Type 0 where

@@ -7,9 +7,9 @@ use Rattle.deb_control.specs.declared.binary.Binary.{Binary}
 use Rattle.testing_install.specs.Closed.{marked}
 use Rattle.testing_install_why.specs.declared.Step.{Step}
 use Rattle.testing_install_why.specs.Order.{IsNamed, Falls, IsGroundless}
-use Rattle.testing_install_why.specs.Certificate.{IsCertificate}
-use Rattle.testing_install_why.specs.Needed.{IsMarkedFor, IsNeeded}
-use Rattle.testing_install_why.specs.Bearers.{IsBearer}
+use Rattle.testing_install_why.specs.steps.Certificate.{IsCertificate}
+use Rattle.testing_install_why.specs.steps.Needed.{IsMarkedFor, IsNeeded}
+use Rattle.testing_install_why.specs.steps.Bearers.{IsBearer}
 use Rattle.testing_install_why.proofs.Taking.{at_end, at_either, named_more}
 
 -- one step more of which each bearer stands in the list

@@ -13,8 +13,8 @@ use Rattle.testing_install.specs.Satisfies.{meets}
 use Rattle.testing_install.proofs.Indexing.{all_push}
 use Rattle.testing_install.proofs.Places.{read_more}
 use Rattle.testing_install.proofs.Sweeping.{fewer_taken}
-use Rattle.testing_install_why.specs.Order.{IsReaching}
-use Rattle.testing_install_why.specs.Reaching.{IsUnreached, IsGrown, IsShutAt, IsShutFor}
+use Rattle.testing_install_why.specs.steps.Order.{IsReaching}
+use Rattle.testing_install_why.specs.steps.Reaching.{IsUnreached, IsGrown, IsShutAt, IsShutFor}
 use Rattle.testing_install_why.proofs.Taking.{all_at, at_left, two_ways}
 
 -- rows are reached one after the other

@@ -9,9 +9,9 @@ use Rattle.testing_install.specs.Closed.{IsMet}
 use Rattle.testing_install.specs.Satisfies.{meets}
 use Rattle.testing_install_why.specs.declared.Step.{Step}
 use Rattle.testing_install_why.specs.Order.{IsStep, IsGroundless}
-use Rattle.testing_install_why.specs.Chain.{IsMetAt, IsChain}
-use Rattle.testing_install_why.specs.Bearers.{IsBearer, IsNext, IsLast}
-use Rattle.testing_install_why.specs.Steps.{AreSteps, IsClauseOf}
+use Rattle.testing_install_why.specs.steps.Chain.{IsMetAt, IsChain}
+use Rattle.testing_install_why.specs.steps.Bearers.{IsBearer, IsNext, IsLast}
+use Rattle.testing_install_why.specs.steps.Steps.{AreSteps, IsClauseOf}
 
 -- a step's row and clause can be read
 

@@ -5,8 +5,9 @@ use Rattle.std.proofs.lemmas.Bool.{cases_lt}
 use Rattle.std.proofs.lemmas.Option.{same_Some}
 use Rattle.deb_control.specs.declared.binary.Binary.{Binary}
 use Rattle.testing_install_why.specs.declared.Step.{Step}
-use Rattle.testing_install_why.specs.Bearers.{IsStepOf}
-use Rattle.testing_install_why.specs.Certificate.{IsCertificate, IsShownBy}
+use Rattle.testing_install_why.specs.steps.Bearers.{IsStepOf}
+use Rattle.testing_install_why.specs.Certificate.{IsShownBy}
+use Rattle.testing_install_why.specs.steps.Certificate.{IsCertificate}
 use Rattle.testing_install_why.specs.Order.{IsNamed, IsGroundless}
 
 -- none of the first n steps has the row at the place

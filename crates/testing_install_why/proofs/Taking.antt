@@ -8,7 +8,7 @@ use Rattle.testing_install.specs.Among.{IsInstallableAmong}
 use Rattle.testing_install.specs.Closed.{IsMet, IsClosed, IsInside, marked}
 use Rattle.testing_install_why.specs.declared.Step.{Step}
 use Rattle.testing_install_why.specs.Order.{IsStep, IsNamed, Falls, IsGroundless, IsWhole}
-use Rattle.testing_install_why.specs.Taking.{IsOrder}
+use Rattle.testing_install_why.specs.steps.Taking.{IsOrder}
 
 -- what holds of each element holds of the one at a place
 pub all_at : {X : Type 0} (P : X → Type 0) (xs : List X) (i : ℕ) (x : X) → slice_get xs i ≡ Some x → All P xs → P x

@@ -15,8 +15,8 @@ use Rattle.testing_install.specs.Needers.{names, needs_name}
 use Rattle.testing_install.specs.Satisfies.{meets, satisfies}
 use Rattle.testing_install.proofs.Finding.{any_at, any_true, satisfies_bears}
 use Rattle.testing_install.proofs.Places.{read_more}
-use Rattle.testing_install_why.specs.Reaching.{IsGrown}
-use Rattle.testing_install_why.specs.Woken.{IsWokenAt, IsWokenFor}
+use Rattle.testing_install_why.specs.steps.Reaching.{IsGrown}
+use Rattle.testing_install_why.specs.steps.Woken.{IsWokenAt, IsWokenFor}
 use Rattle.testing_install_why.proofs.Reaching.{grown_none, grown_one, grown_then}
 
 -- the rows at the first n places

@@ -1,10 +1,3 @@
 pub mod Order
-pub mod Chain
-pub mod Taking
-pub mod Steps
-pub mod Bearers
 pub mod Certificate
-pub mod Needed
-pub mod Reaching
-pub mod Checking
-pub mod Woken
+pub mod steps

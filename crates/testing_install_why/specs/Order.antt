@@ -1,5 +1,5 @@
 -- Why rows aren't installable: a list of rows and clauses that shows it line by line.
-use Rattle.std.specs.Prelude.{◌≡◌, ℕ, ◌<◌, Bool, true, ◌⊎◌, List, length, Some, Contains}
+use Rattle.std.specs.Prelude.{◌≡◌, ℕ, ◌<◌, Bool, true, ◌⊎◌, List, length, Some}
 use Rattle.std.specs.List.{slice_get}
 use Rattle.deb_control.specs.declared.binary.Binary.{Binary}
 use Rattle.deb_control.specs.declared.relation.Clause.{Clause}
@@ -36,13 +36,3 @@ pub record IsGroundless (rows : List Binary) (there : ℕ → Bool) (steps : Lis
 pub record IsWhole (rows : List Binary) (there : ℕ → Bool) (steps : List Step) : Type 0 where
   pub groundless : IsGroundless rows there steps
   pub every : (k : ℕ) → k < length rows → there k ≡ true → IsNamed steps (length steps) k ⊎ IsInstallableAmong rows there k
-
--- the list has the row at the place, unless that row is absent or installable
-pub record Refutes (rows : List Binary) (there : ℕ → Bool) (steps : List Step) (place : ℕ) : Type 0 where
-  pub named : there place ≡ true → (IsInstallableAmong rows there place → ⊥) → IsNamed steps (length steps) place
-
--- each present row that meets a clause of a row at the places is at one of them, or is installable
-pub record IsReaching (rows : List Binary) (there : ℕ → Bool) (places : List ℕ) : Type 0 where
-  pub each : (k : ℕ) (row : Binary) (i : ℕ) (clause : Clause) (b : ℕ) (other : Binary) → Contains places k → slice_get rows k ≡ Some row
-      → slice_get row.clauses i ≡ Some clause → slice_get rows b ≡ Some other → there b ≡ true → meets other clause ≡ true
-      → Contains places b ⊎ IsInstallableAmong rows there b

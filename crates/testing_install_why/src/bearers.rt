@@ -2,10 +2,10 @@
 
 ghost use Rattle.std.specs.Prelude.{◌≡◌, ◌<◌, true, false, length, Some, IfOk};
 ghost use Rattle.std.specs.List.{slice_get};
-ghost use Rattle.testing_install_why.specs.Bearers.{IsBearer};
-ghost use Rattle.testing_install_why.specs.Needed.{IsStepIndex};
+ghost use Rattle.testing_install_why.specs.steps.Bearers.{IsBearer};
+ghost use Rattle.testing_install_why.specs.steps.Needed.{IsStepIndex};
 ghost use Rattle.testing_install_why.specs.Order.{IsStep};
-ghost use Rattle.testing_install_why.specs.Steps.{AreSteps, IsClauseOf};
+ghost use Rattle.testing_install_why.specs.steps.Steps.{AreSteps, IsClauseOf};
 
 use crate::Step;
 use deb_control::{Binary, Clause};

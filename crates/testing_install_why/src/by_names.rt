@@ -8,7 +8,7 @@ ghost use Rattle.deb_control.specs.declared.relation.Provision.{Provision};
 ghost use Rattle.testing_install.specs.Index.{places_at};
 ghost use Rattle.testing_install.specs.Rows.{binaries};
 ghost use Rattle.testing_install_why.specs.Certificate.{IsShownBy, everywhere};
-ghost use Rattle.testing_install_why.specs.Checking.{ArePast, IsClauseIndex, IsPast, IsPlaced, IsRowPlaced};
+ghost use Rattle.testing_install_why.specs.steps.Checking.{ArePast, IsClauseIndex, IsPast, IsPlaced, IsRowPlaced};
 ghost use Rattle.testing_install_why.specs.Order.{IsNamed};
 
 use crate::Step;

@@ -1,10 +1,10 @@
 ghost use Rattle.std.specs.Prelude.{◌≡◌, ℕ, ◌<◌, ◌≤◌, Bool, length, Some, IfOk, IfSome, IfNone, Contains};
 ghost use Rattle.std.specs.List.{slice_get};
-ghost use Rattle.testing_install_why.specs.Bearers.{IsBearer, IsLast, IsLeast, IsNext};
-ghost use Rattle.testing_install_why.specs.Chain.{IsChain};
-ghost use Rattle.testing_install_why.specs.Needed.{IsStepIndex};
+ghost use Rattle.testing_install_why.specs.steps.Bearers.{IsBearer, IsLast, IsLeast, IsNext};
+ghost use Rattle.testing_install_why.specs.steps.Chain.{IsChain};
+ghost use Rattle.testing_install_why.specs.steps.Needed.{IsStepIndex};
 ghost use Rattle.testing_install_why.specs.Order.{IsGroundless};
-ghost use Rattle.testing_install_why.specs.Steps.{AreSteps};
+ghost use Rattle.testing_install_why.specs.steps.Steps.{AreSteps};
 ghost use Rattle.testing_install_why.specs.declared.Step.{Step as TheStep};
 
 use crate::Step;

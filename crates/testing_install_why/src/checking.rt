@@ -3,9 +3,9 @@
 
 ghost use Rattle.std.specs.Prelude.{◌≡◌, true, IfSome};
 ghost use Rattle.testing_install.specs.Rows.{binaries};
-ghost use Rattle.testing_install_why.specs.Checking.{EndsAt};
+ghost use Rattle.testing_install_why.specs.steps.Checking.{EndsAt};
 ghost use Rattle.testing_install_why.specs.Order.{IsStep};
-ghost use Rattle.testing_install_why.specs.Steps.{AreSteps, IsClauseOf};
+ghost use Rattle.testing_install_why.specs.steps.Steps.{AreSteps, IsClauseOf};
 
 use crate::Step;
 use deb_control::Clause;

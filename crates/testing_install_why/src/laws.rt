@@ -5,7 +5,7 @@ ghost use Rattle.std.specs.List.{slice_get};
 ghost use Rattle.deb_control.specs.declared.binary.Binary.{Binary};
 ghost use Rattle.testing_install.specs.Among.{IsInstallableAmong};
 ghost use Rattle.testing_install.specs.Closed.{marked};
-ghost use Rattle.testing_install_why.specs.Chain.{IsChain, IsBreak};
+ghost use Rattle.testing_install_why.specs.steps.Chain.{IsChain, IsBreak};
 ghost use Rattle.testing_install_why.specs.Order.{IsGroundless, IsWhole, IsNamed};
 ghost use Rattle.testing_install_why.specs.declared.Step.{Step};
 

@@ -1,9 +1,9 @@
 ghost use Rattle.std.specs.Prelude.{◌≡◌, ◌<◌, List, length, Some, IfOk, Contains};
 ghost use Rattle.std.specs.List.{slice_get};
 ghost use Rattle.deb_control.specs.declared.binary.Binary.{Binary};
-ghost use Rattle.testing_install_why.specs.Certificate.{IsCertificate};
-ghost use Rattle.testing_install_why.specs.Needed.{IsMarkedFor, IsMarkedWhere, IsNeeded, IsStepIndex};
-ghost use Rattle.testing_install_why.specs.Steps.{AreSteps};
+ghost use Rattle.testing_install_why.specs.steps.Certificate.{IsCertificate};
+ghost use Rattle.testing_install_why.specs.steps.Needed.{IsMarkedFor, IsMarkedWhere, IsNeeded, IsStepIndex};
+ghost use Rattle.testing_install_why.specs.steps.Steps.{AreSteps};
 ghost use Rattle.testing_install_why.specs.declared.Step.{Step as TheStep};
 
 use crate::Step;

@@ -5,9 +5,10 @@ ghost use Rattle.std.specs.List.{All, count_by, slice_get};
 ghost use Rattle.deb_control.specs.declared.binary.Binary.{Binary as TheBinary};
 ghost use Rattle.testing_install.specs.Closed.{IsMet, marked};
 ghost use Rattle.testing_install.specs.Satisfies.{meets as does_meet};
-ghost use Rattle.testing_install_why.specs.Order.{IsGroundless, IsReaching, Refutes};
-ghost use Rattle.testing_install_why.specs.Steps.{AreSteps};
-ghost use Rattle.testing_install_why.specs.Taking.{FailsAt, FailsBy, IsHeldAt, IsLooked, IsOrder};
+ghost use Rattle.testing_install_why.specs.Order.{IsGroundless};
+ghost use Rattle.testing_install_why.specs.steps.Order.{IsReaching, Refutes};
+ghost use Rattle.testing_install_why.specs.steps.Steps.{AreSteps};
+ghost use Rattle.testing_install_why.specs.steps.Taking.{FailsAt, FailsBy, IsHeldAt, IsLooked, IsOrder};
 
 use crate::Step;
 use crate::waking::wake_needers;

@@ -4,8 +4,8 @@ ghost use Rattle.std.specs.Prelude.{◌≡◌, ℕ, ◌<◌, ◌⊎◌, true, le
 ghost use Rattle.std.specs.List.{All};
 ghost use Rattle.testing_install.specs.Among.{IsInstallableAmong};
 ghost use Rattle.testing_install.specs.Closed.{marked};
-ghost use Rattle.testing_install_why.specs.Order.{IsReaching};
-ghost use Rattle.testing_install_why.specs.Reaching.{IsGrown, IsUnreached, IsShutAt, IsShutFor};
+ghost use Rattle.testing_install_why.specs.steps.Order.{IsReaching};
+ghost use Rattle.testing_install_why.specs.steps.Reaching.{IsGrown, IsUnreached, IsShutAt, IsShutFor};
 
 use crate::order::named_by;
 use deb_control::{Binary, Clause};

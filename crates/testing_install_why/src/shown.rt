@@ -4,9 +4,10 @@ ghost use Rattle.std.specs.Prelude.{◌≡◌, ◌<◌, true, length, IfOk, IfSo
 ghost use Rattle.std.specs.List.{All};
 ghost use Rattle.testing_install.specs.Among.{IsInstallableAmong};
 ghost use Rattle.testing_install.specs.Closed.{marked};
-ghost use Rattle.testing_install_why.specs.Order.{IsNamed, IsReaching};
+ghost use Rattle.testing_install_why.specs.Order.{IsNamed};
+ghost use Rattle.testing_install_why.specs.steps.Order.{IsReaching};
 ghost use Rattle.testing_install_why.specs.Certificate.{IsShownBy};
-ghost use Rattle.testing_install_why.specs.Bearers.{IsStepOf};
+ghost use Rattle.testing_install_why.specs.steps.Bearers.{IsStepOf};
 
 use crate::Step;
 use crate::needed::certificate_of;

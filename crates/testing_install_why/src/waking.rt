@@ -3,8 +3,8 @@
 ghost use Rattle.std.specs.Prelude.{◌≡◌, ◌<◌, false, length, OnOk};
 ghost use Rattle.std.specs.List.{All};
 ghost use Rattle.testing_install.specs.Closed.{marked};
-ghost use Rattle.testing_install_why.specs.Reaching.{IsGrown};
-ghost use Rattle.testing_install_why.specs.Woken.{IsWokenAt, IsWokenFor};
+ghost use Rattle.testing_install_why.specs.steps.Reaching.{IsGrown};
+ghost use Rattle.testing_install_why.specs.steps.Woken.{IsWokenAt, IsWokenFor};
 
 use deb_control::Binary;
 use deb_version::NoMemory;

@@ -26,9 +26,9 @@ pub use Rattle.testing_rules_laws.specs.Laws
 pub use Rattle.testing_rules_laws.specs.MoveLaws
 pub use Rattle.testing_rules_laws.specs.TakenLaws
 pub use Rattle.testing_rules_laws.specs.Fallen
-pub use Rattle.testing_rules_laws.specs.GivenUpdate
-pub use Rattle.testing_rules_laws.specs.Logged
-pub use Rattle.testing_rules_laws.specs.Restored
-pub use Rattle.testing_rules_laws.specs.Retaken
-pub use Rattle.testing_rules_laws.specs.SameRows
-pub use Rattle.testing_rules_laws.specs.Told
+pub use Rattle.testing_rules_laws.specs.steps.GivenUpdate
+pub use Rattle.testing_rules_laws.specs.steps.Logged
+pub use Rattle.testing_rules_laws.specs.steps.Restored
+pub use Rattle.testing_rules_laws.specs.steps.Retaken
+pub use Rattle.testing_rules_laws.specs.steps.SameRows
+pub use Rattle.testing_rules_laws.specs.steps.Told

@@ -12,7 +12,7 @@ use Rattle.std.proofs.lemmas.Cmp.{nat_cmp_total}
 use Rattle.std.proofs.lemmas.List.{get_or-map, length-map}
 use Rattle.std.proofs.lemmas.Map.Keys.{sorted_from_strictly_increasing}
 use Rattle.testing_rules_model.specs.Boxed.{unboxed}
-use Rattle.testing_rules_model.specs.FactOrder.{AreByNumber}
+use Rattle.testing_rules_model.specs.steps.FactOrder.{AreByNumber}
 use Rattle.testing_rules_model.specs.declared.facts.BugIn.{BugIn}
 use Rattle.testing_rules_model.proofs.KeyOrder.{below_at}
 use Rattle.testing_rules_model.proofs.Unboxed.{unboxed-length}

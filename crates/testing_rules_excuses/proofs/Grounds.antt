@@ -9,9 +9,10 @@ use Rattle.testing_rules_model.specs.Suite.{Suite}
 use Rattle.testing_rules_model.specs.FactLists.{FactLists}
 use Rattle.testing_rules_model.specs.Covered.{Covered}
 use Rattle.testing_rules_model.specs.StandsFor.{StandsFor}
-use Rattle.testing_rules_excuses.specs.BySource.{ground_from}
+use Rattle.testing_rules_excuses.specs.steps.BySource.{ground_from}
 use Rattle.testing_rules_model.specs.Unstable.{place_numbers, unstable_sources}
-use Rattle.testing_rules_model.specs.Excuses.{Ground, excuse_on, excuses_on, excuses_of, ground_of, days_of, hinted_days, age_of, reasons_of, testing_version, is_news}
+use Rattle.testing_rules_model.specs.Excuses.{excuses_of, days_of, hinted_days, age_of, reasons_of, testing_version, is_news}
+use Rattle.testing_rules_model.specs.steps.Grounds.{Ground, excuse_on, excuses_on, ground_of}
 use Rattle.testing_rules_model.proofs.Urgent.{urgent-same}
 
 pub map-same : {A B : Type 0} (f g : A → B) → ((x : A) → f x ≡ g x) → (xs : List A) → map f xs ≡ map g xs

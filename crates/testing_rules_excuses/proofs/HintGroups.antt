@@ -5,8 +5,8 @@ use Rattle.std.proofs.Common.{◌≡◌, refl, sym, ap, ◌∙◌, append_assoc,
 use Rattle.std.proofs.lemmas.List.{take_more, map-append, flat_map_more}
 use Rattle.std.proofs.lemmas.List.Elements.{filter-append}
 use Rattle.testing_rules_model.specs.declared.facts.HintIn.{HintIn}
-use Rattle.testing_rules_excuses.specs.BySource.{joined_by}
-use Rattle.testing_rules_excuses.specs.OwnHints.{joined_with}
+use Rattle.testing_rules_excuses.specs.steps.BySource.{joined_by}
+use Rattle.testing_rules_excuses.specs.steps.OwnHints.{joined_with}
 use Rattle.testing_rules_excuses.proofs.NewsGroups.{joined_to, joined_none}
 
 module _ {A : Type 0} (own : A → Bool) (f : A → HintIn) where

@@ -4,8 +4,8 @@ use Rattle.std.proofs.Common.{◌≡◌, refl, ap, ◌∙◌}
 use Rattle.std.proofs.lemmas.List.{map-append}
 use Rattle.std.specs.Borrow.{Bor}
 use Rattle.testing_rules_model.specs.declared.facts.UploadIn.{UploadIn}
-use Rattle.testing_rules_excuses.specs.BySource.{joined_by}
-use Rattle.testing_rules_excuses.specs.LentUploads.{uploads_lent}
+use Rattle.testing_rules_excuses.specs.steps.BySource.{joined_by}
+use Rattle.testing_rules_excuses.specs.steps.LentUploads.{uploads_lent}
 use Rattle.testing_rules_excuses.proofs.NewsGroups.{group_of}
 
 -- no upload has come

@@ -7,7 +7,7 @@ use Rattle.std.proofs.lemmas.List.Folds.{list_any-append}
 use Rattle.std.specs.Str.{bytes_eq}
 use Rattle.testing_rules_excuses.specs.declared.by_source.News.{News}
 use Rattle.testing_rules_items.specs.Words.{Text}
-use Rattle.testing_rules_excuses.specs.BySource.{joined_by, is_among}
+use Rattle.testing_rules_excuses.specs.steps.BySource.{joined_by, is_among}
 use Rattle.testing_rules_excuses.proofs.OwnPart.{grouped-more}
 
 -- the names of one more source that is news

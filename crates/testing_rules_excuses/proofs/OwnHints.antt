@@ -13,8 +13,9 @@ use Rattle.testing_rules_items.specs.declared.item.HintItem.{HintItem}
 use Rattle.testing_rules_model.specs.declared.facts.HintIn.{HintIn}
 use Rattle.testing_rules_excuses.specs.declared.own_hints.Wish.TheVariants.{LetIn, Days, Leave}
 use Rattle.testing_rules_items.specs.Words.{Text, is_same_version}
-use Rattle.testing_rules_model.specs.Excuses.{blocks, unblocks, removes, asked_days, asks_block, lifts_block, asks_removal}
-use Rattle.testing_rules_excuses.specs.OwnHints.{item_part, named_part, parts_by, parts_of, is_for_all, for_all, started, own_hints}
+use Rattle.testing_rules_model.specs.Excuses.{blocks, unblocks, removes, asked_days, asks_removal}
+use Rattle.testing_rules_model.specs.steps.Excuses.{asks_block, lifts_block}
+use Rattle.testing_rules_excuses.specs.steps.OwnHints.{item_part, named_part, parts_by, parts_of, is_for_all, for_all, started, own_hints}
 
 apart_at : (r : Bool) (a b : Text) → bytes_eq b a ≡ r → bytes_eq a b ≡ false → bytes_eq b a ≡ false
 apart_at true a b e h = absurd (false≢true (sym h ∙ (bytes_eq-Decides a b).1 (sym ((bytes_eq-Decides b a).0 e))))

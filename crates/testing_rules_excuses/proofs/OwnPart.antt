@@ -20,9 +20,11 @@ use Rattle.testing_rules_items.specs.declared.item.Urgency.TheVariants.{Low}
 use Rattle.testing_rules_items.specs.Words.{Text, only_if}
 use Rattle.testing_rules_model.specs.Suite.{Suite}
 use Rattle.testing_rules_model.specs.Unstable.{is_of_source, is_current}
-use Rattle.testing_rules_model.specs.Excuses.{Ground, more_urgent, days_of, counts, most_urgent, hinted_days, days_needed, age_of, is_new_bug, has_row_on, has_current_on, is_missing_on, has_current, asks_block, lifts_block, is_blocked, asks_removal, is_removal_asked, reasons_of, excuse_on, excuses_on, testing_version, is_news}
-use Rattle.testing_rules_excuses.specs.BySource.{part_of, told_of, news_of, is_among, excuses_by}
-use Rattle.testing_rules_excuses.specs.OwnHints.{own_hints}
+use Rattle.testing_rules_model.specs.Excuses.{more_urgent, days_of, counts, most_urgent, hinted_days, days_needed, age_of, is_new_bug, is_missing_on, has_current, is_blocked, asks_removal, is_removal_asked, reasons_of, testing_version, is_news}
+use Rattle.testing_rules_model.specs.steps.Excuses.{has_row_on, has_current_on, asks_block, lifts_block}
+use Rattle.testing_rules_model.specs.steps.Grounds.{Ground, excuse_on, excuses_on}
+use Rattle.testing_rules_excuses.specs.steps.BySource.{part_of, told_of, news_of, is_among, excuses_by}
+use Rattle.testing_rules_excuses.specs.steps.OwnHints.{own_hints}
 use Rattle.testing_rules_excuses.proofs.OwnHints.{apart, own-block, own-lift, own-removal, own-days}
 use Rattle.testing_rules_model.proofs.MoreMail.{filter-same}
 

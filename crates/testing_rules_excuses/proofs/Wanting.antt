@@ -11,11 +11,12 @@ use Rattle.testing_rules_excuses.specs.declared.by_source.News.{News}
 use Rattle.testing_rules_model.specs.declared.facts.BuildIn.{BuildIn}
 use Rattle.testing_rules_model.specs.declared.suite.RowIn.{RowIn}
 use Rattle.testing_rules_facts.specs.declared.source_filter.SourceFilter.{SourceFilter}
-use Rattle.testing_rules_excuses.specs.BySource.{is_among}
-use Rattle.testing_rules_model.specs.Unstable.{places, row_at, built_on, built_rows}
-use Rattle.testing_rules_model.specs.SourceFilter.{is_one_of, hash_passes}
-use Rattle.testing_rules_facts.specs.SourceFilter.{filter_passes, passing_builds}
-use Rattle.testing_rules_excuses.specs.SourceFilter.{newer_hashes}
+use Rattle.testing_rules_excuses.specs.steps.BySource.{is_among}
+use Rattle.testing_rules_model.specs.Unstable.{places, row_at, built_rows}
+use Rattle.testing_rules_model.specs.steps.Unstable.{built_on}
+use Rattle.testing_rules_model.specs.steps.SourceFilter.{is_one_of, hash_passes}
+use Rattle.testing_rules_facts.specs.steps.SourceFilter.{filter_passes, passing_builds}
+use Rattle.testing_rules_excuses.specs.steps.SourceFilter.{newer_hashes}
 use Rattle.testing_rules_items.specs.Words.{Text}
 
 -- a source's own rows are those of all builds that pass a test which its own pass

@@ -1,10 +1,6 @@
-pub mod BySource
-pub mod LentUploads
-pub mod OwnHints
-pub mod SourceFilter
 pub mod Readiness
 pub mod Lines
 pub mod Origins
 pub mod Said
 pub mod States
-pub mod Telling
+pub mod steps

@@ -11,11 +11,8 @@ use Rattle.testing_rules_model.specs.declared.facts.HintIn.{HintIn}
 use Rattle.testing_rules_model.specs.declared.facts.UploadIn.{UploadIn}
 use Rattle.testing_rules_model.specs.declared.suite.RowIn.{RowIn}
 use Rattle.testing_rules_model.specs.Excuses.{asked_days, blocks, removes}
-use Rattle.testing_rules_model.specs.JudgedRows.{row_of}
 use Rattle.testing_rules_model.specs.Unstable.{is_of_source}
 use Rattle.testing_rules_excuses.specs.Said.{SaidLists}
-use Rattle.testing_rules_excuses.specs.declared.messages.Origin.{Origin}
-use Rattle.testing_rules_excuses.specs.declared.messages.Origin.TheVariants.{Bug, Row, Block, Removal}
 
 -- a message that gave a reason
 pub data OriginIn : Type 0 where
@@ -23,13 +20,6 @@ pub data OriginIn : Type 0 where
   FromRow : RowIn → OriginIn
   FromBlock : HintIn → OriginIn
   FromRemoval : HintIn → OriginIn
-
--- in the code's type
-abbrev pub origin_of : Origin → OriginIn
-origin_of (Bug b) = FromBug b.now
-origin_of (Row r) = FromRow (row_of r)
-origin_of (Block h) = FromBlock h.now
-origin_of (Removal h) = FromRemoval h.now
 
 -- the last message on the bug (Debian Developer's Reference 5.13.2)
 abbrev pub from_bugs : ℕ → List BugIn → List OriginIn

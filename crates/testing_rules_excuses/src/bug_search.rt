@@ -2,7 +2,7 @@
 
 ghost use Rattle.std.specs.Prelude.{◌≡◌, ◌==◌, true, filter, ltb, option_copied, option_to_list};
 ghost use Rattle.testing_rules_model.specs.Boxed.{unboxed};
-ghost use Rattle.testing_rules_model.specs.FactOrder.{AreByNumber};
+ghost use Rattle.testing_rules_model.specs.steps.FactOrder.{AreByNumber};
 
 use testing_rules_facts::place_of_bug;
 use testing_rules_model::BugIn;

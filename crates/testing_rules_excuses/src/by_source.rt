@@ -2,8 +2,8 @@
 
 ghost use Rattle.std.specs.Prelude.{◌≡◌, [], Some, None, if◌then◌else◌, filter, OnOk, IfOk, IsTrue};
 ghost use Rattle.std.specs.Str.{bytes_eq};
-ghost use Rattle.testing_rules_excuses.specs.BySource.{slot_at, joined_by, group_at, ground_at, is_among};
-ghost use Rattle.testing_rules_excuses.specs.LentUploads.{uploads_lent};
+ghost use Rattle.testing_rules_excuses.specs.steps.BySource.{slot_at, joined_by, group_at, ground_at, is_among};
+ghost use Rattle.testing_rules_excuses.specs.steps.LentUploads.{uploads_lent};
 ghost use Rattle.testing_rules_model.specs.Boxed.{unboxed};
 ghost use Rattle.testing_rules_model.specs.JudgedRows.{lent};
 ghost use Rattle.testing_rules_items.specs.Words.{Text};
@@ -27,9 +27,9 @@ pub struct SourceEvidence<'g, 'a> {
 }
 
 impl<'g, 'a> Model for SourceEvidence<'g, 'a> {
-    ghost use Rattle.testing_rules_model.specs.Excuses.{Ground};
+    ghost use Rattle.testing_rules_model.specs.steps.Grounds.{Ground};
     ghost use Rattle.testing_rules_model.specs.JudgedRows.{lent};
-    ghost use Rattle.testing_rules_excuses.specs.LentUploads.{uploads_lent};
+    ghost use Rattle.testing_rules_excuses.specs.steps.LentUploads.{uploads_lent};
 
     ghost Value = { Ground };
 

@@ -2,7 +2,7 @@
 
 ghost use Rattle.std.specs.Prelude.{◌≡◌, ◌≤◌, option_copied};
 ghost use Rattle.testing_rules_model.specs.Excuses as rules;
-ghost use Rattle.testing_rules_excuses.specs.LentUploads.{uploads_lent};
+ghost use Rattle.testing_rules_excuses.specs.steps.LentUploads.{uploads_lent};
 
 use crate::reasons::is_named;
 use deb_version::Version;

@@ -2,10 +2,11 @@
 
 ghost use Rattle.std.specs.Prelude.{◌≡◌, IfOk, IsTrue, filter, map, option_copied};
 ghost use Rattle.testing_rules_model.specs.Boxed.{unboxed};
-ghost use Rattle.testing_rules_excuses.specs.BySource.{excuse_by, excuses_by, ground_at, ground_from, is_among, news_of, part_of, told_of};
+ghost use Rattle.testing_rules_excuses.specs.steps.BySource.{excuse_by, excuses_by, ground_at, ground_from, is_among, news_of, part_of, told_of};
 ghost use Rattle.testing_rules_model.specs.Covered.{Covered};
 ghost use Rattle.testing_rules_model.specs.StandsFor.{StandsFor};
 ghost use Rattle.testing_rules_model.specs.Excuses as rules;
+ghost use Rattle.testing_rules_model.specs.steps.Grounds as grounds;
 ghost use Rattle.testing_rules_model.specs.Unstable as unstable;
 ghost use Rattle.testing_rules_model.specs.Unstable.{place_numbers};
 ghost use Rattle.testing_rules_items.specs.Words.{Text};
@@ -59,7 +60,7 @@ fn excuse_on(
     testing: Option<&Version>,
     upload: &UploadIn,
 ) -> Result<Excuse, NoMemory>
-    ensures { IfOk result (λ e. e ≡ rules.excuse_on (place_numbers archs.now) found.now (option_copied testing.entry) upload.now) }
+    ensures { IfOk result (λ e. e ≡ grounds.excuse_on (place_numbers archs.now) found.now (option_copied testing.entry) upload.now) }
 {
     let age = age_of(found.date, upload);
     let needed = days_needed(found.delays, found.hints, found.uploads, testing, upload);

@@ -2,11 +2,11 @@
 
 ghost use Rattle.std.specs.Prelude.{◌≡◌, ◌==◌, ◌&&◌, ◌++◌, true, IfOk, OnOk, map, option_copied};
 ghost use Rattle.testing_rules_model.specs.Boxed.{unboxed};
-ghost use Rattle.testing_rules_model.specs.FactOrder.{AreByNumber};
+ghost use Rattle.testing_rules_model.specs.steps.FactOrder.{AreByNumber};
 ghost use Rattle.testing_rules_model.specs.JudgedRows.{lent, row_of};
 ghost use Rattle.testing_rules_excuses.specs.Origins as rules;
-ghost use Rattle.testing_rules_excuses.specs.Origins.{origin_of};
-ghost use Rattle.testing_rules_excuses.specs.Said.{said_lists};
+ghost use Rattle.testing_rules_excuses.specs.steps.Origins.{origin_of};
+ghost use Rattle.testing_rules_excuses.specs.steps.Said.{said_lists};
 
 use crate::bug_search::bug_at;
 use crate::days::asked_days;

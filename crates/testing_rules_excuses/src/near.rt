@@ -2,6 +2,7 @@
 
 ghost use Rattle.std.specs.Prelude.{◌≡◌, option_copied};
 ghost use Rattle.testing_rules_model.specs.Excuses as rules;
+ghost use Rattle.testing_rules_model.specs.steps.Excuses as rules_steps;
 ghost use Rattle.testing_rules_model.specs.InOrder.{AreByName};
 
 use deb_version::Version;
@@ -16,7 +17,7 @@ pub fn source_near<'a>(
     place: usize,
 ) -> (Option<&'a SourceIn>, usize)
     requires { AreByName sources.now }
-    ensures { option_copied result.0 ≡ rules.entry_of sources.now name.now }
+    ensures { option_copied result.0 ≡ rules_steps.entry_of sources.now name.now }
 {
     match source_place_near(sources, name, place) {
         Ok(place) => (Some(&sources[place]), place + 1),

@@ -4,8 +4,8 @@
 ghost use Rattle.std.specs.Prelude.{◌≡◌, ◌∷◌, [], IfOk, IsTrue, OnOk, Some, if◌then◌else◌, unwrap_or};
 ghost use Rattle.std.specs.List.{list_any};
 ghost use Rattle.std.specs.Str.{bytes_eq};
-ghost use Rattle.testing_rules_excuses.specs.BySource.{slot_at, joined_by, group_at, is_among};
-ghost use Rattle.testing_rules_excuses.specs.OwnHints.{wished, is_for_all, started, named_part, named_parts, item_part, item_parts, parts_of, own_hints, joined_with};
+ghost use Rattle.testing_rules_excuses.specs.steps.BySource.{slot_at, joined_by, group_at, is_among};
+ghost use Rattle.testing_rules_excuses.specs.steps.OwnHints.{wished, is_for_all, started, named_part, named_parts, item_part, item_parts, parts_of, own_hints, joined_with};
 ghost use Rattle.testing_rules_items.specs.Words.{Text as Word};
 
 use crate::by_source::News;

@@ -6,6 +6,7 @@ ghost use Rattle.testing_rules_model.specs.Unstable.{place_numbers};
 ghost use Rattle.std.specs.List.{list_any};
 ghost use Rattle.std.specs.Str.{bytes_eq};
 ghost use Rattle.testing_rules_model.specs.Excuses as rules;
+ghost use Rattle.testing_rules_model.specs.steps.Excuses as rules_steps;
 ghost use Rattle.testing_rules_model.specs.JudgedRows.{row_of, lent};
 ghost use Rattle.testing_rules_items.specs.Words.{only_if};
 ghost use Rattle.testing_rules_model.specs.declared.excuse.Reason.TheVariants.{TooYoung, NewBug, NoBinaries, MissingOn, Blocked, RemovalAsked};
@@ -63,13 +64,13 @@ pub fn removes(name: &str, version: &Version, hint: &Hint) -> bool
 }
 
 fn asks_block(hints: &[HintIn], name: &str) -> bool
-    ensures { result ≡ rules.asks_block hints.now name.now }
+    ensures { result ≡ rules_steps.asks_block hints.now name.now }
 {
     hints.iter().any(|hint| blocks(name, &hint.hint))
 }
 
 fn lifts_block(hints: &[HintIn], name: &str, version: &Version) -> bool
-    ensures { result ≡ rules.lifts_block hints.now name.now version.now }
+    ensures { result ≡ rules_steps.lifts_block hints.now name.now version.now }
 {
     hints.iter().any(|hint| unblocks(name, version, &hint.hint))
 }
@@ -159,14 +160,14 @@ fn one_current(rows: &[LentRow], upload: &UploadIn) -> bool
 
 /// The source has a row of the architecture.
 fn has_row_on(rows: &[LentRow], upload: &UploadIn, arch: u32) -> bool
-    ensures { result ≡ rules.has_row_on (lent rows.now) upload.now arch }
+    ensures { result ≡ rules_steps.has_row_on (lent rows.now) upload.now arch }
 {
     one_on(rows, upload, arch)
 }
 
 /// The source has a current row of the architecture.
 fn has_current_on(rows: &[LentRow], upload: &UploadIn, arch: u32) -> bool
-    ensures { result ≡ rules.has_current_on (lent rows.now) upload.now arch }
+    ensures { result ≡ rules_steps.has_current_on (lent rows.now) upload.now arch }
 {
     one_current_on(rows, upload, arch)
 }

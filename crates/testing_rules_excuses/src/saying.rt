@@ -4,8 +4,8 @@ ghost use Rattle.std.specs.Prelude.{◌≡◌, IfOk, filter, option_copied};
 ghost use Rattle.testing_rules_model.specs.Excuses as excuses;
 ghost use Rattle.testing_rules_model.specs.JudgedRows.{lent};
 ghost use Rattle.testing_rules_model.specs.Unstable as unstable;
-ghost use Rattle.testing_rules_excuses.specs.Said as rules;
-ghost use Rattle.testing_rules_excuses.specs.Said.{said_lists};
+ghost use Rattle.testing_rules_excuses.specs.steps.Said as rules_steps;
+ghost use Rattle.testing_rules_excuses.specs.steps.Said.{said_lists};
 
 use crate::excusing::in_force;
 use crate::near::testing_version_near;
@@ -72,7 +72,7 @@ pub fn said_of<'a>(
     testing: &'a Testing,
     upload: &UploadIn,
 ) -> Result<SourceFacts<'a>, NoMemory>
-    ensures { IfOk result (λ said. said_lists said ≡ rules.said_of archs.now facts.now testing.now upload.now) }
+    ensures { IfOk result (λ said. said_lists said ≡ rules_steps.said_of archs.now facts.now testing.now upload.now) }
 {
     let rows = rows_of(alloc, archs, facts, upload)?;
     let hints = in_force(alloc, facts.hints(), facts.unhints())?;

@@ -1,9 +1,9 @@
 //! A few of all sources, by the hashes of their names.
 
 ghost use Rattle.std.specs.Prelude.{◌≡◌, IfOk};
-ghost use Rattle.testing_rules_model.specs.SourceFilter as rules;
-ghost use Rattle.testing_rules_facts.specs.SourceFilter as facts_rules;
-ghost use Rattle.testing_rules_excuses.specs.SourceFilter as excuses_rules;
+ghost use Rattle.testing_rules_model.specs.steps.SourceFilter as rules;
+ghost use Rattle.testing_rules_facts.specs.steps.SourceFilter as facts_rules;
+ghost use Rattle.testing_rules_excuses.specs.steps.SourceFilter as excuses_rules;
 ghost use Rattle.testing_rules_items.specs.Words.{Text as Word};
 
 use crate::by_source::News;

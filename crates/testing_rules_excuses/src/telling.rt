@@ -6,10 +6,10 @@ ghost use Rattle.testing_rules_model.specs.JudgedRows.{row_of};
 ghost use Rattle.testing_rules_excuses.specs.Lines as lines;
 ghost use Rattle.testing_rules_excuses.specs.Lines.{IsOriginText};
 ghost use Rattle.testing_rules_excuses.specs.Origins as rules;
-ghost use Rattle.testing_rules_excuses.specs.Origins.{origin_of};
-ghost use Rattle.testing_rules_excuses.specs.Said.{said_lists};
-ghost use Rattle.testing_rules_excuses.specs.Telling as told;
-ghost use Rattle.testing_rules_excuses.specs.Telling.{IsOrderKnown};
+ghost use Rattle.testing_rules_excuses.specs.steps.Origins.{origin_of};
+ghost use Rattle.testing_rules_excuses.specs.steps.Said.{said_lists};
+ghost use Rattle.testing_rules_excuses.specs.steps.Telling as told;
+ghost use Rattle.testing_rules_excuses.specs.steps.Telling.{IsOrderKnown};
 
 use crate::bug_search::are_by_number;
 use crate::messages::{Origin, age_hint, origins_by};

@@ -17,7 +17,7 @@ use Rattle.testing_rules_model.specs.FactRows.{number_of, is_kind, is_row, times
 use Rattle.testing_rules_model.specs.declared.fact_row.FactKind.TheVariants.{Source}
 use Rattle.testing_rules_model.proofs.FactKinds.{kind_is}
 use Rattle.testing_rules_fact_order.specs.declared.row_changes.Side.TheVariants.{Came, Left}
-use Rattle.testing_rules_fact_order.specs.Net.{IsBelowFrom, IsNet, IsTurn}
+use Rattle.testing_rules_fact_order.specs.steps.Net.{IsBelowFrom, IsNet, IsTurn}
 use Rattle.testing_rules_model.specs.FactDifference.{IsDifference}
 
 pub row_total : IsTotalOrder row_order

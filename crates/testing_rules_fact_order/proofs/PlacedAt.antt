@@ -7,7 +7,7 @@ use Rattle.std.proofs.lemmas.Option.{slice_get_past, slice_get_read}
 use Rattle.std.proofs.lemmas.Bool.Decides.{nat_tests}
 use Rattle.deb_control.specs.declared.binary.Binary.{Binary}
 use Rattle.testing_rules_model.specs.Covered.{placed_from}
-use Rattle.testing_rules_fact_order.specs.Entries.{placed_at}
+use Rattle.testing_rules_fact_order.specs.steps.Entries.{placed_at}
 
 module _ (n k : ℕ) where
   -- before the first place there is none

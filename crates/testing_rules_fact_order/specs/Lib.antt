@@ -1,4 +1,2 @@
-pub mod Trimming
 pub mod Uploads
-pub mod Entries
-pub mod Net
+pub mod steps

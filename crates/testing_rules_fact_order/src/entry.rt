@@ -2,7 +2,7 @@
 
 ghost use Rattle.std.specs.Prelude.{◌≡◌, ◌+◌, IfOk};
 ghost use Rattle.testing_rules_model.specs.Covered.{CoveredItem, placed_from};
-ghost use Rattle.testing_rules_fact_order.specs.Entries as entries;
+ghost use Rattle.testing_rules_fact_order.specs.steps.Entries as entries;
 
 use deb_control::{Binary, Text};
 use deb_version::{NoMemory, Version};

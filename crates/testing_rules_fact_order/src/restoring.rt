@@ -1,7 +1,7 @@
 //! The content of a message, for one kind only: the restored fact of a kept row.
 
 ghost use Rattle.std.specs.Prelude.{◌≡◌, ◌==◌, ℕ, IfOk, find, option_copied, option_map};
-ghost use Rattle.testing_rules_fact_order.specs.Entries.{placed_at};
+ghost use Rattle.testing_rules_fact_order.specs.steps.Entries.{placed_at};
 ghost use Rattle.testing_rules_model.specs.Covered as covered;
 ghost use Rattle.testing_rules_model.specs.Covered.{CoveredItem, placed_from};
 

@@ -5,7 +5,7 @@ ghost use Rattle.std.specs.List.Sorted.{IsSorted};
 ghost use Rattle.testing_rules_model.specs.FactDifference.{IsDifference};
 ghost use Rattle.testing_rules_model.specs.FactRows.{times, row_order};
 ghost use Rattle.testing_rules_model.specs.declared.fact_row.FactRow.{FactRow as ARow};
-ghost use Rattle.testing_rules_fact_order.specs.Net.{IsTurn};
+ghost use Rattle.testing_rules_fact_order.specs.steps.Net.{IsTurn};
 
 use deb_version::NoMemory;
 use std::alloc::Global;

@@ -2,6 +2,7 @@
 
 ghost use Rattle.std.specs.Prelude.{◌≡◌};
 ghost use Rattle.testing_rules_model.specs.FactRows as rows;
+ghost use Rattle.testing_rules_model.specs.steps.FactRows as rows_steps;
 
 use testing_rules_model::{
     BugIn, BuildIn, DelaysIn, DropIn, FactKind, FactRow, HintIn, UnhintIn, UploadIn,
@@ -21,7 +22,7 @@ fn row(kind: FactKind, sender: u32, number: u32) -> FactRow
 
 /// The row of an unstable source.
 pub fn source_row(upload: &UploadIn) -> FactRow
-    ensures { result ≡ rows.source_row upload.now }
+    ensures { result ≡ rows_steps.source_row upload.now }
 {
     row(FactKind::Source, upload.sender, upload.number)
 }
@@ -35,7 +36,7 @@ pub fn upload_row(upload: &UploadIn) -> FactRow
 
 /// The row of an unstable row.
 pub fn build_row(build: &BuildIn) -> FactRow
-    ensures { result ≡ rows.build_row build.now }
+    ensures { result ≡ rows_steps.build_row build.now }
 {
     FactRow {
         kind: FactKind::Build,
@@ -47,35 +48,35 @@ pub fn build_row(build: &BuildIn) -> FactRow
 
 /// The row of a greatest drop.
 pub fn drop_row(drop: &DropIn) -> FactRow
-    ensures { result ≡ rows.drop_row drop.now }
+    ensures { result ≡ rows_steps.drop_row drop.now }
 {
     row(FactKind::Drop, drop.sender, drop.number)
 }
 
 /// The row of a bug's last message.
 pub fn bug_row(bug: &BugIn) -> FactRow
-    ensures { result ≡ rows.bug_row bug.now }
+    ensures { result ≡ rows_steps.bug_row bug.now }
 {
     row(FactKind::Bug, bug.sender, bug.number)
 }
 
 /// The row of a hint.
 pub fn hint_row(hint: &HintIn) -> FactRow
-    ensures { result ≡ rows.hint_row hint.now }
+    ensures { result ≡ rows_steps.hint_row hint.now }
 {
     row(FactKind::Hint, hint.sender, hint.number)
 }
 
 /// The row of an unhint.
 pub fn unhint_row(unhint: &UnhintIn) -> FactRow
-    ensures { result ≡ rows.unhint_row unhint.now }
+    ensures { result ≡ rows_steps.unhint_row unhint.now }
 {
     row(FactKind::Unhint, unhint.sender, unhint.number)
 }
 
 /// The row of the last delays.
 pub fn delays_row(delays: &DelaysIn) -> FactRow
-    ensures { result ≡ rows.delays_row delays.now }
+    ensures { result ≡ rows_steps.delays_row delays.now }
 {
     row(FactKind::Delays, delays.sender, delays.number)
 }

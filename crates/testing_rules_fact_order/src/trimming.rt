@@ -3,11 +3,12 @@
 ghost use Rattle.std.specs.Prelude.{◌≡◌, ◌+◌, ◌≤◌, ◌++◌, not, filter, length, map, option_copied, option_map, vec_len, vec_capacity};
 ghost use Rattle.std.specs.List.Sorted.{IsBinarySearchResult, IsSearchInRange};
 ghost use Rattle.testing_rules_items.specs.Words.{byte_cmp};
-ghost use Rattle.testing_rules_model.specs.Excuses.{entry_of, is_news};
+ghost use Rattle.testing_rules_model.specs.Excuses.{is_news};
+ghost use Rattle.testing_rules_model.specs.steps.Excuses.{entry_of};
 ghost use Rattle.testing_rules_model.specs.FactRows.{upload_row};
 ghost use Rattle.testing_rules_model.specs.InOrder.{AreByName};
 ghost use Rattle.testing_rules_model.specs.KeptFacts.{counts_beside};
-ghost use Rattle.testing_rules_fact_order.specs.Trimming.{with_sources};
+ghost use Rattle.testing_rules_fact_order.specs.steps.Trimming.{with_sources};
 
 use crate::rows::upload_row;
 use deb_version::Version;

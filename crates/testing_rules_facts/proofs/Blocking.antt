@@ -10,12 +10,13 @@ use Rattle.std.proofs.lemmas.List.{append_assoc, append-nil, drop_all}
 use Rattle.std.proofs.Math.Seq.{drop-cons}
 use Rattle.testing_rules_model.specs.declared.facts.BuildIn.{BuildIn}
 use Rattle.testing_rules_model.specs.declared.facts.DropIn.{DropIn}
-use Rattle.testing_rules_facts.specs.Blocks.{joined, HasRows, AreBlocks, begins_above, IsBlockFor}
+use Rattle.testing_rules_facts.specs.Blocks.{joined}
+use Rattle.testing_rules_facts.specs.steps.Blocks.{HasRows, AreBlocks, begins_above, IsBlockFor}
 use Rattle.testing_rules_model.specs.FactOrder.{AreByPair}
 use Rattle.testing_rules_model.specs.WithMessage.{put_first, with_build, with_drop, outlives}
 use Rattle.testing_rules_model.specs.Unstable.{pair_order, pair_of, drop_pair, build_order}
 use Rattle.testing_rules_items.specs.Words.{Text}
-use Rattle.testing_rules_facts.specs.ElementShifts.{way_given, come_in}
+use Rattle.testing_rules_facts.specs.steps.ElementShifts.{way_given, come_in}
 use Rattle.testing_rules_facts.proofs.KeySlots.{outlives-other}
 use Rattle.testing_rules_facts.proofs.KeyShifts.{shift-part, gone-part}
 use Rattle.testing_rules_model.proofs.Lifted.{AllBelow, AllAbove, sorted-front, sorted-back, below-front, above-back, put-part, kept-part}

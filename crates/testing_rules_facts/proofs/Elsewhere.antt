@@ -11,8 +11,9 @@ use Rattle.std.proofs.lemmas.Bool.{cases_Bool, false≢true}
 use Rattle.std.proofs.lemmas.Cmp.{upto, tied_itself}
 use Rattle.std.proofs.lemmas.Slice.Eq.{bytes_eq-Decides}
 use Rattle.testing_rules_model.specs.FactOrder.{AreByPair}
-use Rattle.testing_rules_model.specs.Unstable.{pair_order, pair_of, row_at, built_on}
-use Rattle.testing_rules_facts.specs.SourceFilter.{filter_passes, passing_builds}
+use Rattle.testing_rules_model.specs.Unstable.{pair_order, pair_of, row_at}
+use Rattle.testing_rules_model.specs.steps.Unstable.{built_on}
+use Rattle.testing_rules_facts.specs.steps.SourceFilter.{filter_passes, passing_builds}
 use Rattle.testing_rules_items.specs.Words.{Text, byte_cmp}
 use Rattle.testing_rules_model.specs.declared.facts.BuildIn.{BuildIn}
 use Rattle.testing_rules_model.specs.declared.suite.RowIn.{RowIn}

@@ -17,8 +17,9 @@ use Rattle.testing_rules_model.specs.declared.facts.BugIn.{BugIn}
 use Rattle.testing_rules_model.specs.declared.facts.HintIn.{HintIn}
 use Rattle.testing_rules_model.specs.declared.facts.UnhintIn.{UnhintIn}
 use Rattle.testing_rules_model.specs.declared.facts.DelaysIn.{DelaysIn}
-use Rattle.testing_rules_model.specs.WithMessage.{with_upload, with_drop, with_greatest, with_build, with_builds, with_bug, with_hint, with_unhint, with_delays, stands_beside}
-use Rattle.testing_rules_facts.specs.Entries.{entry_of, with_entry}
+use Rattle.testing_rules_model.specs.WithMessage.{with_upload, with_drop, with_greatest, with_build, with_builds, with_bug, with_hint, with_unhint, with_delays}
+use Rattle.testing_rules_model.specs.steps.WithMessage.{stands_beside}
+use Rattle.testing_rules_facts.specs.steps.Entries.{entry_of, with_entry}
 use Rattle.testing_rules_model.proofs.MoreMail.{sources-more, drops-more, bugs-more, rows-drop, rows-build}
 use Rattle.testing_rules_model.proofs.GreatestDrops.{greatest-decide}
 use Rattle.testing_rules_model.proofs.Sets.{first_or_rest, at_front}

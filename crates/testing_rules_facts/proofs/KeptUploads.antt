@@ -16,7 +16,7 @@ use Rattle.testing_rules_model.specs.Excuses.{urgency_rank}
 use Rattle.testing_rules_model.proofs.MoreMail.{nat_tied, text_tied, then_equal}
 use Rattle.testing_rules_model.proofs.Ordered.{sorted-kept}
 use Rattle.testing_rules_model.proofs.Orders.{text_order}
-use Rattle.testing_rules_facts.specs.ElementShifts.{way_given, come_in}
+use Rattle.testing_rules_facts.specs.steps.ElementShifts.{way_given, come_in}
 use Rattle.testing_rules_fact_order.specs.Uploads.{message_order, AreByMessage, first_stays, with_kept}
 use Rattle.testing_rules_facts.proofs.KeyMembers.{first_from, first_own, first_others}
 use Rattle.testing_rules_facts.proofs.KeyShifts.{come-at, none-at}

@@ -7,7 +7,7 @@ use Rattle.std.specs.Cmp.{IsTotalOrder}
 use Rattle.std.specs.declared.cmp.Ordering.{Ordering}
 use Rattle.std.specs.declared.cmp.Ordering.TheVariants.{Less, Equal, Greater}
 use Rattle.std.specs.Ordering.{is_lt, is_eq}
-use Rattle.testing_rules_facts.specs.ElementShifts.{way_given, come_in}
+use Rattle.testing_rules_facts.specs.steps.ElementShifts.{way_given, come_in}
 use Rattle.testing_rules_model.proofs.KeyOrder.{below_at, turned}
 use Rattle.std.proofs.lemmas.Bool.{cases_lt}
 use Rattle.testing_rules_model.proofs.Lifted.{AllBelow, AllAbove}

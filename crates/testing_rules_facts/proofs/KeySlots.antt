@@ -17,11 +17,12 @@ use Rattle.testing_rules_model.specs.declared.facts.DropIn.{DropIn}
 use Rattle.testing_rules_model.specs.declared.facts.BugIn.{BugIn}
 use Rattle.testing_rules_model.specs.declared.facts.UploadIn.{UploadIn}
 use Rattle.testing_rules_facts.specs.declared.taken.Slot.TheVariants.{Over, Before, Nowhere}
-use Rattle.testing_rules_facts.specs.Slots.{IsSlotFor}
+use Rattle.testing_rules_facts.specs.steps.Slots.{IsSlotFor}
 use Rattle.testing_rules_items.specs.Words.{put_by}
 use Rattle.testing_rules_model.specs.Unstable.{pair_order, pair_of, drop_pair, upload_order, build_order, drop_order, bug_order}
 use Rattle.testing_rules_model.specs.WithMessage.{put_first, with_upload, with_build, with_builds, with_drop, with_greatest, with_bug, outlives}
-use Rattle.testing_rules_model.specs.FactOrder.{AreBySource, AreByPair, AreDropsByPair, AreByNumber}
+use Rattle.testing_rules_model.specs.FactOrder.{AreBySource, AreByPair}
+use Rattle.testing_rules_model.specs.steps.FactOrder.{AreDropsByPair, AreByNumber}
 use Rattle.testing_rules_model.proofs.KeyOrder.{below_at, turned}
 use Rattle.testing_rules_model.proofs.Picks.{rises-put}
 use Rattle.testing_rules_model.proofs.Ordered.{sorted-kept}

@@ -9,7 +9,7 @@ use Rattle.std.specs.declared.cmp.Ordering.{Ordering}
 use Rattle.std.specs.declared.cmp.Ordering.TheVariants.{Less, Equal, Greater}
 use Rattle.std.specs.Ordering.{ordering_index}
 use Rattle.testing_rules_items.specs.Words.{put_by}
-use Rattle.testing_rules_facts.specs.ElementShifts.{put_over}
+use Rattle.testing_rules_facts.specs.steps.ElementShifts.{put_over}
 use Rattle.testing_rules_model.proofs.KeyOrder.{below_at, turned, searchable}
 
 module _ {A K : Type 0} (key : A → K) {cmp : K → K → Ordering} (o : IsTotalOrder cmp) (x : A) where

@@ -19,13 +19,14 @@ use Rattle.testing_rules_model.specs.FactLists.{FactLists, no_facts}
 use Rattle.testing_rules_model.specs.Tells.{AreSaidBy, AreOrderly, Tells}
 use Rattle.testing_rules_model.specs.Covered.{Covered, placed_from, uploads_in, builds_in, drops_in, bugs_in, hints_in, unhints_in, delays_in}
 use Rattle.testing_rules_model.specs.Unstable.{upload_order, build_order, drop_order, bug_order, hint_order, unhint_order, delays_order, pair_of, drop_pair}
-use Rattle.testing_rules_model.specs.WithMessage.{with_upload, with_build, with_builds, with_greatest, with_bug, with_hint, with_unhint, with_delays, outlives, stands_beside}
+use Rattle.testing_rules_model.specs.WithMessage.{with_upload, with_build, with_builds, with_greatest, with_bug, with_hint, with_unhint, with_delays, outlives}
+use Rattle.testing_rules_model.specs.steps.WithMessage.{stands_beside}
 use Rattle.testing_rules_model.proofs.Least.{from_filter}
 use Rattle.testing_rules_model.proofs.MoreMail.{pair_total}
 use Rattle.testing_rules_model.proofs.Orders.{text_order, hint_total, unhint_total}
 use Rattle.testing_rules_model.proofs.Picks.{rises-put}
 use Rattle.testing_rules_model.proofs.Sets.{first_or_rest, at_front, put_from}
-use Rattle.testing_rules_facts.specs.Entries.{entry_of, with_entry}
+use Rattle.testing_rules_facts.specs.steps.Entries.{entry_of, with_entry}
 use Rattle.testing_rules_fact_order.specs.Uploads.{with_kept}
 use Rattle.testing_rules_facts.proofs.KeyMembers.{first_from}
 use Rattle.testing_rules_facts.proofs.KeySlots.{by_source-upload, by_pair-builds, by_pair-drop, drops_by_pair-drop, by_number-bug}

@@ -6,7 +6,7 @@ use Rattle.testing_rules_model.specs.declared.facts.BuildIn.{BuildIn}
 use Rattle.testing_rules_model.specs.declared.fact_row.FactRow.{FactRow}
 use Rattle.testing_rules_model.specs.WithMessage.{with_build, with_builds}
 use Rattle.testing_rules_model.proofs.BuildLists.{builds-last}
-use Rattle.testing_rules_facts.specs.ElementShifts.{Shift, no_shift, shift_build, shift_builds}
+use Rattle.testing_rules_facts.specs.steps.ElementShifts.{Shift, no_shift, shift_build, shift_builds}
 
 -- of a shift one side, which goes with joining
 module _ (side : Shift → List FactRow) where

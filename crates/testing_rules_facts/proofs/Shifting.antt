@@ -14,12 +14,14 @@ use Rattle.testing_rules_model.specs.declared.facts.DropIn.{DropIn}
 use Rattle.testing_rules_model.specs.FactLists.{FactLists}
 use Rattle.testing_rules_items.specs.Words.{byte_cmp, put_by}
 use Rattle.testing_rules_model.specs.Unstable.{upload_order, build_order, pair_order, pair_of, drop_order, drop_pair, bug_order, hint_order, unhint_order}
-use Rattle.testing_rules_model.specs.WithMessage.{put_first, with_builds, with_drop, with_greatest, outlives, stands_beside}
-use Rattle.testing_rules_facts.specs.Entries.{lists_with, with_entry}
+use Rattle.testing_rules_model.specs.WithMessage.{put_first, with_builds, with_drop, with_greatest, outlives}
+use Rattle.testing_rules_model.specs.steps.WithMessage.{stands_beside}
+use Rattle.testing_rules_facts.specs.steps.Entries.{lists_with, with_entry}
 use Rattle.testing_rules_model.specs.FactDifference.{IsChangedFrom}
 use Rattle.testing_rules_model.specs.declared.fact_row.FactRow.{FactRow}
-use Rattle.testing_rules_model.specs.FactRows.{source_row, upload_row, build_row, drop_row, bug_row, hint_row, unhint_row, delays_row, rows_of, is_row, times}
-use Rattle.testing_rules_facts.specs.Shifts.{way_given, come_in, put_over, Shift, shift_build, shift_builds, shift_of, Shifts}
+use Rattle.testing_rules_model.specs.FactRows.{upload_row, rows_of, is_row, times}
+use Rattle.testing_rules_model.specs.steps.FactRows.{source_row, build_row, drop_row, bug_row, hint_row, unhint_row, delays_row}
+use Rattle.testing_rules_facts.specs.steps.Shifts.{way_given, come_in, put_over, Shift, shift_build, shift_builds, shift_of, Shifts}
 use Rattle.testing_rules_fact_order.specs.Uploads.{message_order, first_stays}
 use Rattle.testing_rules_facts.proofs.KeptUploads.{none_gives_way}
 

@@ -3,7 +3,7 @@ use Rattle.std.specs.Prelude.{List}
 use Rattle.std.proofs.Common.{◌≡◌, ◌∙◌, sym, arith, Box, Global}
 use Rattle.testing_rules_facts.specs.declared.taken.Slot.{Slot}
 use Rattle.testing_rules_facts.specs.declared.taken.Slot.TheVariants.{Over, Before, Nowhere}
-use Rattle.testing_rules_facts.specs.Slots.{IsSlotFor, IsSlotIn, slotted}
+use Rattle.testing_rules_facts.specs.steps.Slots.{IsSlotFor, IsSlotIn, slotted}
 use Rattle.testing_rules_model.specs.Boxed.{unboxed}
 use Rattle.testing_rules_model.proofs.Unboxed.{unboxed-set, unboxed-insert, unboxed-length}
 

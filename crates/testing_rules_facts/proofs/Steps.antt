@@ -8,7 +8,7 @@ use Rattle.std.specs.declared.cmp.Ordering.TheVariants.{Less, Equal, Greater}
 use Rattle.std.specs.Ordering.{is_lt}
 use Rattle.testing_rules_facts.specs.declared.taken.Slot.TheVariants.{Over, Before, Nowhere}
 use Rattle.testing_rules_facts.specs.declared.taken.Placement.{Placement}
-use Rattle.testing_rules_facts.specs.Slots.{IsSlotFor, IsStep}
+use Rattle.testing_rules_facts.specs.steps.Slots.{IsSlotFor, IsStep}
 use Rattle.testing_rules_model.specs.WithMessage.{put_first}
 use Rattle.testing_rules_model.specs.declared.fact_row.FactRow.{FactRow}
 use Rattle.testing_rules_facts.proofs.KeySlots.{found-over, found-nowhere, found-before}

@@ -1,10 +1,5 @@
 pub mod Blocks
-pub mod ElementShifts
-pub mod Entries
-pub mod HintOrder
 pub mod Restored
-pub mod Shifts
-pub mod Slots
-pub mod SourceFilter
-pub use Rattle.testing_rules_fact_order.specs.Trimming
+pub mod steps
+pub use Rattle.testing_rules_fact_order.specs.steps.Trimming
 pub use Rattle.testing_rules_fact_order.specs.Uploads

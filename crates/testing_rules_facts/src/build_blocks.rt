@@ -2,13 +2,16 @@
 
 ghost use Rattle.std.specs.Prelude.{◌≡◌, ◌==◌, ◌<◌, ◌≤◌, ◌+◌, ◌*◌, ◌^◌, ℕ, [], ◌++◌, IfOk, OnOk, OnErr, IsTrue, IsFalse, filter, length, map, not, option_to_list, slice_index_or, true, false, vec_len, vec_capacity};
 ghost use Rattle.std.specs.Option.{IfSome};
-ghost use Rattle.testing_rules_facts.specs.Blocks.{joined, upper_rows, HasRows, AreBlocks, begins_above, IsBlockFor};
-ghost use Rattle.testing_rules_facts.specs.ElementShifts.{shift_builds, IsShift};
+ghost use Rattle.testing_rules_facts.specs.Blocks.{joined};
+ghost use Rattle.testing_rules_facts.specs.steps.Blocks.{upper_rows, HasRows, AreBlocks, begins_above, IsBlockFor};
+ghost use Rattle.testing_rules_facts.specs.steps.ElementShifts.{shift_builds, IsShift};
 ghost use Rattle.testing_rules_model.specs.Boxed.{unboxed};
-ghost use Rattle.testing_rules_model.specs.FactOrder.{AreByPair, AreDropsByPair};
-ghost use Rattle.testing_rules_model.specs.FactRows.{build_row};
+ghost use Rattle.testing_rules_model.specs.FactOrder.{AreByPair};
+ghost use Rattle.testing_rules_model.specs.steps.FactOrder.{AreDropsByPair};
+ghost use Rattle.testing_rules_model.specs.steps.FactRows.{build_row};
 ghost use Rattle.testing_rules_model.specs.Unstable as unstable;
 ghost use Rattle.testing_rules_model.specs.WithMessage as taken;
+ghost use Rattle.testing_rules_model.specs.steps.WithMessage as taken_steps;
 
 use crate::taken::{order_pair, put_build, remove_dropped, stands_beside};
 use deb_control::Binary;
@@ -31,7 +34,7 @@ pub struct BuildBlock {
 impl Model for BuildBlock {
     ghost use Rattle.std.specs.Prelude.{List, vec_len, vec_capacity};
     ghost use Rattle.testing_rules_model.specs.declared.facts.BuildIn.{BuildIn};
-    ghost use Rattle.testing_rules_facts.specs.Blocks.{IsRoomy};
+    ghost use Rattle.testing_rules_facts.specs.steps.Blocks.{IsRoomy};
 
     ghost Value = { List BuildIn };
 
@@ -49,7 +52,7 @@ struct Spare {
 impl Model for Spare {
     ghost use Rattle.std.specs.Prelude.{List, vec_capacity};
     ghost use Rattle.testing_rules_model.specs.declared.facts.BuildIn.{BuildIn};
-    ghost use Rattle.testing_rules_facts.specs.Blocks.{IsSpare};
+    ghost use Rattle.testing_rules_facts.specs.steps.Blocks.{IsSpare};
 
     ghost Value = { List BuildIn };
 
@@ -389,10 +392,10 @@ fn put_builds(
     requires drops { AreDropsByPair (unboxed drops.now) }
     requires room_came { vec_len log.old.came + vec_len coming ≤ vec_capacity log.old.came }
     requires room_left { vec_len log.old.left + vec_len coming ≤ vec_capacity log.old.left }
-    ensures rows { joined held.new.items ≡ taken.with_builds (taken.stands_beside (unboxed drops.now)) coming.items (joined held.old.items) }
+    ensures rows { joined held.new.items ≡ taken.with_builds (taken_steps.stands_beside (unboxed drops.now)) coming.items (joined held.old.items) }
     ensures filled { AreBlocks held.new.items }
-    ensures came { log.new.came.items ≡ log.old.came.items ++ (shift_builds (taken.stands_beside (unboxed drops.now)) coming.items (joined held.old.items)).came }
-    ensures left { log.new.left.items ≡ log.old.left.items ++ (shift_builds (taken.stands_beside (unboxed drops.now)) coming.items (joined held.old.items)).left }
+    ensures came { log.new.came.items ≡ log.old.came.items ++ (shift_builds (taken_steps.stands_beside (unboxed drops.now)) coming.items (joined held.old.items)).came }
+    ensures left { log.new.left.items ≡ log.old.left.items ++ (shift_builds (taken_steps.stands_beside (unboxed drops.now)) coming.items (joined held.old.items)).left }
     ensures len { vec_len log.new.left ≤ vec_len log.old.left + vec_len coming }
     ensures capacity { vec_capacity log.old.left ≤ vec_capacity log.new.left }
 {
@@ -445,7 +448,8 @@ impl Drop for BuildBlocks {
 impl Model for BuildBlocks {
     ghost use Rattle.std.specs.Prelude.{List};
     ghost use Rattle.testing_rules_model.specs.declared.facts.BuildIn.{BuildIn};
-    ghost use Rattle.testing_rules_facts.specs.Blocks.{joined, AreBlocks};
+    ghost use Rattle.testing_rules_facts.specs.Blocks.{joined};
+    ghost use Rattle.testing_rules_facts.specs.steps.Blocks.{AreBlocks};
 
     ghost Value = { List BuildIn };
 
@@ -506,12 +510,12 @@ impl BuildBlocks {
         requires drops { AreDropsByPair (unboxed drops.now) }
         requires room_came { vec_len log.old.came + vec_len builds ≤ vec_capacity log.old.came }
         requires room_left { vec_len log.old.left + vec_len builds ≤ vec_capacity log.old.left }
-        ensures came { OnOk result (log.new.came.items ≡ log.old.came.items ++ (shift_builds (taken.stands_beside (unboxed drops.now)) builds.items self.old).came) }
-        ensures left { OnOk result (log.new.left.items ≡ log.old.left.items ++ (shift_builds (taken.stands_beside (unboxed drops.now)) builds.items self.old).left) }
+        ensures came { OnOk result (log.new.came.items ≡ log.old.came.items ++ (shift_builds (taken_steps.stands_beside (unboxed drops.now)) builds.items self.old).came) }
+        ensures left { OnOk result (log.new.left.items ≡ log.old.left.items ++ (shift_builds (taken_steps.stands_beside (unboxed drops.now)) builds.items self.old).left) }
         ensures len { OnOk result (vec_len log.new.left ≤ vec_len log.old.left + vec_len builds) }
         ensures capacity { OnOk result (vec_capacity log.old.left ≤ vec_capacity log.new.left) }
         ensures log { OnErr result (log.new ≡ log.old) }
-        ensures ok { OnOk result (self.new ≡ taken.with_builds (taken.stands_beside (unboxed drops.now)) builds.items self.old) }
+        ensures ok { OnOk result (self.new ≡ taken.with_builds (taken_steps.stands_beside (unboxed drops.now)) builds.items self.old) }
         ensures err { OnErr result (self.new ≡ self.old) }
     {
         top_up(alloc, &mut self.spares, builds.len())?;

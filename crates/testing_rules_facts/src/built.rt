@@ -8,7 +8,8 @@ ghost use Rattle.testing_rules_model.specs.FactOrder.{AreByPair};
 ghost use Rattle.testing_rules_model.specs.InOrder.{AreByKey};
 ghost use Rattle.testing_rules_model.specs.JudgedRows.{row_of, lent};
 ghost use Rattle.testing_rules_model.specs.Unstable as unstable;
-ghost use Rattle.testing_rules_facts.specs.SourceFilter.{filter_passes, passing_builds};
+ghost use Rattle.testing_rules_model.specs.steps.Unstable as unstable_steps;
+ghost use Rattle.testing_rules_facts.specs.steps.SourceFilter.{filter_passes, passing_builds};
 
 use crate::build_blocks::{BuildBlock, BuildBlocks};
 use crate::source_filter::{SourceFilter, filter_passes};
@@ -46,7 +47,7 @@ fn push_built<'a>(
     place: u32,
     arch: &str,
 ) -> Result<(), NoMemory>
-    ensures { OnOk result (lent rows.new.items ≡ lent rows.old.items ++ unstable.built_on (passing_builds passing.now builds.now) (place, arch.now)) }
+    ensures { OnOk result (lent rows.new.items ≡ lent rows.old.items ++ unstable_steps.built_on (passing_builds passing.now builds.now) (place, arch.now)) }
 {
     for build in builds {
         if comes_in(passing, build, arch) {
@@ -119,7 +120,7 @@ fn push_ordered<'a>(
     arch: &str,
 ) -> Result<(), NoMemory>
     requires { AreByPair builds.now }
-    ensures { OnOk result (lent rows.new.items ≡ lent rows.old.items ++ unstable.built_on (passing_builds passing.now builds.now) (place, arch.now)) }
+    ensures { OnOk result (lent rows.new.items ≡ lent rows.old.items ++ unstable_steps.built_on (passing_builds passing.now builds.now) (place, arch.now)) }
 {
     if are_elsewhere(builds, arch) {
         return Ok(());
@@ -139,7 +140,7 @@ fn push_built_on<'a>(
     arch: &str,
 ) -> Result<(), NoMemory>
     requires { AreByPair (joined blocks.now) }
-    ensures { OnOk result (lent rows.new.items ≡ lent rows.old.items ++ unstable.built_on (passing_builds passing.now (joined blocks.now)) (place, arch.now)) }
+    ensures { OnOk result (lent rows.new.items ≡ lent rows.old.items ++ unstable_steps.built_on (passing_builds passing.now (joined blocks.now)) (place, arch.now)) }
 {
     for block in blocks {
         push_ordered(rows, block.rows(), passing, place, arch)?;

@@ -3,9 +3,9 @@
 ghost use Rattle.std.specs.Prelude.{◌≡◌, ◌==◌, ◌∷◌, ℕ, [], Some, Contains, IfOk, OnOk, OnErr, find, length, ◌≤◌, vec_len, vec_capacity};
 ghost use Rattle.testing_rules_model.specs.Boxed.{unboxed};
 ghost use Rattle.testing_rules_model.specs.Covered.{Covered, CoveredItem, upload_of, drop_of, bug_of, hint_of, unhint_of, delays_of, builds_of};
-ghost use Rattle.testing_rules_facts.specs.Entries.{entry_of, with_entry, noted};
+ghost use Rattle.testing_rules_facts.specs.steps.Entries.{entry_of, with_entry, noted};
 ghost use Rattle.testing_rules_facts.specs.Restored.{said, put_given, last_given, restored};
-ghost use Rattle.testing_rules_facts.specs.ElementShifts.{shift_builds};
+ghost use Rattle.testing_rules_facts.specs.steps.ElementShifts.{shift_builds};
 ghost use Rattle.testing_rules_fact_order.specs.Uploads.{AreByMessage, with_kept};
 ghost use Rattle.testing_rules_fact_order.specs.declared.entry.FactUpdate.TheVariants.{Upload, Dropped, Bug, Hint as AHint, Unhint, Delays};
 ghost use Rattle.testing_rules_model.specs.FactDifference.{IsChangedFrom, IsDifference};
@@ -17,7 +17,8 @@ ghost use Rattle.testing_rules_model.specs.FactRows.{rows_of, times};
 ghost use Rattle.testing_rules_model.specs.StandsFor.{StandsFor};
 ghost use Rattle.testing_rules_model.specs.Suite.{Suite};
 ghost use Rattle.testing_rules_model.specs.Tells.{Tells};
-ghost use Rattle.testing_rules_model.specs.WithMessage.{with_upload, with_build, with_builds, with_greatest, with_bug, with_hint, with_unhint, stands_beside};
+ghost use Rattle.testing_rules_model.specs.WithMessage.{with_upload, with_build, with_builds, with_greatest, with_bug, with_hint, with_unhint};
+ghost use Rattle.testing_rules_model.specs.steps.WithMessage.{stands_beside};
 ghost use Rattle.testing_rules_model.specs.declared.facts.UploadIn.{UploadIn as AnUpload};
 
 use crate::build_blocks::BuildBlocks;
@@ -74,10 +75,10 @@ impl Drop for Facts {
 
 impl Model for Facts {
     ghost use Rattle.testing_rules_fact_order.specs.Uploads.{AreByMessage};
-    ghost use Rattle.testing_rules_facts.specs.HintOrder.{AreHintsByNumber, AreUnhintsByNumber};
+    ghost use Rattle.testing_rules_facts.specs.steps.HintOrder.{AreHintsByNumber, AreUnhintsByNumber};
     ghost use Rattle.testing_rules_model.specs.Boxed.{unboxed};
     ghost use Rattle.testing_rules_model.specs.FactLists.{FactLists};
-    ghost use Rattle.testing_rules_model.specs.FactOrder.{IsFactOrder};
+    ghost use Rattle.testing_rules_model.specs.steps.FactOrder.{IsFactOrder};
     ghost use Rattle.std.specs.Prelude.{◌+◌, ◌≤◌, vec_len, vec_capacity};
 
     ghost Value = { FactLists };

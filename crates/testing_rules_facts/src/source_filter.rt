@@ -3,8 +3,8 @@
 ghost use Rattle.std.specs.Prelude.{◌≡◌, ℕ, IfOk};
 ghost use Rattle.std.specs.List.{list_all};
 ghost use Rattle.testing_rules_model.specs.JudgedRows.{lent};
-ghost use Rattle.testing_rules_model.specs.SourceFilter as rules;
-ghost use Rattle.testing_rules_facts.specs.SourceFilter as facts_rules;
+ghost use Rattle.testing_rules_model.specs.steps.SourceFilter as rules;
+ghost use Rattle.testing_rules_facts.specs.steps.SourceFilter as facts_rules;
 
 use deb_control::Text;
 use deb_version::NoMemory;

@@ -6,15 +6,18 @@ ghost use Rattle.std.specs.List.{HoldsAt};
 ghost use Rattle.std.specs.List.Sorted.{IsBinarySearchResult, IsSearchInRange};
 ghost use Rattle.std.specs.declared.cmp.Ordering.TheVariants.{Greater};
 ghost use Rattle.testing_rules_model.specs.Boxed.{unboxed};
-ghost use Rattle.testing_rules_model.specs.FactOrder.{AreBySource, AreByPair, AreDropsByPair, AreByNumber};
+ghost use Rattle.testing_rules_model.specs.FactOrder.{AreBySource, AreByPair};
+ghost use Rattle.testing_rules_model.specs.steps.FactOrder.{AreDropsByPair, AreByNumber};
 ghost use Rattle.testing_rules_model.specs.Unstable as unstable;
 ghost use Rattle.testing_rules_model.specs.Unstable.{pair_order, pair_of, drop_pair, hint_order, unhint_order};
-ghost use Rattle.testing_rules_facts.specs.HintOrder.{AreHintsByNumber, AreUnhintsByNumber};
-ghost use Rattle.testing_rules_facts.specs.ElementShifts.{come_in, IsShift};
-ghost use Rattle.testing_rules_facts.specs.Slots.{IsSlotFor, IsSlotIn, IsStep, slotted};
+ghost use Rattle.testing_rules_facts.specs.steps.HintOrder.{AreHintsByNumber, AreUnhintsByNumber};
+ghost use Rattle.testing_rules_facts.specs.steps.ElementShifts.{come_in, IsShift};
+ghost use Rattle.testing_rules_facts.specs.steps.Slots.{IsSlotFor, IsSlotIn, IsStep, slotted};
 ghost use Rattle.testing_rules_fact_order.specs.Uploads.{message_order, AreByMessage, first_stays, with_kept};
 ghost use Rattle.testing_rules_model.specs.FactRows as fact_rows;
+ghost use Rattle.testing_rules_model.specs.steps.FactRows as fact_rows_steps;
 ghost use Rattle.testing_rules_model.specs.WithMessage as taken;
+ghost use Rattle.testing_rules_model.specs.steps.WithMessage as taken_steps;
 ghost use Rattle.testing_rules_items.specs.Words.{byte_cmp};
 
 use deb_control::Binary;
@@ -90,7 +93,7 @@ pub fn place_of_upload(sources: &[Box<UploadIn>], name: &str) -> Result<usize, u
 /// The upload's slot among the sources, and its effect on the rows.
 fn step_of_upload(sources: &[Box<UploadIn>], upload: &UploadIn) -> Placement
     requires { AreBySource (unboxed sources.now) }
-    ensures { IsStep (λ u. u.source) byte_cmp unstable.upload_order fact_rows.source_row upload.now (unboxed sources.now) result }
+    ensures { IsStep (λ u. u.source) byte_cmp unstable.upload_order fact_rows_steps.source_row upload.now (unboxed sources.now) result }
 {
     let came = Some(source_row(upload));
     match place_of_upload(sources, upload.source.as_str()) {
@@ -118,7 +121,7 @@ pub fn put_upload(sources: &mut Vec<Box<UploadIn>>, upload: Box<UploadIn>) -> Sh
     requires order { AreBySource (unboxed sources.old.items) }
     requires room { vec_len sources.old < vec_capacity sources.old }
     ensures items { unboxed sources.new.items ≡ taken.with_upload upload.value (unboxed sources.old.items) }
-    ensures shift { IsShift (λ u. u.source) byte_cmp unstable.upload_order fact_rows.source_row upload.value (unboxed sources.old.items) result }
+    ensures shift { IsShift (λ u. u.source) byte_cmp unstable.upload_order fact_rows_steps.source_row upload.value (unboxed sources.old.items) result }
 {
     let step = step_of_upload(sources, &upload);
     put_at(sources, step.slot, upload);
@@ -168,7 +171,7 @@ pub fn place_of_drop(drops: &[Box<DropIn>], arch: &str, name: &str) -> Result<us
 /// The drop's slot among the drops, and its effect on the rows.
 fn step_of_drop(drops: &[Box<DropIn>], drop: &DropIn) -> Placement
     requires { AreDropsByPair (unboxed drops.now) }
-    ensures { IsStep unstable.drop_pair unstable.pair_order unstable.drop_order fact_rows.drop_row drop.now (unboxed drops.now) result }
+    ensures { IsStep unstable.drop_pair unstable.pair_order unstable.drop_order fact_rows_steps.drop_row drop.now (unboxed drops.now) result }
 {
     let came = Some(drop_row(drop));
     match place_of_drop(drops, drop.arch.as_str(), drop.name.as_str()) {
@@ -196,7 +199,7 @@ pub fn put_drop(drops: &mut Vec<Box<DropIn>>, drop: Box<DropIn>) -> Shifted
     requires order { AreDropsByPair (unboxed drops.old.items) }
     requires room { vec_len drops.old < vec_capacity drops.old }
     ensures items { unboxed drops.new.items ≡ taken.with_greatest drop.value (unboxed drops.old.items) }
-    ensures shift { IsShift unstable.drop_pair unstable.pair_order unstable.drop_order fact_rows.drop_row drop.value (unboxed drops.old.items) result }
+    ensures shift { IsShift unstable.drop_pair unstable.pair_order unstable.drop_order fact_rows_steps.drop_row drop.value (unboxed drops.old.items) result }
 {
     let step = step_of_drop(drops, &drop);
     put_at(drops, step.slot, drop);
@@ -218,7 +221,7 @@ pub fn place_of_bug(bugs: &[Box<BugIn>], bug: u32) -> Result<usize, usize>
 /// The slot of the message among the states of bugs, and its effect on the rows.
 fn step_of_bug(bugs: &[Box<BugIn>], bug: &BugIn) -> Placement
     requires { AreByNumber (unboxed bugs.now) }
-    ensures { IsStep (λ b. b.bug) nat_cmp unstable.bug_order fact_rows.bug_row bug.now (unboxed bugs.now) result }
+    ensures { IsStep (λ b. b.bug) nat_cmp unstable.bug_order fact_rows_steps.bug_row bug.now (unboxed bugs.now) result }
 {
     let came = Some(bug_row(bug));
     match place_of_bug(bugs, bug.bug) {
@@ -246,7 +249,7 @@ pub fn put_bug(bugs: &mut Vec<Box<BugIn>>, bug: Box<BugIn>) -> Shifted
     requires order { AreByNumber (unboxed bugs.old.items) }
     requires room { vec_len bugs.old < vec_capacity bugs.old }
     ensures items { unboxed bugs.new.items ≡ taken.with_bug bug.value (unboxed bugs.old.items) }
-    ensures shift { IsShift (λ b. b.bug) nat_cmp unstable.bug_order fact_rows.bug_row bug.value (unboxed bugs.old.items) result }
+    ensures shift { IsShift (λ b. b.bug) nat_cmp unstable.bug_order fact_rows_steps.bug_row bug.value (unboxed bugs.old.items) result }
 {
     let step = step_of_bug(bugs, &bug);
     put_at(bugs, step.slot, bug);
@@ -321,7 +324,7 @@ fn place_from(rows: &[BuildIn], arch: &str, name: &str, guess: usize) -> Result<
 /// The build's slot among the rows, and its effect on the rows of the facts. Its place is the next guess.
 fn step_of_build(rows: &[BuildIn], build: &BuildIn, guess: &mut usize) -> Placement
     requires { AreByPair rows.now }
-    ensures { IsStep unstable.pair_of unstable.pair_order unstable.build_order fact_rows.build_row build.now rows.now result }
+    ensures { IsStep unstable.pair_of unstable.pair_order unstable.build_order fact_rows_steps.build_row build.now rows.now result }
 {
     let came = Some(build_row(build));
     let binary: &Binary = &build.binary;
@@ -360,7 +363,7 @@ pub fn put_build(rows: &mut Vec<BuildIn>, guess: &mut usize, build: BuildIn) -> 
     requires order { AreByPair rows.old.items }
     requires room { vec_len rows.old < vec_capacity rows.old }
     ensures items { rows.new.items ≡ taken.with_build build rows.old.items }
-    ensures shift { IsShift unstable.pair_of unstable.pair_order unstable.build_order fact_rows.build_row build rows.old.items result }
+    ensures shift { IsShift unstable.pair_of unstable.pair_order unstable.build_order fact_rows_steps.build_row build rows.old.items result }
     ensures len { vec_len rows.new ≤ vec_len rows.old + 1 }
     ensures capacity { vec_capacity rows.old ≤ vec_capacity rows.new }
 {
@@ -372,7 +375,7 @@ pub fn put_build(rows: &mut Vec<BuildIn>, guess: &mut usize, build: BuildIn) -> 
 /// The build outlives all of the drops.
 pub fn stands_beside(drops: &[Box<DropIn>], build: &BuildIn) -> bool
     requires { AreDropsByPair (unboxed drops.now) }
-    ensures { result ≡ taken.stands_beside (unboxed drops.now) build.now }
+    ensures { result ≡ taken_steps.stands_beside (unboxed drops.now) build.now }
 {
     let binary: &Binary = &build.binary;
     match place_of_drop(drops, binary.architecture.as_str(), binary.name.as_str()) {
@@ -385,7 +388,7 @@ pub fn stands_beside(drops: &[Box<DropIn>], build: &BuildIn) -> bool
 pub fn remove_dropped(rows: &mut Vec<BuildIn>, drop: &DropIn) -> Option<FactRow>
     requires { AreByPair rows.old.items }
     ensures items { rows.new.items ≡ taken.with_drop drop.now rows.old.items }
-    ensures gone { option_to_list result ≡ map fact_rows.build_row (filter (λ b. not (taken.outlives drop.now b)) rows.old.items) }
+    ensures gone { option_to_list result ≡ map fact_rows_steps.build_row (filter (λ b. not (taken.outlives drop.now b)) rows.old.items) }
     ensures len { vec_len rows.new ≤ vec_len rows.old }
     ensures capacity { vec_capacity rows.new ≡ vec_capacity rows.old }
 {

@@ -16,15 +16,16 @@ use Rattle.testing_rules_model.specs.declared.facts.BuildIn.{BuildIn}
 use Rattle.testing_rules_model.specs.declared.facts.DelaysIn.{DelaysIn}
 use Rattle.testing_rules_model.specs.Covered.{CoveredItem, upload_of, drop_of, bug_of, hint_of, unhint_of, delays_of, builds_of}
 use Rattle.testing_rules_model.specs.FactLists.{FactLists}
-use Rattle.testing_rules_model.specs.FactRows.{source_row, upload_row, build_row, drop_row, bug_row, hint_row, unhint_row, delays_row, rows_of, is_kind, is_row, times}
+use Rattle.testing_rules_model.specs.FactRows.{upload_row, rows_of, is_kind, is_row, times}
+use Rattle.testing_rules_model.specs.steps.FactRows.{source_row, build_row, drop_row, bug_row, hint_row, unhint_row, delays_row}
 use Rattle.testing_rules_model.specs.Unstable.{upload_order, build_order, pair_order, pair_of, drop_order, drop_pair, bug_order, hint_order, unhint_order, delays_order}
 use Rattle.testing_rules_model.specs.WithMessage.{put_first, with_upload, with_build, with_greatest, with_bug, with_hint, with_unhint}
 use Rattle.testing_rules_model.proofs.SameFacts.{upload_bears, drop_bears, bug_bears, hint_bears, unhint_bears, delays_bears, builds_bear}
 use Rattle.testing_rules_facts.specs.Restored.{Given, said, given_of, build_given, put_given, last_given, restored}
-use Rattle.testing_rules_facts.specs.Shifts.{way_given, come_in, put_over}
+use Rattle.testing_rules_facts.specs.steps.Shifts.{way_given, come_in, put_over}
 use Rattle.testing_rules_facts.specs.Uploads.{message_order, first_stays, with_kept}
 use Rattle.testing_rules_facts.proofs.Shifting.{first_shifts, over_shifts}
-use Rattle.testing_rules_laws.specs.Restored.{restored_all, no_facts}
+use Rattle.testing_rules_laws.specs.steps.Restored.{restored_all, no_facts}
 use Rattle.testing_rules_laws.proofs.Naming.{same_nat, both_are, passed, found}
 
 -- the new rows are the old ones and one more, but for some that are lost

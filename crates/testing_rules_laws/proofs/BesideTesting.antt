@@ -10,8 +10,9 @@ use Rattle.testing_rules_model.specs.SameMessages.{SameElements, HasOneOfEach}
 use Rattle.testing_rules_model.specs.StandsFor.{StandsFor}
 use Rattle.testing_rules_model.proofs.Least.{from_filter, to_filter}
 use Rattle.testing_rules_model.proofs.SameFacts.{stands-same}
-use Rattle.testing_rules_model.specs.KeptFacts.{counts_beside, trimmed, KeptFacts, AreFallen}
-use Rattle.testing_rules_laws.specs.Retaken.{AreTakenAgain}
+use Rattle.testing_rules_model.specs.KeptFacts.{counts_beside, trimmed, KeptFacts}
+use Rattle.testing_rules_model.specs.steps.KeptFacts.{AreFallen}
+use Rattle.testing_rules_laws.specs.steps.Retaken.{AreTakenAgain}
 
 pub trim_keeps : (f : FactLists) (s : Covered) (t : Suite) → StandsFor f s t → KeptFacts (trimmed t f) s t
 trim_keeps f s t h = record {

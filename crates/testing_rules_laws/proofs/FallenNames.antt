@@ -8,15 +8,16 @@ use Rattle.std.specs.declared.cmp.Ordering.TheVariants.{Less, Equal, Greater}
 use Rattle.std.specs.Ordering.{is_gt, ordering_reverse}
 use Rattle.std.proofs.lemmas.Bool.{false≢true}
 use Rattle.std.proofs.lemmas.Slice.Eq.{bytes_eq-Decides}
-use Rattle.deb_version.specs.Laws.{version_order}
+use Rattle.deb_version.specs.steps.Laws.{version_order}
 use Rattle.testing_rules_model.specs.declared.suite.SourceIn.{SourceIn}
 use Rattle.testing_rules_model.specs.Suite.{Suite}
 use Rattle.testing_rules_items.specs.Words.{Text, is_above}
-use Rattle.testing_rules_model.specs.Excuses.{is_news, testing_version, entry_of}
+use Rattle.testing_rules_model.specs.Excuses.{is_news, testing_version}
+use Rattle.testing_rules_model.specs.steps.Excuses.{entry_of}
 use Rattle.testing_rules_items.proofs.Members.{tail_of}
 use Rattle.testing_rules_model.proofs.Sets.{at_front, maps}
 use Rattle.testing_rules_model.proofs.Least.{to_filter}
-use Rattle.testing_rules_model.specs.KeptFacts.{AreFallen}
+use Rattle.testing_rules_model.specs.steps.KeptFacts.{AreFallen}
 use Rattle.testing_rules_laws.specs.Fallen.{fallen_names}
 
 -- above what isn't below: of w below v, and not below s, v is above s

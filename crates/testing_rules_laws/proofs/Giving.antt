@@ -1,8 +1,8 @@
 -- Messages that say the facts give what a run over the facts brings into testing.
 use Rattle.std.specs.Prelude.{◌≤◌, List, length}
 use Rattle.testing_rules_items.specs.Words.{Text}
-use Rattle.testing_rules_laws.specs.GivenUpdate.{suite_by}
-use Rattle.testing_rules_laws.specs.SameRows.{AreSaidBy}
+use Rattle.testing_rules_laws.specs.steps.GivenUpdate.{suite_by}
+use Rattle.testing_rules_laws.specs.steps.SameRows.{AreSaidBy}
 use Rattle.testing_rules_model.proofs.Giving.{by-given, given-known}
 use Rattle.testing_rules_model.specs.declared.excuse.Excuse.{Excuse}
 use Rattle.testing_rules_model.specs.Covered.{Covered}

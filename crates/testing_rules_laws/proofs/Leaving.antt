@@ -13,7 +13,8 @@ use Rattle.testing_rules_model.specs.declared.suite.RowIn.{RowIn}
 use Rattle.testing_rules_model.specs.declared.excuse.Excuse.{Excuse}
 use Rattle.testing_rules_model.specs.Suite.{Suite}
 use Rattle.testing_rules_items.specs.Words.{Text}
-use Rattle.testing_rules_model.specs.Updates.{Outcome, nothing, accepted, moved_alone, is_allowed_alone, single_moves}
+use Rattle.testing_rules_model.specs.Updates.{Outcome, nothing, moved_alone, single_moves}
+use Rattle.testing_rules_model.specs.steps.Updates.{accepted, is_allowed_alone}
 use Rattle.testing_rules_laws.specs.MoveLaws.{HasMovedOrMayNot}
 use Rattle.testing_rules_items.proofs.Each.{each-weaker, each-append}
 

@@ -7,7 +7,7 @@ use Rattle.testing_rules_model.specs.FactRows.{upload_row, rows_of, is_row}
 use Rattle.testing_rules_model.specs.FactDifference.{IsDifference, IsChangedFrom}
 use Rattle.testing_rules_model.specs.FactLists.{FactLists}
 use Rattle.testing_rules_model.specs.KeptFacts.{counts_beside, trimmed}
-use Rattle.testing_rules_laws.specs.Logged.{AreMade}
+use Rattle.testing_rules_laws.specs.steps.Logged.{AreMade}
 use Rattle.testing_rules_facts.proofs.Shifting.{joined, parts, mapped, splits}
 
 pub trims_log : (count : FactRow → ℕ) (t : Suite) (f : FactLists) → IsChangedFrom count f → IsChangedFrom count (trimmed t f)

@@ -16,7 +16,8 @@ use Rattle.testing_rules_model.specs.declared.fact_row.FactRow.{FactRow}
 use Rattle.testing_rules_model.proofs.FactKinds.{kind_is, kind_itself}
 use Rattle.testing_rules_model.specs.declared.fact_row.FactKind.{FactKind}
 use Rattle.testing_rules_model.specs.declared.fact_row.FactKind.TheVariants.{Source, Upload, Build, Drop, Bug, Hint, Unhint, Delays}
-use Rattle.testing_rules_model.specs.FactRows.{number_of, is_kind, source_row, upload_row, build_row, drop_row, bug_row, hint_row, unhint_row, delays_row, rows_of}
+use Rattle.testing_rules_model.specs.FactRows.{number_of, is_kind, upload_row, rows_of}
+use Rattle.testing_rules_model.specs.steps.FactRows.{source_row, build_row, drop_row, bug_row, hint_row, unhint_row, delays_row}
 use Rattle.testing_rules_facts.specs.Restored.{Given, message_of, given_of, build_given}
 
 -- The rows of one kind, in front of those of greater kinds.

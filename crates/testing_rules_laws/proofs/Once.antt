@@ -21,7 +21,8 @@ use Rattle.testing_rules_model.specs.declared.fact_row.FactKind.TheVariants.{Sou
 use Rattle.testing_rules_model.specs.declared.fact_row.FactRow.{FactRow}
 use Rattle.testing_rules_model.specs.Covered.{Covered, upload_of, drop_of, bug_of, hint_of, unhint_of, delays_of, builds_of}
 use Rattle.testing_rules_model.specs.FactLists.{FactLists}
-use Rattle.testing_rules_model.specs.FactRows.{number_of, source_row, upload_row, build_row, drop_row, bug_row, hint_row, unhint_row, delays_row, rows_of, is_row, times, IsFactRow}
+use Rattle.testing_rules_model.specs.FactRows.{number_of, upload_row, rows_of, is_row, times, IsFactRow}
+use Rattle.testing_rules_model.specs.steps.FactRows.{source_row, build_row, drop_row, bug_row, hint_row, unhint_row, delays_row}
 use Rattle.testing_rules_model.specs.SameMessages.{HasOneOfEach}
 use Rattle.testing_rules_model.specs.Tells.{Tells}
 use Rattle.testing_rules_model.specs.Unstable.{pair_of, drop_pair}
@@ -33,7 +34,7 @@ use Rattle.testing_rules_facts.specs.Uploads.{AreByMessage}
 use Rattle.testing_rules_facts.proofs.KeptUploads.{message_total, keys_in_order}
 use Rattle.testing_rules_facts.proofs.Netting.{row_same}
 use Rattle.testing_rules_facts.proofs.Shifting.{joined}
-use Rattle.testing_rules_laws.specs.Told.{NamesMessage, AreFactRows}
+use Rattle.testing_rules_laws.specs.steps.Told.{NamesMessage, AreFactRows}
 use Rattle.testing_rules_laws.proofs.Naming.{from2, from3, from4, from5, from6, from7, from8, low2, low3, low4, low5, low6, low7, low8, of_delays}
 use Rattle.testing_rules_laws.proofs.Orderly.{above_has, not_itself}
 use Rattle.testing_rules_laws.proofs.Restoring.{in_order_itself}

@@ -14,7 +14,8 @@ use Rattle.testing_rules_model.specs.declared.facts.DropIn.{DropIn}
 use Rattle.testing_rules_model.specs.declared.facts.BugIn.{BugIn}
 use Rattle.testing_rules_model.specs.declared.facts.DelaysIn.{DelaysIn}
 use Rattle.testing_rules_model.specs.FactLists.{FactLists}
-use Rattle.testing_rules_model.specs.FactOrder.{AreBySource, AreByPair, AreDropsByPair, AreByNumber}
+use Rattle.testing_rules_model.specs.FactOrder.{AreBySource, AreByPair}
+use Rattle.testing_rules_model.specs.steps.FactOrder.{AreDropsByPair, AreByNumber}
 use Rattle.testing_rules_model.specs.Suite.{Suite}
 use Rattle.testing_rules_model.specs.Covered.{Covered, upload_of, drop_of, bug_of, hint_of, unhint_of, delays_of, uploads_in, builds_in, drops_in, bugs_in, hints_in, unhints_in, delays_in}
 use Rattle.testing_rules_items.specs.Words.{byte_cmp, put_by, sorted_by, least}
@@ -31,8 +32,9 @@ use Rattle.testing_rules_model.proofs.MoreMail.{pair_total, counts_for, chosen_r
 use Rattle.testing_rules_facts.proofs.KeySlots.{by_source-upload, by_pair-build, drops_by_pair-drop, by_number-bug}
 use Rattle.testing_rules_model.proofs.Picks.{rises-put, rises-sorted}
 use Rattle.testing_rules_model.specs.declared.fact_row.FactKind.TheVariants.{Source, Upload, Drop, Bug, Hint, Unhint, Delays}
-use Rattle.testing_rules_model.specs.FactRows.{source_row, upload_row, drop_row, bug_row, hint_row, unhint_row, delays_row, rows_of}
-use Rattle.testing_rules_laws.specs.Restored.{restored_all, no_facts, AreRowsOf, AreSameFacts}
+use Rattle.testing_rules_model.specs.FactRows.{upload_row, rows_of}
+use Rattle.testing_rules_model.specs.steps.FactRows.{source_row, drop_row, bug_row, hint_row, unhint_row, delays_row}
+use Rattle.testing_rules_laws.specs.steps.Restored.{restored_all, no_facts, AreRowsOf, AreSameFacts}
 use Rattle.testing_rules_facts.specs.Restored.{Given, given_of, build_given, put_given, last_given, restored}
 use Rattle.testing_rules_facts.proofs.KeyMembers.{first_from, first_own, first_others}
 use Rattle.testing_rules_facts.proofs.KeptUploads.{message_total, message_tied, keys_in_order, keys_back, by_message-kept}

@@ -10,7 +10,8 @@ use Rattle.testing_rules_model.specs.declared.fact_row.FactKind.TheVariants.{Sou
 use Rattle.testing_rules_model.specs.declared.fact_row.FactRow.{FactRow}
 use Rattle.testing_rules_model.specs.Covered.{Covered, CoveredItem, upload_of, drop_of, bug_of, hint_of, unhint_of, delays_of, builds_of, uploads_in, builds_in, drops_in, bugs_in, hints_in, unhints_in, delays_in}
 use Rattle.testing_rules_model.specs.FactLists.{FactLists}
-use Rattle.testing_rules_model.specs.FactOrder.{AreBySource, AreByPair, AreDropsByPair, AreByNumber}
+use Rattle.testing_rules_model.specs.FactOrder.{AreBySource, AreByPair}
+use Rattle.testing_rules_model.specs.steps.FactOrder.{AreDropsByPair, AreByNumber}
 use Rattle.testing_rules_model.specs.FactRows.{is_kind, rows_of}
 use Rattle.testing_rules_model.specs.KeptFacts.{counts_beside, trimmed}
 use Rattle.testing_rules_model.specs.SameMessages.{SameElements, HasOneOfEach}
@@ -27,7 +28,7 @@ use Rattle.testing_rules_facts.specs.Uploads.{with_kept}
 use Rattle.testing_rules_facts.proofs.KeptUploads.{kept_from}
 use Rattle.testing_rules_facts.proofs.KeySlots.{by_source-upload, by_pair-build, drops_by_pair-drop, by_number-bug}
 use Rattle.testing_rules_facts.proofs.Saying.{upload_from, build_from, drop_from, bug_from, hint_from, unhint_from, delays_from, hints_order, unhints_order}
-use Rattle.testing_rules_laws.specs.Restored.{restored_all}
+use Rattle.testing_rules_laws.specs.steps.Restored.{restored_all}
 use Rattle.testing_rules_laws.proofs.Naming.{passed, found}
 use Rattle.testing_rules_laws.proofs.Telling.{said_so, in_order_so, rows_tell}
 

@@ -7,7 +7,8 @@ use Rattle.std.proofs.lemmas.Cmp.{nat_cmp_total}
 use Rattle.testing_rules_model.specs.declared.facts.BuildIn.{BuildIn}
 use Rattle.testing_rules_model.specs.declared.facts.DelaysIn.{DelaysIn}
 use Rattle.testing_rules_model.specs.FactLists.{FactLists}
-use Rattle.testing_rules_model.specs.FactOrder.{AreBySource, AreByPair, AreDropsByPair, AreByNumber}
+use Rattle.testing_rules_model.specs.FactOrder.{AreBySource, AreByPair}
+use Rattle.testing_rules_model.specs.steps.FactOrder.{AreDropsByPair, AreByNumber}
 use Rattle.testing_rules_model.specs.Suite.{Suite}
 use Rattle.testing_rules_model.specs.Covered.{Covered, upload_of, drop_of, bug_of, hint_of, unhint_of, delays_of, builds_of, uploads_in, builds_in, drops_in, bugs_in, hints_in, unhints_in, delays_in}
 use Rattle.testing_rules_items.specs.Words.{byte_cmp, sorted_by}
@@ -22,9 +23,10 @@ use Rattle.testing_rules_model.proofs.MoreMail.{pair_total, counts_for}
 use Rattle.testing_rules_model.specs.declared.fact_row.FactKind.{FactKind}
 use Rattle.testing_rules_model.specs.declared.fact_row.FactKind.TheVariants.{Source, Upload, Build, Drop, Bug, Hint, Unhint, Delays}
 use Rattle.testing_rules_model.specs.declared.fact_row.FactRow.{FactRow}
-use Rattle.testing_rules_model.specs.FactRows.{source_row, upload_row, build_row, drop_row, bug_row, hint_row, unhint_row, delays_row, rows_of}
-use Rattle.testing_rules_laws.specs.Restored.{AreSameFacts}
-use Rattle.testing_rules_laws.specs.SameRows.{AreSaidBy, AreOrderly}
+use Rattle.testing_rules_model.specs.FactRows.{upload_row, rows_of}
+use Rattle.testing_rules_model.specs.steps.FactRows.{source_row, build_row, drop_row, bug_row, hint_row, unhint_row, delays_row}
+use Rattle.testing_rules_laws.specs.steps.Restored.{AreSameFacts}
+use Rattle.testing_rules_laws.specs.steps.SameRows.{AreSaidBy, AreOrderly}
 use Rattle.testing_rules_laws.proofs.Orderly.{in_order_once}
 use Rattle.testing_rules_laws.proofs.Naming.{of_sources, of_uploads, of_rows, of_drops, of_bugs, of_hints, of_unhints, of_delays, has_source, has_upload, has_build, has_drop, has_bug, has_hint, has_unhint, to8}
 use Rattle.testing_rules_laws.proofs.Restoring.{sources_order, drops_order, bugs_order, rows_order, in_order_itself, sorted_strictly, chosen_from, delays_from, same_stand}

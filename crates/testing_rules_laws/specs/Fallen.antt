@@ -3,12 +3,7 @@ use Rattle.std.specs.Prelude.{List, map, filter}
 use Rattle.testing_rules_model.specs.Suite.{Suite}
 use Rattle.testing_rules_items.specs.Words.{Text}
 use Rattle.testing_rules_model.specs.Excuses.{is_news, testing_version}
-use Rattle.testing_rules_model.specs.KeptFacts.{AreFallen}
 
 -- the old version is above the new one, or there is no new one
 abbrev pub fallen_names : Suite → Suite → List Text
 fallen_names old new = map (λ s. s.name) (filter (λ s. is_news (testing_version new s.name) s.version) old.sources)
-
--- For each other source, what counts with the new testing counted with the old one.
-abbrev pub NamesAreFallen : Type 0
-NamesAreFallen = (old new : Suite) → AreFallen (fallen_names old new) old new

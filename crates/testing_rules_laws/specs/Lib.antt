@@ -12,7 +12,7 @@ pub use Rattle.testing_rules_model.specs.Moves
 pub use Rattle.testing_rules_model.specs.Provenance
 pub use Rattle.testing_rules_reports.specs.Reports
 pub use Rattle.testing_rules_model.specs.SameMessages
-pub use Rattle.testing_rules_facts.specs.Shifts
+pub use Rattle.testing_rules_facts.specs.steps.Shifts
 pub use Rattle.testing_rules_model.specs.StandsFor
 pub use Rattle.testing_rules_model.specs.Suite
 pub use Rattle.testing_rules_model.specs.Tells
@@ -26,9 +26,4 @@ pub mod Laws
 pub mod MoveLaws
 pub mod TakenLaws
 pub mod Fallen
-pub mod GivenUpdate
-pub mod Logged
-pub mod Restored
-pub mod Retaken
-pub mod SameRows
-pub mod Told
+pub mod steps

@@ -1,12 +1,12 @@
 //! Laws of facts kept as rows. Each is a call that does nothing; its contract is the law.
 
-ghost use Rattle.testing_rules_laws.specs.Fallen.{NamesAreFallen};
-ghost use Rattle.testing_rules_laws.specs.GivenUpdate.{FactsGiveUpdate};
-ghost use Rattle.testing_rules_laws.specs.Logged.{ChangesMake, EntryShifts, TakesLog, TrimsLog};
-ghost use Rattle.testing_rules_laws.specs.Restored.{AllCame, RowsDetermine};
-ghost use Rattle.testing_rules_laws.specs.Retaken.{TrimKeeps, RetakenStand};
-ghost use Rattle.testing_rules_laws.specs.SameRows.{RowsTell, StandsAreSaid};
-ghost use Rattle.testing_rules_laws.specs.Told.{AllRestoredTell, LoggedTell, MoreTell, RestoredTell, RowsOnce, SaidRowsTell, StandTell, ToldRowsAreFactRows, TrimmedTell};
+ghost use Rattle.testing_rules_laws.specs.steps.Fallen.{NamesAreFallen};
+ghost use Rattle.testing_rules_laws.specs.steps.GivenUpdate.{FactsGiveUpdate};
+ghost use Rattle.testing_rules_laws.specs.steps.Logged.{ChangesMake, EntryShifts, TakesLog, TrimsLog};
+ghost use Rattle.testing_rules_laws.specs.steps.Restored.{AllCame, RowsDetermine};
+ghost use Rattle.testing_rules_laws.specs.steps.Retaken.{TrimKeeps, RetakenStand};
+ghost use Rattle.testing_rules_laws.specs.steps.SameRows.{RowsTell, StandsAreSaid};
+ghost use Rattle.testing_rules_laws.specs.steps.Told.{AllRestoredTell, LoggedTell, MoreTell, RestoredTell, RowsOnce, SaidRowsTell, StandTell, ToldRowsAreFactRows, TrimmedTell};
 
 /// One more message changes the rows of the facts exactly by its shift.
 pub fn entry_shifts()

@@ -6,7 +6,7 @@ use Rattle.std.specs.List.Sorted.{IsBinarySearchResult}
 use Rattle.std.specs.declared.cmp.Ordering.TheVariants.{Equal}
 use Rattle.std.specs.Str.{bytes_eq}
 use Rattle.testing_rules_items.specs.Words.{Text, byte_cmp}
-use Rattle.testing_rules_live.specs.LiveSources.{name_of, source_of, sources_of, AreSlots, put_slot}
+use Rattle.testing_rules_live.specs.steps.LiveSources.{name_of, source_of, sources_of, AreSlots, put_slot}
 use Rattle.testing_rules_live.specs.declared.live_sources.Slot.{Slot}
 use Rattle.testing_rules_live.specs.declared.live_sources.Slot.TheVariants.{Absent, Stays, Moved}
 use Rattle.testing_rules_live.proofs.SourceSlots.{sorted, put, put-next, kept, found, missing}

@@ -13,9 +13,9 @@ use Rattle.testing_install.specs.Index.{bears}
 use Rattle.testing_install.specs.Satisfies.{satisfies, meets}
 use Rattle.testing_install.proofs.Finding.{any_at, satisfies_bears}
 use Rattle.testing_rules_items.specs.Words.{Text}
-use Rattle.testing_rules_live.specs.Lacks.{meets_on, stands_for_it}
+use Rattle.testing_rules_live.specs.steps.Lacks.{meets_on, stands_for_it}
 use Rattle.testing_rules_model.specs.declared.suite.RowIn.{RowIn}
-use Rattle.testing_rules_model.specs.Moves.{is_row_on}
+use Rattle.testing_rules_model.specs.steps.Moves.{is_row_on}
 use Rattle.testing_rules_suites.proofs.Arranging.{at_some_of}
 use Rattle.testing_rules_suites.proofs.Lost.{any_of}
 

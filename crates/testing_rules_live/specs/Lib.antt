@@ -1,3 +1,1 @@
-pub mod Held
-pub mod Lacks
-pub mod LiveSources
+pub mod steps

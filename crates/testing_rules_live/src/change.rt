@@ -3,11 +3,11 @@
 ghost use Rattle.std.specs.Prelude.{◌≡◌, [], ◌++◌, ◌<◌, length, filter, OnOk, IfOk};
 ghost use Rattle.std.specs.List.{All};
 ghost use Rattle.testing_rules_model.specs.Boxed.{unboxed};
-ghost use Rattle.testing_rules_suites.specs.Changes.{comes_at, stands_of, stands_for, gives_way_to, AreThose, IsMoveOf};
+ghost use Rattle.testing_rules_suites.specs.steps.Changes.{comes_at, stands_of, stands_for, gives_way_to, AreThose, IsMoveOf};
 ghost use Rattle.testing_rules_model.specs.FactOrder.{AreBySource};
 ghost use Rattle.testing_rules_model.specs.JudgedRows.{row_of};
 ghost use Rattle.testing_rules_model.specs.Moves.{group_sources};
-ghost use Rattle.testing_rules_suites.specs.Tried.{IsWithin, IsRemovalOf};
+ghost use Rattle.testing_rules_suites.specs.steps.Tried.{IsWithin, IsRemovalOf};
 
 use crate::row_tests::{is_of, is_same_key};
 use deb_control::Text;

@@ -4,7 +4,7 @@
 ghost use Rattle.std.specs.Prelude.{◌≡◌, ℕ, ◌<◌, false, true, IfSome, Contains, Some, length};
 ghost use Rattle.std.specs.List.{All, list_any, slice_get};
 ghost use Rattle.testing_install.specs.Index.{bears};
-ghost use Rattle.testing_rules_live.specs.Lacks.{meets_on, stands_for_it, IsUnmet, IsLack};
+ghost use Rattle.testing_rules_live.specs.steps.Lacks.{meets_on, stands_for_it, IsUnmet, IsLack};
 ghost use Rattle.testing_rules_model.specs.declared.suite.RowIn.{RowIn as ARow};
 ghost use Rattle.testing_rules_model.specs.JudgedRows.{row_of};
 ghost use Rattle.testing_rules_model.specs.Moves as moves;

@@ -2,7 +2,7 @@
 
 ghost use Rattle.std.specs.Prelude.{◌≡◌, ◌<◌, not, filter, OnOk, IfOk};
 ghost use Rattle.testing_rules_model.specs.Boxed.{unboxed};
-ghost use Rattle.testing_rules_suites.specs.AfterMoves.{with_rows, moved_rows, rows_without};
+ghost use Rattle.testing_rules_suites.specs.steps.AfterMoves.{with_rows, moved_rows, rows_without};
 ghost use Rattle.testing_rules_model.specs.FactOrder.{AreBySource};
 ghost use Rattle.testing_rules_model.specs.InOrder.{AreByKey};
 ghost use Rattle.testing_rules_model.specs.JudgedRows.{lent};

@@ -4,11 +4,11 @@
 ghost use Rattle.std.specs.Prelude.{◌≡◌, ◌<◌, [], length, not, filter, find, option_map, option_copied, OnOk, OnErr, IfOk};
 ghost use Rattle.std.specs.List.Sorted.{IsBinarySearchResult, IsSearchInRange};
 ghost use Rattle.std.specs.Str.{bytes_eq};
-ghost use Rattle.testing_rules_suites.specs.AfterMoves.{sources_after};
+ghost use Rattle.testing_rules_suites.specs.steps.AfterMoves.{sources_after};
 ghost use Rattle.testing_rules_model.specs.Boxed.{unboxed};
 ghost use Rattle.testing_rules_model.specs.FactOrder.{AreBySource};
 ghost use Rattle.testing_rules_model.specs.InOrder.{AreByName};
-ghost use Rattle.testing_rules_live.specs.LiveSources.{name_of, source_of, sources_of, AreSlots, put_slot};
+ghost use Rattle.testing_rules_live.specs.steps.LiveSources.{name_of, source_of, sources_of, AreSlots, put_slot};
 ghost use Rattle.testing_rules_items.specs.Words.{byte_cmp};
 
 use deb_control::Text;
@@ -212,7 +212,7 @@ pub struct LiveSources<'u, 'a> {
 
 impl<'u, 'a> Model for LiveSources<'u, 'a> {
     ghost use Rattle.std.specs.Prelude.{List};
-    ghost use Rattle.testing_rules_live.specs.LiveSources.{sources_of, AreSlots};
+    ghost use Rattle.testing_rules_live.specs.steps.LiveSources.{sources_of, AreSlots};
     ghost use Rattle.testing_rules_model.specs.declared.suite.SourceIn.{SourceIn};
 
     ghost Value = { List SourceIn };

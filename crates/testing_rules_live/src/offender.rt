@@ -3,9 +3,9 @@
 ghost use Rattle.std.specs.Prelude.{◌≡◌, IfOk, ◌==◌, map};
 ghost use Rattle.testing_rules_model.specs.Moves as moves;
 ghost use Rattle.testing_rules_model.specs.Moves.{judged_on};
-ghost use Rattle.testing_rules_suites.specs.JudgedRows.{answers};
+ghost use Rattle.testing_rules_suites.specs.steps.JudgedRows.{answers};
 ghost use Rattle.testing_rules_model.specs.JudgedRows.{lent, row_of};
-ghost use Rattle.testing_rules_items.specs.Words.{first_of_two};
+ghost use Rattle.testing_rules_items.specs.steps.Words.{first_of_two};
 ghost use Rattle.testing_install.specs.Rows.{binaries};
 ghost use Rattle.std.specs.Option.{option_copied};
 

@@ -4,13 +4,13 @@ ghost use Rattle.std.specs.Prelude.{◌≡◌, ℕ, ◌++◌, false, length, rep
 ghost use Rattle.std.specs.List.{list_all};
 ghost use Rattle.testing_install.specs.Among.{after_change};
 ghost use Rattle.testing_rules_model.specs.Boxed.{unboxed};
-ghost use Rattle.testing_rules_suites.specs.Changes.{IsMoveOf};
+ghost use Rattle.testing_rules_suites.specs.steps.Changes.{IsMoveOf};
 ghost use Rattle.testing_rules_model.specs.FactOrder.{AreBySource};
-ghost use Rattle.testing_rules_live.specs.Lacks.{IsLackOfMove};
+ghost use Rattle.testing_rules_live.specs.steps.Lacks.{IsLackOfMove};
 ghost use Rattle.testing_rules_model.specs.JudgedRows.{lent};
-ghost use Rattle.testing_rules_suites.specs.PresentSteps.{present_rows};
-ghost use Rattle.testing_rules_suites.specs.Tried.{first_told, Tells, IsWithin, IsRemovalOf};
-ghost use Rattle.testing_rules_model.specs.SourceFilter.{hash_passes, passing_rows};
+ghost use Rattle.testing_rules_suites.specs.steps.PresentSteps.{present_rows};
+ghost use Rattle.testing_rules_suites.specs.steps.Tried.{first_told, Tells, IsWithin, IsRemovalOf};
+ghost use Rattle.testing_rules_model.specs.steps.SourceFilter.{hash_passes, passing_rows};
 ghost use Rattle.testing_rules_items.specs.Words.{Text as Word};
 
 use crate::change::coming_of;
@@ -43,7 +43,7 @@ impl Drop for PoolSuites {
 }
 
 impl Model for PoolSuites {
-    ghost use Rattle.testing_rules_suites.specs.PresentSteps.{PoolState};
+    ghost use Rattle.testing_rules_suites.specs.steps.PresentSteps.{PoolState};
 
     ghost Value = { PoolState };
 

@@ -12,7 +12,8 @@ use Rattle.std.proofs.lemmas.Slice.Eq.{bytes_eq-Decides}
 use Rattle.testing_rules_model.specs.FactOrder.{AreByPair}
 use Rattle.testing_rules_model.specs.InOrder.{AreByKey}
 use Rattle.testing_rules_model.specs.Moves.{row_cmp, row_key}
-use Rattle.testing_rules_model.specs.Unstable.{pair_order, pair_of, row_at, built_on, built_rows}
+use Rattle.testing_rules_model.specs.Unstable.{pair_order, pair_of, row_at, built_rows}
+use Rattle.testing_rules_model.specs.steps.Unstable.{built_on}
 use Rattle.testing_rules_items.specs.Words.{Text, byte_cmp}
 use Rattle.testing_rules_model.specs.declared.facts.BuildIn.{BuildIn}
 use Rattle.testing_rules_model.specs.declared.suite.RowIn.{RowIn}

@@ -8,7 +8,7 @@ use Rattle.std.proofs.lemmas.List.FromFn.{get_or-enumerate_from, length-enumerat
 use Rattle.std.specs.List.{enumerate_from, flat_map}
 use Rattle.testing_rules_model.specs.declared.facts.BuildIn.{BuildIn}
 use Rattle.testing_rules_items.specs.Words.{Text, arch_name}
-use Rattle.testing_rules_model.specs.Unstable.{built_on}
+use Rattle.testing_rules_model.specs.steps.Unstable.{built_on}
 
 name_at : (archs : List Text) (k : ℕ) → k < length archs → length archs ≤ 16 → arch_name archs k ≡ get_or archs k []
 name_at archs k h few =

@@ -22,7 +22,8 @@ use Rattle.testing_rules_model.specs.declared.excuse.Excuse.{Excuse}
 use Rattle.testing_rules_items.specs.Words.{Text, byte_cmp, arch_name, sorted_by}
 use Rattle.testing_rules_model.specs.Suite.{Suite}
 use Rattle.testing_rules_model.specs.Covered.{Covered, CoveredItem, upload_of, builds_of, placed_from, uploads_in, builds_in}
-use Rattle.testing_rules_model.specs.Unstable.{unstable_source, unstable_sources, unstable_row, is_build_of, is_above_drops, unstable_builds, pair_of, pair_order, places, row_at, built_on, built_rows, is_current, hints_by_number, unhints_by_number}
+use Rattle.testing_rules_model.specs.Unstable.{unstable_source, unstable_sources, unstable_row, is_build_of, is_above_drops, unstable_builds, pair_of, pair_order, places, row_at, built_rows, is_current, hints_by_number, unhints_by_number}
+use Rattle.testing_rules_model.specs.steps.Unstable.{built_on}
 use Rattle.testing_rules_model.specs.Moves.{row_key, row_cmp, put_source, as_source, is_row_of, source_in, group_sources, move_group, remove_source}
 use Rattle.testing_rules_model.specs.Updates.{update_by, update_of}
 use Rattle.testing_rules_model.specs.Provenance.{IsUploaded, IsBuilt, IsArchPlace, IsGivenBy, KnowsArchs, binary_in}

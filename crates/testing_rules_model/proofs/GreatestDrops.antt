@@ -7,7 +7,7 @@ use Rattle.std.specs.Str.{bytes_eq}
 use Rattle.std.specs.declared.cmp.Ordering.{Ordering}
 use Rattle.std.specs.declared.cmp.Ordering.TheVariants.{Less, Equal, Greater}
 use Rattle.std.specs.Ordering.{is_lt}
-use Rattle.deb_version.specs.Laws.{version_order}
+use Rattle.deb_version.specs.steps.Laws.{version_order}
 use Rattle.testing_rules_items.specs.Words.{Text, is_above}
 use Rattle.testing_rules_model.specs.declared.facts.BuildIn.{BuildIn}
 use Rattle.testing_rules_model.specs.declared.facts.DropIn.{DropIn}

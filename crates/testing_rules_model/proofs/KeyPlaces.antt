@@ -6,7 +6,7 @@ use Rattle.std.specs.Cmp.{IsTotalOrder}
 use Rattle.std.specs.declared.cmp.Ordering.{Ordering}
 use Rattle.std.specs.declared.cmp.Ordering.TheVariants.{Less, Equal, Greater}
 use Rattle.std.proofs.Common.{◌≡◌, refl, sym, ap, ◌∙◌, arith}
-use Rattle.testing_rules_model.specs.Places.{IsPlaceFor}
+use Rattle.testing_rules_model.specs.steps.Places.{IsPlaceFor}
 use Rattle.testing_rules_items.specs.Words.{put_by}
 use Rattle.testing_rules_model.proofs.KeyOrder.{below_at, turned, searchable}
 

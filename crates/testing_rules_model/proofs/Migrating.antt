@@ -13,7 +13,8 @@ use Rattle.testing_rules_model.specs.Covered.{Covered}
 use Rattle.testing_rules_model.specs.FactLists.{FactLists}
 use Rattle.testing_rules_model.specs.StandsFor.{StandsFor}
 use Rattle.testing_rules_model.specs.Unstable.{unstable_sources, unstable_rows, built_rows, hints_by_number, is_in_force}
-use Rattle.testing_rules_model.specs.Updates.{Outcome, then_do, in_turn, remove_item, removals_of, move_easy, move_singles, wait_all, update_by, update_of}
+use Rattle.testing_rules_model.specs.Updates.{Outcome, then_do, in_turn, remove_item, removals_of, move_easy, move_singles, update_by, update_of}
+use Rattle.testing_rules_model.specs.steps.Updates.{wait_all}
 
 -- what is decided by facts is what is decided over the messages that they stand for
 pub update_by-facts : (archs : List Text) (facts : FactLists) (s : Covered) (t : Suite) (es : List Excuse) → StandsFor facts s t

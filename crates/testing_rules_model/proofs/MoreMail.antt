@@ -24,7 +24,7 @@ use Rattle.std.proofs.lemmas.Bool.{false≢true}
 use Rattle.std.proofs.Common.{arith}
 use Rattle.std.proofs.lemmas.Bool.Decides.{nat_tests}
 use Rattle.testing_rules_model.proofs.Orders.{text_order, build_total, above_is, not_below_trans}
-use Rattle.deb_version.specs.Laws.{version_order}
+use Rattle.deb_version.specs.steps.Laws.{version_order}
 use Rattle.testing_rules_model.proofs.Chosen.{chosen-put, chosen-skip}
 use Rattle.testing_rules_model.proofs.Falls.{least-keep, filter_map-keep}
 

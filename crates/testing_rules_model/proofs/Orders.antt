@@ -5,7 +5,7 @@ use Rattle.std.proofs.lemmas.Bool.{false≢true}
 use Rattle.std.proofs.lemmas.Cmp.{upto, on_total, then_total, back_total, lists_total, nat_cmp_total}
 use Rattle.std.proofs.lemmas.List.{take_more}
 use Rattle.std.proofs.lemmas.List.Elements.{filter-append}
-use Rattle.deb_version.specs.Laws.{version_order}
+use Rattle.deb_version.specs.steps.Laws.{version_order}
 use Rattle.testing_rules_model.specs.declared.facts.UploadIn.{UploadIn}
 use Rattle.testing_rules_model.specs.declared.facts.BuildIn.{BuildIn}
 use Rattle.testing_rules_model.specs.declared.facts.DropIn.{DropIn}
@@ -18,7 +18,8 @@ use Rattle.std.specs.declared.cmp.Ordering.{Ordering}
 use Rattle.std.specs.declared.cmp.Ordering.TheVariants.{Less, Equal, Greater}
 use Rattle.std.specs.Ordering.{is_lt, is_gt, ordering_reverse}
 use Rattle.std.specs.Cmp.{IsTotalOrder}
-use Rattle.testing_rules_items.specs.Words.{byte_cmp, lesser, least, first_of_two}
+use Rattle.testing_rules_items.specs.Words.{byte_cmp, lesser, least}
+use Rattle.testing_rules_items.specs.steps.Words.{first_of_two}
 
 is_lt-Less : (r : Ordering) → is_lt r ≡ true → r ≡ Less
 is_lt-Less Less e = refl

@@ -18,9 +18,10 @@ use Rattle.testing_rules_model.specs.Suite.{Suite}
 use Rattle.testing_rules_items.specs.Words.{Text, is_same_version}
 use Rattle.testing_rules_model.specs.Excuses.{testing_version}
 use Rattle.testing_rules_model.specs.Unstable.{is_in_force}
-use Rattle.testing_rules_model.specs.LentItems.{as_moved}
+use Rattle.testing_rules_model.specs.steps.LentItems.{as_moved}
 use Rattle.testing_rules_model.specs.Moves.{group_sources, move_group, remove_source, offender_of}
-use Rattle.testing_rules_model.specs.Updates.{Outcome, decide, nothing, in_turn, removals_of, remove_version, remove_item, is_candidate, is_in_testing, move_as_one, move_items, move_easy, moved_alone, offender_alone, is_allowed_alone, accepted, single_moves, remaining, update_by}
+use Rattle.testing_rules_model.specs.Updates.{Outcome, decide, nothing, in_turn, removals_of, remove_version, remove_item, is_candidate, is_in_testing, move_as_one, move_items, move_easy, moved_alone, offender_alone, single_moves, remaining, update_by}
+use Rattle.testing_rules_model.specs.steps.Updates.{is_allowed_alone, accepted}
 use Rattle.testing_rules_model.specs.Watched.{AllWatchedWork}
 use Rattle.testing_rules_model.proofs.Watching.{group-works, removal-works, found_passes}
 

@@ -11,7 +11,6 @@ use Rattle.testing_rules_model.specs.declared.facts.UploadIn.{UploadIn}
 use Rattle.testing_rules_items.specs.Words.{Text}
 use Rattle.testing_rules_model.specs.Suite.{Suite}
 use Rattle.testing_rules_model.specs.Covered.{Covered, uploads_in}
-use Rattle.testing_rules_model.specs.StandsFor.{AreUploadsOf, HaveCountedUploads}
 use Rattle.testing_rules_model.specs.Excuses.{urgency_rank, more_urgent, most_urgent, counts, is_news, testing_version}
 use Rattle.testing_rules_items.proofs.Members.{none_among, head_of, tail_of}
 use Rattle.testing_rules_model.proofs.MoreMail.{both_are}
@@ -98,7 +97,10 @@ module _ (p : UploadIn → Bool) where
       (most-bound (urgency_rank (most Low vs)) Low us (most-front Low vs) (λ u c h. most-each Low vs u (are u c) h))
       (most-bound (urgency_rank (most Low us)) Low vs (most-front Low us) (λ u c h. most-each Low us u (have u c h) h))
 
-pub urgent-same : (uploads : List UploadIn) (s : Covered) (t : Suite) (name : Text) → AreUploadsOf uploads s → HaveCountedUploads uploads s t
+pub urgent-same : (uploads : List UploadIn) (s : Covered) (t : Suite) (name : Text)
+    → ((u : UploadIn) → Contains uploads u → Contains (uploads_in s) u)
+    → ((u : UploadIn) → Contains (uploads_in s) u → is_news (testing_version t u.source) u.version ≡ true
+    → Contains uploads u)
     → most_urgent uploads (testing_version t name) name ≡ most_urgent (uploads_in s) (testing_version t name) name
 urgent-same uploads s t name are counted =
     most-same (counts (testing_version t name) name) uploads (uploads_in s) are

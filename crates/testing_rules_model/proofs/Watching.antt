@@ -16,7 +16,8 @@ use Rattle.testing_rules_model.specs.declared.update.Offender.{Offender}
 use Rattle.testing_rules_model.specs.Suite.{Suite}
 use Rattle.testing_rules_items.specs.Words.{Text, byte_cmp, is_empty, lesser, least}
 use Rattle.testing_rules_model.specs.Unstable.{is_current, is_of_source}
-use Rattle.testing_rules_model.specs.Moves.{row_key, row_cmp, is_row_of, source_in, move_group, remove_source, is_row_on, rows_on, RowAnswer, with_answers, judged_on, is_same_key, was_installable, is_watched_on, fails_on, first_failing, offender_on, first_of, offender_of}
+use Rattle.testing_rules_model.specs.Moves.{row_key, row_cmp, is_row_of, source_in, move_group, remove_source, rows_on, RowAnswer, with_answers, judged_on, is_same_key, was_installable, is_watched_on, fails_on, first_failing, offender_on, first_of, offender_of}
+use Rattle.testing_rules_model.specs.steps.Moves.{is_row_on}
 use Rattle.testing_rules_model.specs.Watched.{AllWatchedWork}
 use Rattle.testing_install.proofs.Choosing.{length-are}
 use Rattle.testing_rules_items.proofs.Each.{each-weaker, each-both, each-append, each-filter, each-all, every, each-put_all}

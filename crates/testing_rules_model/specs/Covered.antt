@@ -27,38 +27,26 @@ Covered = List CoveredItem
 
 -- an upload (Debian Policy 5.6.12, its version; 5.6.17, its urgency)
 abbrev pub upload_of : CoveredItem → Option UploadIn
-upload_of m = elim m.item [
-  | Upload source version urgency day ↦ Some (record { source = source; version = version; urgency = urgency; day = day; sender = m.sender; number = m.number })
-  | _ ↦ None
-]
+upload_of m =
+    elim m.item [ Upload n v u d ↦ Some (record { source = n; version = v; urgency = u; day = d; sender = m.sender; number = m.number }) | _ ↦ None ]
 
 -- a drop: a binary package that left unstable on an architecture (this office decides that mail reports it)
 abbrev pub drop_of : CoveredItem → Option DropIn
-drop_of m = elim m.item [
-  | Dropped name arch version ↦ Some (record { name = name; arch = arch; version = version; sender = m.sender; number = m.number })
-  | _ ↦ None
-]
+drop_of m =
+    elim m.item [ Dropped n a v ↦ Some (record { name = n; arch = a; version = v; sender = m.sender; number = m.number }) | _ ↦ None ]
 
 -- a bug (Debian Developer's Reference 5.13.2)
 abbrev pub bug_of : CoveredItem → Option BugIn
-bug_of m = elim m.item [
-  | Bug bug source severity found fixed ↦ Some (record { bug = bug; source = source; severity = severity; found = found; fixed = fixed; sender = m.sender; number = m.number })
-  | _ ↦ None
-]
+bug_of m =
+    elim m.item [ Bug b n s v w ↦ Some (record { bug = b; source = n; severity = s; found = v; fixed = w; sender = m.sender; number = m.number }) | _ ↦ None ]
 
 -- a hint (its words are named after britney2's hints; this office decides that it comes by mail)
 abbrev pub hint_of : CoveredItem → Option HintIn
-hint_of m = elim m.item [
-  | Hint hint ↦ Some (record { hint = hint; sender = m.sender; number = m.number })
-  | _ ↦ None
-]
+hint_of m = elim m.item [ Hint h ↦ Some (record { hint = h; sender = m.sender; number = m.number }) | _ ↦ None ]
 
 -- an unhint (this office decides it)
 abbrev pub unhint_of : CoveredItem → Option UnhintIn
-unhint_of m = elim m.item [
-  | Unhint number ↦ Some (record { cancels = number; sender = m.sender; number = m.number })
-  | _ ↦ None
-]
+unhint_of m = elim m.item [ Unhint n ↦ Some (record { cancels = n; sender = m.sender; number = m.number }) | _ ↦ None ]
 
 -- delays (this office decides that mail reports them)
 abbrev pub delays_of : CoveredItem → Option DelaysIn

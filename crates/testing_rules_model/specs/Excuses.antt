@@ -8,14 +8,13 @@ use Rattle.jiff_core.specs.Date.{epoch_day}
 use Rattle.testing_rules_items.specs.declared.item.Urgency.{Urgency}
 use Rattle.testing_rules_items.specs.declared.item.Urgency.TheVariants.{Low, Medium, High, Emergency, Critical}
 use Rattle.testing_rules_items.specs.declared.item.Hint.{Hint}
-use Rattle.testing_rules_items.specs.declared.item.Hint.TheVariants.{Block, BlockAll, Unblock, Easy, AgeDays, Remove}
+use Rattle.testing_rules_items.specs.declared.item.Hint.TheVariants.{Block, BlockAll, Unblock, AgeDays, Remove}
 use Rattle.testing_rules_items.specs.declared.item.HintItem.{HintItem}
 use Rattle.testing_rules_model.specs.declared.facts.UploadIn.{UploadIn}
 use Rattle.testing_rules_model.specs.declared.facts.BugIn.{BugIn}
 use Rattle.testing_rules_model.specs.declared.facts.HintIn.{HintIn}
 use Rattle.testing_rules_model.specs.declared.facts.Delays.{Delays}
 use Rattle.testing_rules_model.specs.declared.facts.DelaysIn.{DelaysIn}
-use Rattle.testing_rules_model.specs.declared.suite.SourceIn.{SourceIn}
 use Rattle.testing_rules_model.specs.declared.suite.RowIn.{RowIn}
 use Rattle.testing_rules_model.specs.declared.excuse.Excuse.{Excuse}
 use Rattle.testing_rules_model.specs.declared.excuse.Reason.{Reason}
@@ -25,13 +24,9 @@ use Rattle.testing_rules_items.specs.Words.{Text, is_above, is_same_version, onl
 use Rattle.testing_rules_model.specs.Covered.{Covered, uploads_in}
 use Rattle.testing_rules_model.specs.Unstable.{unstable_sources, place_numbers, unstable_rows, is_of_source, is_current, bug_states, is_release_critical, affects, in_force, last_delays}
 
--- the source's entry among testing's sources
-abbrev pub entry_of : List SourceIn → Text → Option SourceIn
-entry_of sources name = find (λ s. bytes_eq s.name name) sources
-
 -- the source's version in testing
 abbrev pub testing_version : Suite → Text → Option Text
-testing_version t name = option_map (λ s. s.version) (entry_of t.sources name)
+testing_version t name = option_map (λ s. s.version) (find (λ s. bytes_eq s.name name) t.sources)
 
 -- the version is above testing's, or testing has none (Debian Policy 5.6.12)
 abbrev pub is_news : Option Text → Text → Bool
@@ -56,8 +51,7 @@ abbrev pub days_of : Delays → Urgency → ℕ
 days_of d Low = d.low
 days_of d Medium = d.medium
 days_of d High = d.high
-days_of d Emergency = d.critical
-days_of d Critical = d.critical
+days_of d _ = d.critical
 
 -- the days without a message that sets others: 10, 5 and 2 of Debian Developer's Reference 5.13.2; this office decides
 -- the 0
@@ -107,18 +101,12 @@ is_new_bug testing u b =
     bytes_eq b.source u.source && is_release_critical b.severity && affects b u.version
     && option_map_or (λ v. not (affects b v)) testing true
 
--- unstable has a row of the source on the architecture (Debian Developer's Reference 5.13.2.1)
-abbrev pub has_row_on : List RowIn → UploadIn → ℕ → Bool
-has_row_on rows u arch = list_any (λ r. (r.arch == arch) && is_of_source u r) rows
-
--- unstable has a current row of the source on the architecture
-abbrev pub has_current_on : List RowIn → UploadIn → ℕ → Bool
-has_current_on rows u arch = list_any (λ r. (r.arch == arch) && is_current u r) rows
-
 -- the source has rows on the architecture, none of them current: it is out of date there (Debian Developer's Reference
 -- 5.13.2.1)
 abbrev pub is_missing_on : List RowIn → UploadIn → ℕ → Bool
-is_missing_on rows u arch = has_row_on rows u arch && not (has_current_on rows u arch)
+is_missing_on rows u arch =
+    list_any (λ r. (r.arch == arch) && is_of_source u r) rows
+    && not (list_any (λ r. (r.arch == arch) && is_current u r) rows)
 
 -- some row of the source is current (this office decides that a source without one stays out)
 abbrev pub has_current : List RowIn → UploadIn → Bool
@@ -129,40 +117,22 @@ has_current rows u = list_any (is_current u) rows
 abbrev pub blocks : Text → Hint → Bool
 blocks name (Block names) = list_any (bytes_eq name) names
 blocks name BlockAll = true
-blocks name (Unblock items) = false
-blocks name (Easy items) = false
-blocks name (AgeDays n items) = false
-blocks name (Remove items) = false
+blocks name _ = false
 
 -- a hint that lifts blocks for the source at this version (named after britney2's `unblock`)
 abbrev pub unblocks : Text → Text → Hint → Bool
 unblocks name v (Unblock items) = is_named items name v
-unblocks name v (Block names) = false
-unblocks name v BlockAll = false
-unblocks name v (Easy items) = false
-unblocks name v (AgeDays n items) = false
-unblocks name v (Remove items) = false
+unblocks name v _ = false
 
 -- a hint to remove the source at this version (named after britney2's `remove`)
 abbrev pub removes : Text → Text → Hint → Bool
 removes name v (Remove items) = is_named items name v
-removes name v (Block names) = false
-removes name v BlockAll = false
-removes name v (Unblock items) = false
-removes name v (Easy items) = false
-removes name v (AgeDays n items) = false
-
--- some hint keeps the source out
-abbrev pub asks_block : List HintIn → Text → Bool
-asks_block hints name = list_any (λ h. blocks name h.hint) hints
-
--- some hint lifts blocks for the source at this version
-abbrev pub lifts_block : List HintIn → Text → Text → Bool
-lifts_block hints name v = list_any (λ h. unblocks name v h.hint) hints
+removes name v _ = false
 
 -- a hint keeps the source out, and no hint lifts this for its unstable version
 abbrev pub is_blocked : List HintIn → UploadIn → Bool
-is_blocked hints u = asks_block hints u.source && not (lifts_block hints u.source u.version)
+is_blocked hints u =
+    list_any (λ h. blocks u.source h.hint) hints && not (list_any (λ h. unblocks u.source u.version h.hint) hints)
 
 -- a hint asks to remove the source at this version
 abbrev pub asks_removal : List HintIn → Text → Text → Bool
@@ -183,45 +153,22 @@ reasons_of places rows bugs hints testing is_young u =
     ++ only_if (is_blocked hints u) Blocked
     ++ only_if (is_removal_asked hints testing u) RemovalAsked
 
--- the input of a run's excuses apart from testing: unstable's rows, the states of bugs, the hints in force, the
--- uploads, the delays and the date
-pub record Ground : Type 0 where
-  pub rows : List RowIn
-  pub bugs : List BugIn
-  pub hints : List HintIn
-  pub uploads : List UploadIn
-  pub delays : Delays
-  pub date : Date
-
--- the excuse of an unstable source
-abbrev pub excuse_on : List ℕ → Ground → Option Text → UploadIn → Excuse
-excuse_on places g testing u =
-    let needed = days_needed g.delays g.hints g.uploads testing u in
+-- the excuse of an unstable source, of which testing has this version
+abbrev pub excuse_for : List Text → Covered → Date → Option Text → UploadIn → Excuse
+excuse_for archs s date testing u =
+    let needed = days_needed (delays_in_force (last_delays s)) (in_force s) (uploads_in s) testing u in
+    let is_young = nat_lt (age_of date u) needed in
     record {
       source = u.source;
       testing = testing;
       unstable = u.version;
-      age = age_of g.date u;
+      age = age_of date u;
       needed = needed;
-      reasons = reasons_of places g.rows g.bugs g.hints testing (nat_lt (age_of g.date u) needed) u;
+      reasons = reasons_of (place_numbers archs) (unstable_rows archs s) (bug_states s) (in_force s) testing is_young u;
     }
-
--- an excuse for each source that is above testing's version or isn't in testing
-abbrev pub excuses_on : List ℕ → Ground → Suite → List UploadIn → List Excuse
-excuses_on places g t sources =
-    map (λ u. excuse_on places g (testing_version t u.source) u) (filter (λ u. is_news (testing_version t u.source) u.version) sources)
-
--- that input from the covered messages
-abbrev pub ground_of : List Text → Covered → Date → Ground
-ground_of archs s date = record {
-  rows = unstable_rows archs s;
-  bugs = bug_states s;
-  hints = in_force s;
-  uploads = uploads_in s;
-  delays = delays_in_force (last_delays s);
-  date = date;
-}
 
 -- an excuse for each source of unstable that is above testing's version or isn't in testing, by name
 abbrev pub excuses_of : List Text → Covered → Suite → Date → List Excuse
-excuses_of archs s t date = excuses_on (place_numbers archs) (ground_of archs s date) t (unstable_sources s)
+excuses_of archs s t date =
+    let news = filter (λ u. is_news (testing_version t u.source) u.version) (unstable_sources s) in
+    map (λ u. excuse_for archs s date (testing_version t u.source) u) news

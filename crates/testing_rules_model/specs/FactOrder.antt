@@ -1,15 +1,10 @@
 -- The order in which facts are kept.
 use Rattle.std.specs.Prelude.{List, map}
 use Rattle.std.specs.List.Sorted.{IsStrictlySortedBy}
-use Rattle.std.specs.Ordering.{nat_cmp}
 use Rattle.testing_rules_model.specs.declared.facts.UploadIn.{UploadIn}
 use Rattle.testing_rules_model.specs.declared.facts.BuildIn.{BuildIn}
-use Rattle.testing_rules_model.specs.declared.facts.DropIn.{DropIn}
-use Rattle.testing_rules_model.specs.declared.facts.BugIn.{BugIn}
-use Rattle.testing_rules_model.specs.declared.suite.RowIn.{RowIn}
-use Rattle.testing_rules_model.specs.InOrder.{AreByKey}
 use Rattle.testing_rules_items.specs.Words.{byte_cmp}
-use Rattle.testing_rules_model.specs.Unstable.{pair_order, pair_of, drop_pair}
+use Rattle.testing_rules_model.specs.Unstable.{pair_order, pair_of}
 
 -- uploads in byte order of their sources, each source once
 abbrev pub AreBySource : List UploadIn → Type 0
@@ -18,23 +13,3 @@ AreBySource uploads = IsStrictlySortedBy byte_cmp (map (λ u. u.source) uploads)
 -- builds by architecture and then in byte order of their names, each pair once
 abbrev pub AreByPair : List BuildIn → Type 0
 AreByPair builds = IsStrictlySortedBy pair_order (map pair_of builds)
-
--- drops by architecture and then in byte order of their names, each pair once
-abbrev pub AreDropsByPair : List DropIn → Type 0
-AreDropsByPair drops = IsStrictlySortedBy pair_order (map drop_pair drops)
-
--- states of bugs by number, each number once
-abbrev pub AreByNumber : List BugIn → Type 0
-AreByNumber bugs = IsStrictlySortedBy nat_cmp (map (λ b. b.bug) bugs)
-
--- unstable's sources and rows, the greatest drops and the states of the bugs
-pub record IsFactOrder (sources : List UploadIn) (rows : List BuildIn) (drops : List DropIn) (bugs : List BugIn) : Type 0 where
-  pub by_source : AreBySource sources
-  pub by_pair : AreByPair rows
-  pub drops_by_pair : AreDropsByPair drops
-  pub by_number : AreByNumber bugs
-
--- the order of unstable's sources and rows that moves use
-pub record IsUnstableOrder (sources : List UploadIn) (rows : List RowIn) : Type 0 where
-  pub by_source : AreBySource sources
-  pub by_key : AreByKey rows

@@ -1,16 +1,10 @@
 -- The rows of facts: for each fact, the message that gives it. This office decides to keep facts as rows.
-use Rattle.std.specs.Prelude.{◌≡◌, ◌⊎◌, ℕ, ◌==◌, ◌&&◌, if◌then◌else◌, Bool, List, ◌++◌, map, Option, Some, None, option_to_list}
+use Rattle.std.specs.Prelude.{◌≡◌, ◌⊎◌, ℕ, ◌==◌, ◌&&◌, Bool, List, [], ◌∷◌, ◌++◌, map, find, Option, option_to_list}
 use Rattle.std.specs.List.{count_by}
 use Rattle.std.specs.declared.cmp.Ordering.{Ordering}
 use Rattle.std.specs.Ordering.{nat_cmp, then_cmp, on}
 use Rattle.testing_rules_model.specs.FactLists.{FactLists}
 use Rattle.testing_rules_model.specs.declared.facts.UploadIn.{UploadIn}
-use Rattle.testing_rules_model.specs.declared.facts.BuildIn.{BuildIn}
-use Rattle.testing_rules_model.specs.declared.facts.DropIn.{DropIn}
-use Rattle.testing_rules_model.specs.declared.facts.BugIn.{BugIn}
-use Rattle.testing_rules_model.specs.declared.facts.HintIn.{HintIn}
-use Rattle.testing_rules_model.specs.declared.facts.UnhintIn.{UnhintIn}
-use Rattle.testing_rules_model.specs.declared.facts.DelaysIn.{DelaysIn}
 use Rattle.testing_rules_model.specs.declared.fact_row.FactKind.{FactKind}
 use Rattle.testing_rules_model.specs.declared.fact_row.FactKind.TheVariants.{Source, Upload, Build, Drop, Bug, Hint, Unhint, Delays}
 use Rattle.testing_rules_model.specs.declared.fact_row.FactRow.{FactRow}
@@ -28,51 +22,28 @@ number_of Delays = 8
 
 -- the kind with a number, if there is one
 abbrev pub kind_of : ℕ → Option FactKind
-kind_of n =
-    if n == 1 then Some Source else if n == 2 then Some Upload else if n == 3 then Some Build else if n == 4 then Some Drop
-    else if n == 5 then Some Bug else if n == 6 then Some Hint else if n == 7 then Some Unhint else if n == 8 then Some Delays else None
+kind_of n = find (λ k. n == number_of k) (Source ∷ Upload ∷ Build ∷ Drop ∷ Bug ∷ Hint ∷ Unhint ∷ Delays ∷ [])
 
 -- whether two kinds are the same
 abbrev pub is_kind : FactKind → FactKind → Bool
 is_kind k l = number_of k == number_of l
 
--- the row of an unstable source
-abbrev pub source_row : UploadIn → FactRow
-source_row u = record { kind = Source; sender = u.sender; number = u.number; place = 0 }
-
 -- the row of an upload above testing's version
 abbrev pub upload_row : UploadIn → FactRow
 upload_row u = record { kind = Upload; sender = u.sender; number = u.number; place = 0 }
 
--- the row of an unstable row, with its paragraph
-abbrev pub build_row : BuildIn → FactRow
-build_row b = record { kind = Build; sender = b.sender; number = b.number; place = b.place }
-
--- the row of a greatest drop
-abbrev pub drop_row : DropIn → FactRow
-drop_row d = record { kind = Drop; sender = d.sender; number = d.number; place = 0 }
-
--- the row of a bug's last message
-abbrev pub bug_row : BugIn → FactRow
-bug_row b = record { kind = Bug; sender = b.sender; number = b.number; place = 0 }
-
--- the row of a hint
-abbrev pub hint_row : HintIn → FactRow
-hint_row h = record { kind = Hint; sender = h.sender; number = h.number; place = 0 }
-
--- the row of an unhint
-abbrev pub unhint_row : UnhintIn → FactRow
-unhint_row c = record { kind = Unhint; sender = c.sender; number = c.number; place = 0 }
-
--- the row of the last delays
-abbrev pub delays_row : DelaysIn → FactRow
-delays_row d = record { kind = Delays; sender = d.sender; number = d.number; place = 0 }
-
--- the rows of all facts
+-- the rows of all facts; that of an unstable row has the place of its paragraph
 abbrev pub rows_of : FactLists → List FactRow
 rows_of f =
-    map source_row f.sources ++ (map upload_row f.uploads ++ (map build_row f.rows ++ (map drop_row f.drops
-    ++ (map bug_row f.bugs ++ (map hint_row f.hints ++ (map unhint_row f.unhints ++ map delays_row (option_to_list f.delays)))))))
+    let last = option_to_list f.delays in
+    map (λ u. record { kind = Source; sender = u.sender; number = u.number; place = 0 }) f.sources
+    ++ (map upload_row f.uploads
+    ++ (map (λ b. record { kind = Build; sender = b.sender; number = b.number; place = b.place }) f.rows
+    ++ (map (λ d. record { kind = Drop; sender = d.sender; number = d.number; place = 0 }) f.drops
+    ++ (map (λ b. record { kind = Bug; sender = b.sender; number = b.number; place = 0 }) f.bugs
+    ++ (map (λ h. record { kind = Hint; sender = h.sender; number = h.number; place = 0 }) f.hints
+    ++ (map (λ c. record { kind = Unhint; sender = c.sender; number = c.number; place = 0 }) f.unhints
+    ++ map (λ d. record { kind = Delays; sender = d.sender; number = d.number; place = 0 }) last))))))
 
 -- a possible row of facts: only the row of a paragraph has a place
 pub record IsFactRow (r : FactRow) : Type 0 where

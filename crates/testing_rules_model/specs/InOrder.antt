@@ -13,8 +13,3 @@ AreByName sources = IsStrictlySortedBy byte_cmp (map (λ s. s.name) sources)
 -- rows by architecture and then in byte order of their names, each pair once
 abbrev pub AreByKey : List RowIn → Type 0
 AreByKey rows = IsStrictlySortedBy row_cmp (map row_key rows)
-
--- both
-pub record IsInOrder (sources : List SourceIn) (rows : List RowIn) : Type 0 where
-  pub by_name : AreByName sources
-  pub by_key : AreByKey rows

@@ -1,7 +1,6 @@
 -- The uploads that count with a testing, and the facts that keep no others. This office decides to keep facts; Excuses
 -- says which uploads count (Debian Developer's Reference 5.13.2).
-use Rattle.std.specs.Prelude.{◌≡◌, ◌++◌, ◌⊎◌, Bool, true, not, List, map, filter, Contains}
-use Rattle.testing_rules_items.specs.Words.{Text}
+use Rattle.std.specs.Prelude.{◌≡◌, ◌++◌, Bool, true, not, map, filter, Contains}
 use Rattle.testing_rules_model.specs.declared.facts.UploadIn.{UploadIn}
 use Rattle.testing_rules_model.specs.Suite.{Suite}
 use Rattle.testing_rules_model.specs.FactLists.{FactLists}
@@ -25,8 +24,3 @@ trimmed t f = record f {
 pub record KeptFacts (f : FactLists) (s : Covered) (t : Suite) : Type 0 where
   pub stand : StandsFor f s t
   pub only : (u : UploadIn) → Contains f.uploads u → counts_beside t u ≡ true
-
--- what counts with the new testing counted with the old one, except for the sources with these names, which were
--- removed or fell
-abbrev pub AreFallen : List Text → Suite → Suite → Type 0
-AreFallen names old new = (name v : Text) → is_news (testing_version new name) v ≡ true → (is_news (testing_version old name) v ≡ true) ⊎ Contains names name

@@ -9,9 +9,7 @@ pub mod KeptFacts
 pub mod Provenance
 pub mod InOrder
 pub mod JudgedRows
-pub mod LentItems
 pub mod Moves
-pub mod Places
 pub mod SameMessages
 pub mod StandsFor
 pub mod Suite
@@ -19,5 +17,5 @@ pub mod Tells
 pub mod WithMessage
 pub mod Unstable
 pub mod Updates
-pub mod SourceFilter
 pub mod Watched
+pub mod steps

@@ -63,13 +63,9 @@ remove_source name t = record {
   rows = filter (λ r. not (bytes_eq r.binary.source name)) t.rows;
 }
 
--- an architecture's rows are its own and those of `all` (Debian Policy 5.6.8)
-abbrev pub is_row_on : ℕ → RowIn → Bool
-is_row_on arch r = (r.arch == arch) || (r.arch == all_place)
-
--- the given rows that are on the architecture
+-- the given rows that are on the architecture: its own and those of `all` (Debian Policy 5.6.8)
 abbrev pub rows_on : ℕ → List RowIn → List RowIn
-rows_on arch rows = filter (is_row_on arch) rows
+rows_on arch rows = filter (λ r. (r.arch == arch) || (r.arch == all_place)) rows
 
 -- a row on an architecture, and whether it is installable there
 pub record RowAnswer : Type 0 where
@@ -78,9 +74,8 @@ pub record RowAnswer : Type 0 where
 
 -- rows with their answers, one for one
 abbrev pub with_answers : List RowIn → List Bool → List RowAnswer
-with_answers [] answers = []
-with_answers (r ∷ rs) [] = []
 with_answers (r ∷ rs) (b ∷ bs) = record { row = r; is_installable = b } ∷ with_answers rs bs
+with_answers _ _ = []
 
 -- each row on the architecture with its answer (Debian Policy 7.1, 7.2 and 7.5)
 abbrev pub judged_on : ℕ → List RowIn → List RowAnswer

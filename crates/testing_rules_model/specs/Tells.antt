@@ -1,6 +1,7 @@
 -- Facts that messages say, whether or not they stand for the messages. This office decides to keep facts.
-use Rattle.std.specs.Prelude.{Contains, option_to_list}
+use Rattle.std.specs.Prelude.{Contains, map, option_to_list}
 use Rattle.std.specs.List.Sorted.{IsStrictlySortedBy}
+use Rattle.std.specs.Ordering.{nat_cmp}
 use Rattle.testing_rules_model.specs.declared.facts.UploadIn.{UploadIn}
 use Rattle.testing_rules_model.specs.declared.facts.BuildIn.{BuildIn}
 use Rattle.testing_rules_model.specs.declared.facts.DropIn.{DropIn}
@@ -9,9 +10,9 @@ use Rattle.testing_rules_model.specs.declared.facts.HintIn.{HintIn}
 use Rattle.testing_rules_model.specs.declared.facts.UnhintIn.{UnhintIn}
 use Rattle.testing_rules_model.specs.declared.facts.DelaysIn.{DelaysIn}
 use Rattle.testing_rules_model.specs.FactLists.{FactLists}
-use Rattle.testing_rules_model.specs.FactOrder.{AreBySource, AreByPair, AreDropsByPair, AreByNumber}
+use Rattle.testing_rules_model.specs.FactOrder.{AreBySource, AreByPair}
 use Rattle.testing_rules_model.specs.Covered.{Covered, uploads_in, builds_in, drops_in, bugs_in, hints_in, unhints_in, delays_in}
-use Rattle.testing_rules_model.specs.Unstable.{hint_order, unhint_order}
+use Rattle.testing_rules_model.specs.Unstable.{pair_order, drop_pair, hint_order, unhint_order}
 
 -- a message of the set says each fact
 pub record AreSaidBy (f : FactLists) (s : Covered) : Type 0 where
@@ -28,8 +29,8 @@ pub record AreSaidBy (f : FactLists) (s : Covered) : Type 0 where
 pub record AreOrderly (f : FactLists) : Type 0 where
   pub by_source : AreBySource f.sources
   pub by_pair : AreByPair f.rows
-  pub drops_by_pair : AreDropsByPair f.drops
-  pub by_number : AreByNumber f.bugs
+  pub drops_by_pair : IsStrictlySortedBy pair_order (map drop_pair f.drops)
+  pub by_number : IsStrictlySortedBy nat_cmp (map (λ b. b.bug) f.bugs)
   pub hints : IsStrictlySortedBy hint_order f.hints
   pub unhints : IsStrictlySortedBy unhint_order f.unhints
 

@@ -95,13 +95,10 @@ place_numbers archs = range_with_len 0 (length archs) ++ all_place ∷ []
 abbrev pub row_at : ℕ → BuildIn → RowIn
 row_at arch b = record { arch = arch; binary = b.binary; sender = b.sender; number = b.number; place = b.place }
 
--- the builds of an architecture as its rows, at its place
-abbrev pub built_on : List BuildIn → ℕ × Text → List RowIn
-built_on builds p = map (row_at p.0) (filter (λ b. bytes_eq b.binary.architecture p.1) builds)
-
 -- builds as rows, by the place of their architecture
 abbrev pub built_rows : List Text → List BuildIn → List RowIn
-built_rows archs builds = flat_map (built_on builds) (places archs)
+built_rows archs builds =
+    flat_map (λ p. map (row_at p.0) (filter (λ b. bytes_eq b.binary.architecture p.1) builds)) (places archs)
 
 -- unstable's rows, by the place of their architecture and by name
 abbrev pub unstable_rows : List Text → Covered → List RowIn

@@ -3,7 +3,7 @@
 -- circle.
 use Rattle.std.specs.Prelude.{◌≡◌, ℕ, zero, suc, Bool, true, false, ◌&&◌, not, List, [], ◌∷◌, ◌++◌, map, filter, find, length, Option, Some, None, option_map}
 use Rattle.std.specs.List.{filter_map, flat_map, list_any, before_first, after_first}
-use Rattle.std.specs.Option.{option_map_or, option_to_list, is_none}
+use Rattle.std.specs.Option.{option_map_or, is_none}
 use Rattle.std.specs.Str.{bytes_eq}
 use Rattle.testing_rules_items.specs.declared.item.Hint.TheVariants.{Easy, Remove}
 use Rattle.testing_rules_items.specs.declared.item.HintItem.{HintItem}
@@ -116,61 +116,34 @@ remaining excuses t = filter (is_remaining t) excuses
 abbrev pub moved_alone : List UploadIn → List RowIn → Suite → Excuse → Suite
 moved_alone sources rows t e = move_group sources rows (e.source ∷ []) t
 
--- the first row broken by the candidate's move alone, from one testing to another
-abbrev pub broken_alone : List Text → Suite → Suite → Excuse → Option Offender
-broken_alone archs old new e = offender_of archs old.rows new.rows (e.source ∷ [])
-
 -- the first row that moving the candidate alone would break
 abbrev pub offender_alone : List Text → List UploadIn → List RowIn → Suite → Excuse → Option Offender
-offender_alone archs sources rows t e = broken_alone archs t (moved_alone sources rows t e) e
+offender_alone archs sources rows t e = offender_of archs t.rows (moved_alone sources rows t e).rows (e.source ∷ [])
 
--- moving the candidate alone breaks nothing
-abbrev pub is_allowed_alone : List Text → List UploadIn → List RowIn → Suite → Excuse → Bool
-is_allowed_alone archs sources rows t e = is_none (offender_alone archs sources rows t e)
-
--- the line of a candidate that moves (this office decides it)
-abbrev pub accepted : Excuse → Decision
-accepted e = Accept e.source e.unstable
-
--- the line of a candidate that waits, with the first row that its move would break (this office decides it)
-abbrev pub waiting : Excuse → Offender → Decision
-waiting e o = Wait e.source e.unstable o
-
--- the first allowed candidate in circular order moves; the next round begins with those after it and ends with those
--- before it, until none is allowed (this office decides the order). There are at most n moves
+-- the first allowed candidate in circular order moves, and gets a line; the next round begins with those after it and
+-- ends with those before it, until none is allowed (this office decides the order). There are at most n moves
 abbrev pub single_moves : List Text → List UploadIn → List RowIn → ℕ → List Excuse → Suite → Outcome
 single_moves archs sources rows zero es t = nothing t
 single_moves archs sources rows (suc n) es t =
-    let is_allowed : Excuse → Bool = is_allowed_alone archs sources rows t in
+    let is_allowed : Excuse → Bool = λ e. is_none (offender_alone archs sources rows t e) in
     elim (find is_allowed es) [
       | None ↦ nothing t
       | Some e ↦ let rest = single_moves archs sources rows n (after_first is_allowed es ++ before_first is_allowed es) (moved_alone sources rows t e) in
-          record { decisions = accepted e ∷ rest.decisions; suite = rest.suite }
+          record { decisions = Accept e.source e.unstable ∷ rest.decisions; suite = rest.suite }
     ]
-
--- the single moves of these candidates, beginning with the first
-abbrev pub move_circle : List Text → List UploadIn → List RowIn → List Excuse → Suite → Outcome
-move_circle archs sources rows es t = single_moves archs sources rows (length es) es t
 
 -- the single moves of the candidates that haven't moved, by name
 abbrev pub move_singles : List Text → List UploadIn → List RowIn → List Excuse → Suite → Outcome
-move_singles archs sources rows excuses t = move_circle archs sources rows (remaining excuses t) t
+move_singles archs sources rows excuses t =
+    let es = remaining excuses t in single_moves archs sources rows (length es) es t
 
--- a candidate waits for the first row that moving it alone would break
+-- the line of a candidate that waits, with the first row that moving it alone would break (this office decides it)
 abbrev pub wait_for : List Text → List UploadIn → List RowIn → Suite → Excuse → Option Decision
-wait_for archs sources rows t e = option_map (waiting e) (offender_alone archs sources rows t e)
-
--- the same, with testing unchanged
-abbrev pub wait : List Text → List UploadIn → List RowIn → Excuse → Suite → Outcome
-wait archs sources rows e t = record { decisions = option_to_list (wait_for archs sources rows t e); suite = t }
+wait_for archs sources rows t e = option_map (Wait e.source e.unstable) (offender_alone archs sources rows t e)
 
 -- the remaining candidates wait
 abbrev pub waits : List Text → List UploadIn → List RowIn → List Excuse → Suite → List Decision
 waits archs sources rows excuses t = filter_map (wait_for archs sources rows t) (remaining excuses t)
-
--- the same, with testing unchanged
-abbrev pub wait_all : List Text → List UploadIn → List RowIn → List Excuse → Suite → Outcome
-wait_all archs sources rows excuses t = record { decisions = waits archs sources rows excuses t; suite = t }
 
 -- removals, then groups, then single moves, and last the waiting candidates (this office decides the order), with these
 -- unstable sources and rows

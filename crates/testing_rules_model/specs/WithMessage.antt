@@ -1,6 +1,5 @@
 -- The lists of facts with one more message.
 use Rattle.std.specs.Prelude.{Bool, ◌&&◌, ◌||◌, not, if◌then◌else◌, List, [], ◌∷◌, filter, Option}
-use Rattle.std.specs.List.{list_all}
 use Rattle.std.specs.Str.{bytes_eq}
 use Rattle.std.specs.declared.cmp.Ordering.{Ordering}
 use Rattle.std.specs.declared.cmp.Ordering.TheVariants.{Less, Equal, Greater}
@@ -53,10 +52,6 @@ with_delays = lesser delays_order
 -- the build outlives the drop: it has another architecture or name, or a greater version
 abbrev pub outlives : DropIn → BuildIn → Bool
 outlives d b = not (bytes_eq d.arch b.binary.architecture && bytes_eq d.name b.binary.name) || is_above b.binary.version d.version
-
--- it outlives all of them
-abbrev pub stands_beside : List DropIn → BuildIn → Bool
-stands_beside drops b = list_all (λ d. outlives d b) drops
 
 -- rows with one more drop
 abbrev pub with_drop : DropIn → List BuildIn → List BuildIn

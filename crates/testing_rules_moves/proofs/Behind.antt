@@ -9,7 +9,7 @@ use Rattle.testing_rules_model.specs.declared.facts.UploadIn.{UploadIn}
 use Rattle.testing_rules_model.specs.declared.suite.RowIn.{RowIn}
 use Rattle.testing_rules_model.specs.InOrder.{AreByKey}
 use Rattle.testing_rules_model.specs.Suite.{Suite}
-use Rattle.testing_rules_moves.specs.Turns.{after_groups, after_removals}
+use Rattle.testing_rules_moves.specs.steps.Turns.{after_groups, after_removals}
 
 pub groups_are : (archs : List Text) (rows : List RowIn) (es : List Excuse) (grouped : List HintIn) (t : Suite) {us sources : List UploadIn} {hs hints : List HintIn} {cs unhints : List UnhintIn}
     → us ≡ sources → hs ≡ hints → cs ≡ unhints

@@ -13,7 +13,8 @@ use Rattle.testing_rules_model.specs.declared.excuse.Excuse.{Excuse}
 use Rattle.testing_rules_model.specs.declared.update.Offender.{Offender}
 use Rattle.testing_rules_model.specs.Suite.{Suite}
 use Rattle.testing_rules_items.specs.Words.{Text}
-use Rattle.testing_rules_model.specs.Updates.{Outcome, then_do, decide, nothing, in_turn, accepted, waiting, offender_alone, moved_alone, is_allowed_alone, single_moves, move_circle, wait_for, wait}
+use Rattle.testing_rules_model.specs.Updates.{Outcome, then_do, decide, nothing, in_turn, offender_alone, moved_alone, single_moves, wait_for}
+use Rattle.testing_rules_model.specs.steps.Updates.{accepted, waiting, is_allowed_alone, move_circle, wait}
 use Rattle.testing_rules_moves.proofs.InTurn.{then-then, then-nothing}
 
 -- a list turned round to one of its elements, which then goes

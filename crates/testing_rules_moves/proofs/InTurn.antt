@@ -13,8 +13,8 @@ use Rattle.std.specs.Prelude.{◌==◌, find, not}
 use Rattle.std.proofs.lemmas.Bool.{false≢true}
 use Rattle.testing_rules_items.specs.declared.item.HintItem.{HintItem}
 use Rattle.testing_rules_model.specs.declared.excuse.Excuse.{Excuse}
-use Rattle.testing_rules_moves.specs.LentItems.{items_of}
-use Rattle.testing_rules_model.specs.LentItems.{as_moved}
+use Rattle.testing_rules_moves.specs.steps.LentItems.{items_of}
+use Rattle.testing_rules_model.specs.steps.LentItems.{as_moved}
 use Rattle.testing_rules_model.specs.declared.update.Offender.{Offender}
 use Rattle.testing_rules_model.specs.declared.update.Decision.TheVariants.{RemoveDone, RemoveRefused, EasyDone, EasyRefused, EasyNotCandidate}
 use Rattle.testing_rules_model.specs.Moves.{offender_of, remove_source, group_sources, move_group}

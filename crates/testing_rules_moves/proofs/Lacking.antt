@@ -18,23 +18,24 @@ use Rattle.testing_install.proofs.Choosing.{are_exact}
 use Rattle.testing_rules_items.specs.Words.{Text, byte_cmp, lesser, least, all_place}
 use Rattle.testing_rules_items.proofs.Members.{none_among}
 use Rattle.testing_rules_items.proofs.Tests.{both_true}
-use Rattle.testing_rules_live.specs.Lacks.{arriving, meets_on, IsUnmet, IsLackOfMove, NoneMeets, Lacks}
+use Rattle.testing_rules_live.specs.steps.Lacks.{arriving, meets_on, IsUnmet, IsLackOfMove, NoneMeets, Lacks}
 use Rattle.testing_rules_model.specs.declared.facts.UploadIn.{UploadIn}
 use Rattle.testing_rules_model.specs.declared.suite.RowIn.{RowIn}
 use Rattle.testing_rules_model.specs.declared.update.Offender.{Offender}
 use Rattle.testing_rules_model.specs.InOrder.{AreByKey}
-use Rattle.testing_rules_model.specs.Moves.{group_sources, move_group, is_row_on, rows_on, is_row_of, is_watched_on, was_installable, fails_on, first_failing, judged_on, offender_on, first_of, offender_of, RowAnswer}
-use Rattle.testing_rules_model.specs.SourceFilter.{hash_passes, passing_rows}
+use Rattle.testing_rules_model.specs.Moves.{group_sources, move_group, rows_on, is_row_of, is_watched_on, was_installable, fails_on, first_failing, judged_on, offender_on, first_of, offender_of, RowAnswer}
+use Rattle.testing_rules_model.specs.steps.Moves.{is_row_on}
+use Rattle.testing_rules_model.specs.steps.SourceFilter.{hash_passes, passing_rows}
 use Rattle.testing_rules_model.specs.Suite.{Suite}
 use Rattle.testing_rules_model.specs.Unstable.{is_current}
 use Rattle.testing_rules_model.proofs.Least.{from_filter, to_filter}
 use Rattle.testing_rules_model.proofs.Ordered.{by_key-put_all, by_key-kept}
 use Rattle.testing_rules_model.proofs.Sets.{first_or_rest, gives, spread_from, spreads, maps}
-use Rattle.testing_rules_suites.specs.AfterMoves.{rows_at}
-use Rattle.testing_rules_suites.specs.Changes.{has, comes_at, stands_for, AreThose, IsMoveOf}
+use Rattle.testing_rules_suites.specs.steps.AfterMoves.{rows_at}
+use Rattle.testing_rules_suites.specs.steps.Changes.{has, comes_at, stands_for, AreThose, IsMoveOf}
 use Rattle.testing_rules_suites.specs.Present.{IsShown}
-use Rattle.testing_rules_suites.specs.PresentSteps.{IsOn, IsLive, PoolState}
-use Rattle.testing_rules_suites.specs.Trials.{is_place_on}
+use Rattle.testing_rules_suites.specs.steps.PresentSteps.{IsOn, IsLive, PoolState}
+use Rattle.testing_rules_suites.specs.steps.Trials.{is_place_on}
 use Rattle.testing_rules_suites.proofs.Arranging.{at_some_of, move_of_places, from_has, to_has}
 use Rattle.testing_rules_suites.proofs.Lost.{any_of, contains_at, at_place, get_map, of_map, judged_at}
 use Rattle.testing_rules_suites.proofs.Moving.{IsMove, AreOthers, puts_from, puts_have, source_of_group}

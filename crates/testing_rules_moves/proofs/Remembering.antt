@@ -16,7 +16,8 @@ use Rattle.deb_control.specs.declared.relation.Provision.{Provision}
 use Rattle.testing_install.specs.Among.{with_all}
 use Rattle.testing_install.specs.Closed.{marked}
 use Rattle.testing_install.specs.Index.{PlacesByName, places_at, bears}
-use Rattle.testing_install.specs.Needers.{names, places_for, IsNotedAt}
+use Rattle.testing_install.specs.Needers.{names, IsNotedAt}
+use Rattle.testing_install.specs.steps.Needers.{places_for}
 use Rattle.testing_install.specs.Satisfies.{satisfies}
 use Rattle.testing_install.proofs.Finding.{any_true, any_at, satisfies_bears}
 use Rattle.testing_install.proofs.Marking.{with_stays, with_here, with_elsewhere, mark_within}
@@ -26,8 +27,8 @@ use Rattle.testing_rules_items.specs.Words.{Text}
 use Rattle.testing_rules_items.proofs.Members.{none_among}
 use Rattle.testing_rules_live.specs.declared.live_rows.LiveRows.{LiveRows}
 use Rattle.testing_rules_live.specs.declared.live_rows.LiveRows.TheVariants.{Pooled, Listed}
-use Rattle.testing_rules_live.specs.Held.{IsChangeBy}
-use Rattle.testing_rules_live.specs.Lacks.{arriving}
+use Rattle.testing_rules_live.specs.steps.Held.{IsChangeBy}
+use Rattle.testing_rules_live.specs.steps.Lacks.{arriving}
 use Rattle.testing_rules_model.specs.declared.excuse.Excuse.{Excuse}
 use Rattle.testing_rules_model.specs.declared.facts.UploadIn.{UploadIn}
 use Rattle.testing_rules_model.specs.declared.suite.RowIn.{RowIn}
@@ -35,9 +36,9 @@ use Rattle.testing_rules_model.specs.InOrder.{AreByKey}
 use Rattle.testing_rules_model.proofs.Sets.{first_or_rest}
 use Rattle.testing_rules_moves.specs.declared.refusals.Numbered.{Numbered}
 use Rattle.testing_rules_moves.specs.declared.refusals.Refusals.{Refusals}
-use Rattle.testing_rules_moves.specs.LentItems.{lent_excuses}
-use Rattle.testing_rules_moves.specs.Refusals.{excuses_of, IsNumbered, AreNumbered, IsRefused, AreRefused, AreWoken, IsWithinRows, woken_by}
-use Rattle.testing_rules_moves.specs.Runs.{Moment, IsLacking, after_move, broken_by_move}
+use Rattle.testing_rules_moves.specs.steps.LentItems.{lent_excuses}
+use Rattle.testing_rules_moves.specs.steps.Refusals.{excuses_of, IsNumbered, AreNumbered, IsRefused, AreRefused, AreWoken, IsWithinRows, woken_by}
+use Rattle.testing_rules_moves.specs.steps.Runs.{Moment, IsLacking, after_move, broken_by_move}
 use Rattle.testing_rules_moves.proofs.Lacking.{after_by_key, lack_refused, lack_stays}
 use Rattle.testing_rules_suites.specs.declared.change.Change.{Change}
 

@@ -6,8 +6,9 @@ use Rattle.testing_rules_items.specs.Words.{Text}
 use Rattle.testing_rules_model.specs.declared.excuse.Excuse.{Excuse}
 use Rattle.testing_rules_model.specs.declared.update.Offender.{Offender}
 use Rattle.testing_rules_model.specs.Suite.{Suite}
-use Rattle.testing_rules_moves.specs.Runs.{Basis, Run, go_on, moment_of, broken_by_move}
-use Rattle.testing_rules_model.specs.Updates.{Outcome, then_do, in_turn, decide, accepted, waiting, offender_alone, moved_alone, is_allowed_alone, move_circle, wait}
+use Rattle.testing_rules_moves.specs.steps.Runs.{Basis, Run, go_on, moment_of, broken_by_move}
+use Rattle.testing_rules_model.specs.Updates.{Outcome, then_do, in_turn, decide, offender_alone, moved_alone}
+use Rattle.testing_rules_model.specs.steps.Updates.{accepted, waiting, is_allowed_alone, move_circle, wait}
 use Rattle.testing_rules_moves.proofs.InTurn.{turn-next, turns-over, hint-next, hint-skipped, hints-over, passing-next, passing-skipped, passing-over}
 use Rattle.testing_rules_moves.proofs.Circle.{circle-next, circle-over, wait-for, wait-none}
 

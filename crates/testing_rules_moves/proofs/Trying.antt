@@ -5,12 +5,12 @@ use Rattle.std.proofs.Common.{◌≡◌, refl, sym, ap, ◌∙◌, subst, arith,
 use Rattle.std.proofs.lemmas.Bool.{false≢true}
 use Rattle.std.proofs.lemmas.List.{length-map, get_or-map, take-map, drop-map, map-append, take-append-drop}
 use Rattle.std.proofs.lemmas.List.Elements.{Contains-append_left, Contains-append_right, Contains-append_cases}
-use Rattle.testing_rules_live.specs.Lacks.{arriving}
+use Rattle.testing_rules_live.specs.steps.Lacks.{arriving}
 use Rattle.testing_rules_model.specs.declared.excuse.Excuse.{Excuse}
 use Rattle.testing_rules_moves.specs.declared.refusals.Numbered.{Numbered}
 use Rattle.testing_rules_moves.specs.declared.refusals.Refusals.{Refusals}
-use Rattle.testing_rules_moves.specs.Refusals.{excuses_of, IsNumbered, AreNumbered, AreRefused, AreWoken, IsTried, IsNext}
-use Rattle.testing_rules_moves.specs.Runs.{Run, go_on, moment_of}
+use Rattle.testing_rules_moves.specs.steps.Refusals.{excuses_of, IsNumbered, AreNumbered, AreRefused, AreWoken, IsTried, IsNext}
+use Rattle.testing_rules_moves.specs.steps.Runs.{Run, go_on, moment_of}
 use Rattle.testing_rules_moves.proofs.Circle.{search-on, search-found, search-over}
 use Rattle.testing_rules_moves.proofs.Remembering.{numbers_of_part, refused_moved}
 use Rattle.testing_rules_moves.proofs.Runs.{allowed_in, alone_in, circle_in, run_circle-next, run_circle-over}

@@ -1,4 +1,1 @@
-pub mod LentItems
-pub mod Refusals
-pub mod Runs
-pub mod Turns
+pub mod steps

@@ -4,17 +4,18 @@ ghost use Rattle.std.specs.Prelude.{◌≡◌, [], ◌<◌, IfOk, IfSome, List, 
 ghost use Rattle.std.specs.List.{All};
 ghost use Rattle.testing_install.specs.Closed.{marked};
 ghost use Rattle.testing_rules_model.specs.Boxed.{unboxed};
-ghost use Rattle.testing_rules_suites.specs.AfterMoves.{moved_rows, rows_at, rows_without};
-ghost use Rattle.testing_rules_model.specs.FactOrder.{AreBySource, IsUnstableOrder};
+ghost use Rattle.testing_rules_suites.specs.steps.AfterMoves.{moved_rows, rows_at, rows_without};
+ghost use Rattle.testing_rules_model.specs.FactOrder.{AreBySource};
+ghost use Rattle.testing_rules_model.specs.steps.FactOrder.{IsUnstableOrder};
 ghost use Rattle.testing_rules_items.specs.Words.{Text as Word};
-ghost use Rattle.testing_rules_live.specs.Held.{held, AreLive, IsPoolMove, IsChangeBy};
-ghost use Rattle.testing_rules_live.specs.Lacks.{arriving, Lacks};
+ghost use Rattle.testing_rules_live.specs.steps.Held.{held, AreLive, IsPoolMove, IsChangeBy};
+ghost use Rattle.testing_rules_live.specs.steps.Lacks.{arriving, Lacks};
 ghost use Rattle.testing_rules_model.specs.InOrder.{AreByKey};
 ghost use Rattle.testing_rules_model.specs.JudgedRows.{lent};
 ghost use Rattle.testing_rules_model.specs.Moves as rules;
-ghost use Rattle.testing_rules_moves.specs.Refusals.{AreWoken, IsWithinRows};
+ghost use Rattle.testing_rules_moves.specs.steps.Refusals.{AreWoken, IsWithinRows};
 ghost use Rattle.testing_rules_suites.specs.Present.{IsShown};
-ghost use Rattle.testing_rules_suites.specs.PresentSteps.{IsLive, present_rows};
+ghost use Rattle.testing_rules_suites.specs.steps.PresentSteps.{IsLive, present_rows};
 ghost use Rattle.testing_rules_model.specs.declared.facts.UploadIn.{UploadIn as AnUpload};
 ghost use Rattle.testing_rules_model.specs.declared.suite.RowIn.{RowIn as ARow};
 

@@ -11,10 +11,10 @@ ghost use Rattle.testing_rules_items.specs.Words.{byte_cmp};
 ghost use Rattle.testing_rules_model.specs.Moves.{group_sources};
 ghost use Rattle.testing_rules_model.specs.Unstable as unstable_words;
 ghost use Rattle.testing_rules_model.specs.Updates as rules;
-ghost use Rattle.testing_rules_moves.specs.Runs.{go_on};
+ghost use Rattle.testing_rules_moves.specs.steps.Runs.{go_on};
 ghost use Rattle.testing_rules_model.specs.Updates.{in_turn};
-ghost use Rattle.testing_rules_moves.specs.LentItems.{items_of};
-ghost use Rattle.testing_rules_model.specs.LentItems.{as_moved};
+ghost use Rattle.testing_rules_moves.specs.steps.LentItems.{items_of};
+ghost use Rattle.testing_rules_model.specs.steps.LentItems.{as_moved};
 
 use crate::live::LiveTesting;
 use crate::turns::Turns;

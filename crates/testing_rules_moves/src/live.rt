@@ -7,10 +7,10 @@ ghost use Rattle.testing_rules_model.specs.FactOrder.{AreBySource};
 ghost use Rattle.testing_rules_model.specs.InOrder.{AreByKey};
 ghost use Rattle.testing_rules_model.specs.JudgedRows.{lent};
 ghost use Rattle.testing_rules_suites.specs.CarriedOver.{AreCarriedOver};
-ghost use Rattle.testing_rules_live.specs.Lacks.{arriving};
+ghost use Rattle.testing_rules_live.specs.steps.Lacks.{arriving};
 ghost use Rattle.testing_rules_model.specs.declared.excuse.Excuse.{Excuse as AnExcuse};
-ghost use Rattle.testing_rules_moves.specs.Refusals.{AreRefused, AreWoken};
-ghost use Rattle.testing_rules_moves.specs.Runs.{after_move, broken_by_move, after_removal, broken_by_removal, IsLacking};
+ghost use Rattle.testing_rules_moves.specs.steps.Refusals.{AreRefused, AreWoken};
+ghost use Rattle.testing_rules_moves.specs.steps.Runs.{after_move, broken_by_move, after_removal, broken_by_removal, IsLacking};
 
 use crate::breaking;
 use crate::refusals::{Refusals, no_refusals};
@@ -41,9 +41,9 @@ pub struct LiveTesting<'u, 'a> {
 
 impl<'u, 'a> Model for LiveTesting<'u, 'a> {
     ghost use Rattle.testing_rules_model.specs.Boxed.{unboxed};
-    ghost use Rattle.testing_rules_live.specs.Held.{held, IsLiveTesting};
+    ghost use Rattle.testing_rules_live.specs.steps.Held.{held, IsLiveTesting};
     ghost use Rattle.testing_rules_model.specs.JudgedRows.{lent};
-    ghost use Rattle.testing_rules_moves.specs.Runs.{Moment};
+    ghost use Rattle.testing_rules_moves.specs.steps.Runs.{Moment};
 
     ghost Value = { Moment };
 

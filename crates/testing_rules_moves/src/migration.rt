@@ -10,7 +10,7 @@ ghost use Rattle.testing_rules_model.specs.StandsFor.{StandsFor};
 ghost use Rattle.testing_rules_model.specs.Unstable as unstable_words;
 ghost use Rattle.testing_rules_model.specs.Updates.{IsUpdate, update_by};
 ghost use Rattle.testing_rules_model.specs.Watched.{AllWatchedWork};
-ghost use Rattle.testing_rules_moves.specs.Runs.{after_turns};
+ghost use Rattle.testing_rules_moves.specs.steps.Runs.{after_turns};
 
 use crate::live::LiveTesting;
 use crate::turns::Turns;

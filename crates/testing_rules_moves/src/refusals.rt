@@ -6,8 +6,8 @@ ghost use Rattle.testing_install.specs.Among.{with_all};
 ghost use Rattle.testing_install.specs.Closed.{marked};
 ghost use Rattle.testing_install.specs.Index.{places_at};
 ghost use Rattle.testing_install.specs.Needers.{IsNotedAt, names};
-ghost use Rattle.testing_rules_moves.specs.LentItems.{lent_excuses};
-ghost use Rattle.testing_rules_moves.specs.Refusals.{excuses_of, AreNumbered, woken_by};
+ghost use Rattle.testing_rules_moves.specs.steps.LentItems.{lent_excuses};
+ghost use Rattle.testing_rules_moves.specs.steps.Refusals.{excuses_of, AreNumbered, woken_by};
 
 use deb_control::{Binary, Clause};
 use deb_version::NoMemory;

@@ -2,12 +2,13 @@
 
 ghost use Rattle.std.specs.Prelude.{◌≡◌, ◌++◌, ◌+◌, ◌<◌, ◌∷◌, [], List, IfOk, OnOk, true, false, take, drop};
 ghost use Rattle.std.specs.VecDeque.{deque_len};
-ghost use Rattle.testing_rules_moves.specs.LentItems.{lent_excuses};
+ghost use Rattle.testing_rules_moves.specs.steps.LentItems.{lent_excuses};
 ghost use Rattle.testing_rules_model.specs.declared.excuse.Excuse.{Excuse as AnExcuse};
-ghost use Rattle.testing_rules_live.specs.Lacks.{arriving};
-ghost use Rattle.testing_rules_moves.specs.Refusals.{IsNumbered, AreNumbered, AreRefused, AreWoken, IsTried, IsNext};
-ghost use Rattle.testing_rules_moves.specs.Runs.{go_on, moment_of};
+ghost use Rattle.testing_rules_live.specs.steps.Lacks.{arriving};
+ghost use Rattle.testing_rules_moves.specs.steps.Refusals.{IsNumbered, AreNumbered, AreRefused, AreWoken, IsTried, IsNext};
+ghost use Rattle.testing_rules_moves.specs.steps.Runs.{go_on, moment_of};
 ghost use Rattle.testing_rules_model.specs.Updates as rules;
+ghost use Rattle.testing_rules_model.specs.steps.Updates as rules_steps;
 
 use crate::groups::{has_no_reason, is_version};
 use crate::live::LiveTesting;
@@ -64,7 +65,7 @@ fn go_on_behind(circle: &mut VecDeque<Numbered>, place: usize)
 
 /// The line of a candidate that moves.
 fn accepted(alloc: Global, excuse: &Excuse) -> Result<Decision, NoMemory>
-    ensures { IfOk result (λ d. d ≡ rules.accepted excuse.now) }
+    ensures { IfOk result (λ d. d ≡ rules_steps.accepted excuse.now) }
 {
     let name = excuse.source.copy(alloc)?;
     let version = excuse.unstable.copy(alloc)?;
@@ -73,7 +74,7 @@ fn accepted(alloc: Global, excuse: &Excuse) -> Result<Decision, NoMemory>
 
 /// The line of a candidate that waits.
 fn waiting(alloc: Global, excuse: &Excuse, offender: Offender) -> Result<Decision, NoMemory>
-    ensures { IfOk result (λ d. d ≡ rules.waiting excuse.now offender) }
+    ensures { IfOk result (λ d. d ≡ rules_steps.waiting excuse.now offender) }
 {
     let name = excuse.source.copy(alloc)?;
     let version = excuse.unstable.copy(alloc)?;
@@ -93,9 +94,9 @@ impl<'u, 'a> Turns<'u, 'a> {
         excuse: &Excuse,
         refusals: &mut Refusals,
     ) -> Result<bool, NoMemory>
-        ensures moved { result ≡ Ok true → rules.is_allowed_alone self.old.basis.archs self.old.basis.sources self.old.basis.rows self.old.outcome.suite excuse.now ≡ true }
-        ensures after { result ≡ Ok true → self.new ≡ go_on self.old (λ b t. rules.decide (rules.accepted excuse.now) (rules.moved_alone b.sources b.rows t excuse.now)) }
-        ensures stays { result ≡ Ok false → rules.is_allowed_alone self.old.basis.archs self.old.basis.sources self.old.basis.rows self.old.outcome.suite excuse.now ≡ false }
+        ensures moved { result ≡ Ok true → rules_steps.is_allowed_alone self.old.basis.archs self.old.basis.sources self.old.basis.rows self.old.outcome.suite excuse.now ≡ true }
+        ensures after { result ≡ Ok true → self.new ≡ go_on self.old (λ b t. rules.decide (rules_steps.accepted excuse.now) (rules.moved_alone b.sources b.rows t excuse.now)) }
+        ensures stays { result ≡ Ok false → rules_steps.is_allowed_alone self.old.basis.archs self.old.basis.sources self.old.basis.rows self.old.outcome.suite excuse.now ≡ false }
         ensures woken { result ≡ Ok true → AreWoken (arriving self.old.basis.sources self.old.basis.rows (excuse.now.source ∷ [])) refusals.old refusals.new }
         ensures same { result ≡ Ok false → self.new ≡ self.old }
         ensures asleep { result ≡ Ok false → refusals.new ≡ refusals.old }
@@ -117,7 +118,7 @@ impl<'u, 'a> Turns<'u, 'a> {
         candidate: Numbered,
         refusals: &mut Refusals,
     ) -> Result<bool, NoMemory>
-        ensures refused { result ≡ Ok true → rules.is_allowed_alone self.now.basis.archs self.now.basis.sources self.now.basis.rows self.now.outcome.suite candidate.entry.excuse.now ≡ false }
+        ensures refused { result ≡ Ok true → rules_steps.is_allowed_alone self.now.basis.archs self.now.basis.sources self.now.basis.rows self.now.outcome.suite candidate.entry.excuse.now ≡ false }
         ensures known { OnOk result ((excuses : List AnExcuse) → IsNumbered excuses candidate.entry → AreRefused (moment_of self.now) excuses refusals.old
             → AreRefused (moment_of self.now) excuses refusals.new) }
     {
@@ -209,7 +210,7 @@ impl<'u, 'a> Turns<'u, 'a> {
 
     /// The single moves of these candidates, until none may move alone.
     fn move_all(&mut self, alloc: Global, candidates: &[&Excuse]) -> Result<(), NoMemory>
-        ensures { OnOk result (self.new ≡ go_on self.old (λ b. rules.move_circle b.archs b.sources b.rows (lent_excuses candidates.now))) }
+        ensures { OnOk result (self.new ≡ go_on self.old (λ b. rules_steps.move_circle b.archs b.sources b.rows (lent_excuses candidates.now))) }
     {
         let sources = self.testing.unstable_sources();
         let mut circle = VecDeque::from(with_numbers(alloc, candidates, sources)?);
@@ -229,7 +230,7 @@ impl<'u, 'a> Turns<'u, 'a> {
 
     /// A candidate waits if its move would break something.
     fn wait(&mut self, alloc: Global, excuse: &Excuse) -> Result<(), NoMemory>
-        ensures { OnOk result (self.new ≡ go_on self.old (λ b. rules.wait b.archs b.sources b.rows excuse.now)) }
+        ensures { OnOk result (self.new ≡ go_on self.old (λ b. rules_steps.wait b.archs b.sources b.rows excuse.now)) }
     {
         let group = slice::from_ref(&excuse.source);
         match self.testing.broken_by_move(alloc, group)? {
@@ -240,7 +241,7 @@ impl<'u, 'a> Turns<'u, 'a> {
 
     /// The remaining candidates wait.
     pub fn waits(&mut self, alloc: Global, excuses: &[Excuse]) -> Result<(), NoMemory>
-        ensures { OnOk result (self.new ≡ go_on self.old (λ b. rules.wait_all b.archs b.sources b.rows excuses.now)) }
+        ensures { OnOk result (self.new ≡ go_on self.old (λ b. rules_steps.wait_all b.archs b.sources b.rows excuses.now)) }
     {
         let candidates = remaining(alloc, &self.testing, excuses)?;
         for excuse in &candidates {

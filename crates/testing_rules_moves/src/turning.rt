@@ -6,9 +6,9 @@ ghost use Rattle.testing_rules_model.specs.JudgedRows.{lent};
 ghost use Rattle.testing_rules_model.specs.Unstable.{built_rows as rows_built};
 ghost use Rattle.testing_rules_model.specs.Updates as rules;
 ghost use Rattle.testing_rules_model.specs.Updates.{in_turn};
-ghost use Rattle.testing_rules_moves.specs.Runs.{run_after_groups, run_after_removals};
-ghost use Rattle.testing_rules_moves.specs.Turns as turns_words;
-ghost use Rattle.testing_rules_moves.specs.Turns.{after_groups, after_removals, behind_hints, turn_of_easy, turn_of_removal};
+ghost use Rattle.testing_rules_moves.specs.steps.Runs.{run_after_groups, run_after_removals};
+ghost use Rattle.testing_rules_moves.specs.steps.Turns as turns_words;
+ghost use Rattle.testing_rules_moves.specs.steps.Turns.{after_groups, after_removals, behind_hints, turn_of_easy, turn_of_removal};
 
 use crate::live::LiveTesting;
 use crate::turns::Turns;

@@ -2,7 +2,7 @@
 
 ghost use Rattle.std.specs.Prelude.{◌≡◌, [], OnOk, IfOk, map, filter};
 ghost use Rattle.std.specs.List.{flat_map};
-ghost use Rattle.testing_rules_moves.specs.Runs.{go_on};
+ghost use Rattle.testing_rules_moves.specs.steps.Runs.{go_on};
 ghost use Rattle.testing_rules_model.specs.Moves.{remove_source};
 ghost use Rattle.testing_rules_model.specs.Unstable as unstable;
 ghost use Rattle.testing_rules_model.specs.Updates as rules;
@@ -26,7 +26,7 @@ pub struct Turns<'u, 'a> {
 }
 
 impl<'u, 'a> Model for Turns<'u, 'a> {
-    ghost use Rattle.testing_rules_moves.specs.Runs.{Run};
+    ghost use Rattle.testing_rules_moves.specs.steps.Runs.{Run};
 
     ghost Value = { Run };
 

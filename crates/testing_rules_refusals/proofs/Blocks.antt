@@ -13,18 +13,19 @@ use Rattle.testing_rules_model.specs.declared.facts.UploadIn.{UploadIn}
 use Rattle.testing_rules_model.specs.declared.suite.RowIn.{RowIn}
 use Rattle.testing_rules_model.specs.declared.update.Offender.{Offender}
 use Rattle.testing_rules_model.specs.InOrder.{AreByKey}
-use Rattle.testing_rules_model.specs.Moves.{RowAnswer, rows_on, is_row_on, judged_on, is_row_of, is_same_key, was_installable}
+use Rattle.testing_rules_model.specs.Moves.{RowAnswer, rows_on, judged_on, is_row_of, is_same_key, was_installable}
+use Rattle.testing_rules_model.specs.steps.Moves.{is_row_on}
 use Rattle.testing_rules_model.specs.Suite.{Suite}
 use Rattle.testing_rules_model.specs.Updates.{is_remaining}
 use Rattle.testing_rules_model.proofs.Least.{from_filter, to_filter}
 use Rattle.testing_rules_model.proofs.MoreMail.{filter-same}
 use Rattle.testing_rules_excuses.specs.States.{is_current_in}
-use Rattle.testing_rules_reports.specs.LentLines.{has_line}
+use Rattle.testing_rules_reports.specs.steps.LentLines.{has_line}
 use Rattle.testing_rules_suites.proofs.Lost.{contains_at}
 use Rattle.testing_install_why.specs.Certificate.{IsShownBy}
 use Rattle.testing_install_why.specs.declared.Step.{Step}
 use Rattle.testing_rules_refusals.specs.Needs.{packages, all_there}
-use Rattle.testing_rules_refusals.specs.Standing.{lives_beside, comes_by, IsOwnAt, IsStayingAt, IsDueAt, IsBlockOf, IsToldBlock, AreToldBlocks, begins_with}
+use Rattle.testing_rules_refusals.specs.steps.Standing.{lives_beside, comes_by, IsOwnAt, IsStayingAt, IsDueAt, IsBlockOf, IsToldBlock, AreToldBlocks, begins_with}
 use Rattle.testing_rules_refusals.specs.Stuck.{is_living, living, coming_rows, gives_way, may_stand, Block, IsStuckBy, AreStuck, names_of, stuck_line, block_text, stuck_text, IsStuckText}
 use Rattle.testing_rules_refusals.specs.Texts.{comes_with, refusal_text}
 use Rattle.testing_rules_refusals.specs.Told.{lines_of}

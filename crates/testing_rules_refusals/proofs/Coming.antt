@@ -13,7 +13,8 @@ use Rattle.testing_rules_items.proofs.Members.{none_among, head_of, tail_of}
 use Rattle.testing_rules_model.specs.declared.facts.UploadIn.{UploadIn}
 use Rattle.testing_rules_model.specs.declared.suite.RowIn.{RowIn}
 use Rattle.testing_rules_model.specs.declared.suite.SourceIn.{SourceIn}
-use Rattle.testing_rules_model.specs.Excuses.{entry_of, testing_version}
+use Rattle.testing_rules_model.specs.Excuses.{testing_version}
+use Rattle.testing_rules_model.specs.steps.Excuses.{entry_of}
 use Rattle.testing_rules_model.specs.InOrder.{AreByKey}
 use Rattle.testing_rules_model.specs.Moves.{is_row_of, source_in, group_sources, put_row, put_source, as_source, row_key, move_group}
 use Rattle.testing_rules_model.specs.Suite.{Suite}
@@ -22,7 +23,7 @@ use Rattle.testing_rules_model.proofs.Least.{from_filter, to_filter}
 use Rattle.testing_rules_model.proofs.MoreMail.{text_same, text_tied}
 use Rattle.testing_rules_model.proofs.Sets.{first_or_rest, given_by, gives, spread_from, spreads}
 use Rattle.testing_rules_model.proofs.Watching.{found_passes}
-use Rattle.testing_rules_live.specs.Lacks.{arriving}
+use Rattle.testing_rules_live.specs.steps.Lacks.{arriving}
 use Rattle.testing_rules_suites.proofs.Arranging.{at_some_of}
 use Rattle.testing_rules_suites.proofs.Moving.{AreOthers, puts_have, source_of_group}
 use Rattle.testing_rules_suites.proofs.Shown.{itself_or_other, other_keys, put_keeps}

@@ -12,8 +12,8 @@ use Rattle.testing_rules_model.proofs.Least.{from_filter, least_from}
 use Rattle.testing_rules_model.proofs.Orders.{text_order}
 use Rattle.testing_rules_model.proofs.Sets.{mapped_from}
 use Rattle.testing_rules_suites.specs.declared.offender.RowAnswer.{RowAnswer as Judged}
-use Rattle.testing_rules_suites.specs.JudgedRows.{answer, answers}
-use Rattle.testing_rules_refusals.specs.Refusals.{IsFailing, HasFailing, is_failing}
+use Rattle.testing_rules_suites.specs.steps.JudgedRows.{answer, answers}
+use Rattle.testing_rules_refusals.specs.steps.Refusals.{IsFailing, HasFailing, is_failing}
 
 -- no row of the name fails at a place below the number
 pub record NoneFailing (arch : ℕ) (group : List Text) (before after : List RowAnswer) (name : Text) (n : ℕ) : Type 0 where

@@ -14,7 +14,7 @@ use Rattle.std.proofs.lemmas.List.Sums.{split_at_first}
 use Rattle.std.proofs.lemmas.Option.{same_Some, slice_get_past, slice_get_within, slice_get-get_or, slice_get-map}
 use Rattle.std.proofs.lemmas.Slice.Eq.{bytes_eq-Decides}
 use Rattle.deb_control.specs.declared.binary.Binary.{Binary}
-use Rattle.deb_version.specs.Laws.{version_order}
+use Rattle.deb_version.specs.steps.Laws.{version_order}
 use Rattle.deb_version.specs.Order.{version_cmp}
 use Rattle.testing_install.proofs.Choosing.{are_exact}
 use Rattle.testing_rules_items.specs.declared.item.Hint.{Hint}
@@ -30,16 +30,18 @@ use Rattle.testing_rules_model.specs.declared.update.Decision.TheVariants.{EasyD
 use Rattle.testing_rules_model.specs.declared.update.Offender.{Offender}
 use Rattle.testing_rules_model.specs.Excuses.{testing_version}
 use Rattle.testing_rules_model.specs.InOrder.{AreByKey}
-use Rattle.testing_rules_model.specs.LentItems.{as_moved}
-use Rattle.testing_rules_model.specs.Moves.{is_row_of, is_row_on, rows_on, row_key, is_same_key, is_watched_on, judged_on, was_installable, group_sources, move_group, offender_of}
+use Rattle.testing_rules_model.specs.steps.LentItems.{as_moved}
+use Rattle.testing_rules_model.specs.Moves.{is_row_of, rows_on, row_key, is_same_key, is_watched_on, judged_on, was_installable, group_sources, move_group, offender_of}
+use Rattle.testing_rules_model.specs.steps.Moves.{is_row_on}
 use Rattle.testing_rules_model.specs.Suite.{Suite}
-use Rattle.testing_rules_model.specs.Updates.{Outcome, decide, nothing, in_turn, is_in_testing, is_candidate, is_remaining, remaining, move_as_one, move_items, move_easy, moved_alone, offender_alone, is_allowed_alone, accepted, single_moves, move_singles}
+use Rattle.testing_rules_model.specs.Updates.{Outcome, decide, nothing, in_turn, is_in_testing, is_candidate, is_remaining, remaining, move_as_one, move_items, move_easy, moved_alone, offender_alone, single_moves, move_singles}
+use Rattle.testing_rules_model.specs.steps.Updates.{is_allowed_alone, accepted}
 use Rattle.testing_rules_model.proofs.Least.{from_filter, to_filter}
 use Rattle.testing_rules_model.proofs.MoreMail.{text_same}
 use Rattle.testing_rules_model.proofs.Ordered.{by_key-put_all, by_key-kept}
 use Rattle.testing_rules_model.proofs.Sets.{first_or_rest, mapped_from, maps}
 use Rattle.testing_rules_model.proofs.Watching.{found_passes}
-use Rattle.testing_rules_live.specs.Lacks.{arriving}
+use Rattle.testing_rules_live.specs.steps.Lacks.{arriving}
 use Rattle.testing_rules_suites.proofs.Lost.{contains_at, at_place}
 use Rattle.testing_rules_suites.proofs.Moving.{puts_from}
 use Rattle.testing_rules_suites.proofs.Shown.{IsOther, key_ties}

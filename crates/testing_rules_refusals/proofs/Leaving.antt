@@ -9,7 +9,8 @@ use Rattle.std.proofs.lemmas.Slice.Eq.{bytes_eq-Decides}
 use Rattle.testing_rules_items.specs.Words.{Text}
 use Rattle.testing_rules_model.specs.declared.facts.UploadIn.{UploadIn}
 use Rattle.testing_rules_model.specs.declared.suite.RowIn.{RowIn}
-use Rattle.testing_rules_model.specs.Moves.{is_row_of, is_row_on, is_same_key, row_key, rows_on}
+use Rattle.testing_rules_model.specs.Moves.{is_row_of, is_same_key, row_key, rows_on}
+use Rattle.testing_rules_model.specs.steps.Moves.{is_row_on}
 use Rattle.testing_rules_model.specs.Suite.{Suite}
 use Rattle.testing_rules_model.proofs.MoreMail.{filter-same}
 use Rattle.testing_rules_excuses.specs.States.{is_current_in}

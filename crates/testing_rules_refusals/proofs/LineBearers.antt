@@ -25,7 +25,7 @@ use Rattle.testing_rules_model.proofs.Least.{from_filter, to_filter}
 use Rattle.testing_rules_model.proofs.Picks.{Rises}
 use Rattle.testing_rules_model.proofs.Sets.{spread_from, spreads, rises-unique}
 use Rattle.testing_rules_suites.proofs.Arranging.{at_some_of}
-use Rattle.testing_rules_refusals.specs.LineNumbers.{IsLineIndex, numbers_named}
+use Rattle.testing_rules_refusals.specs.steps.LineNumbers.{IsLineIndex, numbers_named}
 use Rattle.testing_rules_refusals.specs.Needs.{RowNeed, need_by, need_at, is_bearer, bearers}
 use Rattle.testing_rules_refusals.proofs.Coming.{some_of}
 

@@ -5,18 +5,18 @@ use Rattle.testing_rules_items.specs.Words.{Text}
 use Rattle.testing_rules_model.specs.declared.excuse.Excuse.{Excuse}
 use Rattle.testing_rules_model.specs.declared.facts.UploadIn.{UploadIn}
 use Rattle.testing_rules_model.specs.declared.suite.RowIn.{RowIn}
-use Rattle.testing_rules_model.specs.declared.update.Decision.TheVariants.{RemoveDone, RemoveRefused, EasyDone, EasyRefused}
+use Rattle.testing_rules_model.specs.declared.update.Decision.TheVariants.{RemoveDone, RemoveRefused, EasyDone, EasyRefused, Wait}
 use Rattle.testing_rules_model.specs.declared.update.Offender.{Offender}
 use Rattle.testing_rules_model.specs.Moves.{group_sources, move_group, remove_source}
 use Rattle.testing_rules_model.specs.Suite.{Suite}
-use Rattle.testing_rules_model.specs.Updates.{Outcome, decide, move_as_one, remove_version, wait_for, waiting}
+use Rattle.testing_rules_model.specs.Updates.{Outcome, decide, move_as_one, remove_version, wait_for}
 use Rattle.testing_rules_refusals.specs.Alone.{IsToldAlone}
 use Rattle.testing_rules_refusals.specs.ToldChange.{IsToldMove, IsToldRemoval}
 
 -- the line of a source that waits has this offender
 pub waits_so : (archs : List Text) (sources : List UploadIn) (unstable : List RowIn) (excuses : List Excuse) (t : Suite) (e : Excuse) (text : Text)
-    → (why : IsToldAlone archs sources unstable excuses t e text) → wait_for archs sources unstable t e ≡ Some (waiting e why.offender)
-waits_so archs sources unstable excuses t e text why = ap (option_map (waiting e)) why.refusal.first
+    → (why : IsToldAlone archs sources unstable excuses t e text) → wait_for archs sources unstable t e ≡ Some (Wait e.source e.unstable why.offender)
+waits_so archs sources unstable excuses t e text why = ap (option_map (Wait e.source e.unstable)) why.refusal.first
 
 -- so has that of a group that is refused
 pub group_so : (archs : List Text) (sources : List UploadIn) (unstable : List RowIn) (excuses : List Excuse) (t : Suite) (group : List Text) (text : Text) (number : ℕ)

@@ -22,7 +22,7 @@ use Rattle.testing_rules_refusals.proofs.Failings.{first_of_both, second_of_both
 use Rattle.testing_install_why.specs.Certificate.{IsShownBy}
 use Rattle.testing_install_why.specs.declared.Step.{Step}
 use Rattle.testing_rules_refusals.specs.Needs.{packages, all_there}
-use Rattle.testing_rules_refusals.specs.Refusals.{AreAllThere, IsFirstFailing, IsRefusalOn}
+use Rattle.testing_rules_refusals.specs.steps.Refusals.{AreAllThere, IsFirstFailing, IsRefusalOn}
 use Rattle.testing_rules_refusals.proofs.Everywhere.{shown_everywhere, installable_anyway}
 
 of_answer : (rows : List RowIn) (marks : List Bool) (i : ℕ) (j : RowAnswer) → slice_get (with_answers rows marks) i ≡ Some j → (slice_get rows i ≡ Some j.row) × (marked marks i ≡ j.is_installable)

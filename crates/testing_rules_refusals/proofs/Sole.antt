@@ -12,8 +12,9 @@ use Rattle.testing_rules_model.specs.declared.update.Offender.{Offender}
 use Rattle.testing_rules_model.specs.JudgedRows.{lent, row_of}
 use Rattle.testing_rules_model.specs.Moves.{rows_on, judged_on, first_failing, first_of, offender_on, offender_of}
 use Rattle.testing_install_why.specs.declared.Step.{Step}
-use Rattle.testing_rules_refusals.specs.Refusals.{HasFailing, IsFirstFailing, IsShownRow}
-use Rattle.testing_rules_refusals.specs.Shown.{AreOnlyAt, IsOf, IsOnlyOf, IsShownOf}
+use Rattle.testing_rules_refusals.specs.Refusals.{IsShownRow}
+use Rattle.testing_rules_refusals.specs.steps.Refusals.{HasFailing, IsFirstFailing}
+use Rattle.testing_rules_refusals.specs.steps.Shown.{AreOnlyAt, IsOf, IsOnlyOf, IsShownOf}
 use Rattle.testing_rules_refusals.proofs.Failings.{failing_there}
 use Rattle.testing_rules_refusals.proofs.Refusing.{judged, named, stands, fails_so}
 

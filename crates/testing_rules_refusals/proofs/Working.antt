@@ -12,7 +12,8 @@ use Rattle.testing_install.specs.Installable.{are_installable}
 use Rattle.testing_install.proofs.Choosing.{length-are}
 use Rattle.testing_rules_items.specs.Words.{Text}
 use Rattle.testing_rules_model.specs.declared.suite.RowIn.{RowIn}
-use Rattle.testing_rules_model.specs.Moves.{RowAnswer, with_answers, judged_on, rows_on, is_row_on, is_row_of, is_same_key, is_watched_on, was_installable, fails_on, offender_on, offender_of}
+use Rattle.testing_rules_model.specs.Moves.{RowAnswer, with_answers, judged_on, rows_on, is_row_of, is_same_key, is_watched_on, was_installable, fails_on, offender_on, offender_of}
+use Rattle.testing_rules_model.specs.steps.Moves.{is_row_on}
 use Rattle.testing_rules_model.proofs.Least.{to_filter}
 use Rattle.testing_rules_model.proofs.MoreMail.{text_same}
 use Rattle.testing_rules_model.proofs.Watching.{none_on, fails_none}

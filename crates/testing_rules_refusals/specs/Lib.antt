@@ -6,7 +6,4 @@ pub mod Texts
 pub mod Alone
 pub mod ToldChange
 pub mod Stuck
-pub mod Standing
-pub mod Arrivals
-pub mod Shown
-pub mod LineNumbers
+pub mod steps

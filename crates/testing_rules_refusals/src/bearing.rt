@@ -5,7 +5,7 @@ ghost use Rattle.std.specs.Prelude.{◌≡◌, filter, IfOk};
 ghost use Rattle.std.specs.List.Sorted.{IsStrictlyIncreasing};
 ghost use Rattle.testing_rules_model.specs.JudgedRows.{lent};
 ghost use Rattle.testing_rules_model.specs.SameMessages.{SameElements};
-ghost use Rattle.testing_rules_refusals.specs.LineNumbers.{IsLineIndex, numbers_named};
+ghost use Rattle.testing_rules_refusals.specs.steps.LineNumbers.{IsLineIndex, numbers_named};
 ghost use Rattle.testing_rules_refusals.specs.Needs as rules;
 
 use crate::needs::need_at;

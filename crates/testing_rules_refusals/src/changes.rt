@@ -14,7 +14,7 @@ ghost use Rattle.testing_rules_refusals.specs.Texts as texts;
 ghost use Rattle.testing_rules_refusals.specs.Texts.{known_of};
 ghost use Rattle.testing_rules_refusals.specs.Told.{lines_of};
 ghost use Rattle.testing_rules_refusals.specs.ToldChange.{IsToldChange, IsToldMove, IsToldRemoval};
-ghost use Rattle.testing_rules_suites.specs.AfterMoves as after;
+ghost use Rattle.testing_rules_suites.specs.steps.AfterMoves as after;
 
 use crate::refusal::{Refusal, refused};
 use crate::shown::shown_of;

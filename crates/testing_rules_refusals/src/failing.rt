@@ -3,8 +3,8 @@
 ghost use Rattle.std.specs.Prelude.{◌≡◌, IfSome, IfNone, None};
 ghost use Rattle.testing_rules_model.specs.Moves as moves;
 ghost use Rattle.testing_rules_model.specs.JudgedRows.{row_of};
-ghost use Rattle.testing_rules_refusals.specs.Refusals.{HasFailing, IsFailing, IsFirstFailing, is_failing};
-ghost use Rattle.testing_rules_suites.specs.JudgedRows.{answers};
+ghost use Rattle.testing_rules_refusals.specs.steps.Refusals.{HasFailing, IsFailing, IsFirstFailing, is_failing};
+ghost use Rattle.testing_rules_suites.specs.steps.JudgedRows.{answers};
 
 use deb_control::Text;
 use testing_rules_live::{fails_on, first_failing};

@@ -8,8 +8,8 @@ ghost use Rattle.testing_install.specs.Rows.{shared};
 ghost use Rattle.testing_rules_model.specs.JudgedRows.{lent};
 ghost use Rattle.testing_rules_model.specs.Moves as moves;
 ghost use Rattle.testing_rules_refusals.specs.Needs.{packages};
-ghost use Rattle.testing_rules_refusals.specs.Refusals.{AreAllThere};
-ghost use Rattle.testing_rules_suites.specs.JudgedRows.{answers};
+ghost use Rattle.testing_rules_refusals.specs.steps.Refusals.{AreAllThere};
+ghost use Rattle.testing_rules_suites.specs.steps.JudgedRows.{answers};
 
 use deb_control::Binary;
 use deb_version::NoMemory;

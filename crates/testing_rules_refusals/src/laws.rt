@@ -5,9 +5,9 @@ ghost use Rattle.testing_rules_items.specs.Words.{Text};
 ghost use Rattle.testing_rules_model.specs.declared.excuse.Excuse.{Excuse as AnExcuse};
 ghost use Rattle.testing_rules_model.specs.declared.facts.UploadIn.{UploadIn as AnUpload};
 ghost use Rattle.testing_rules_model.specs.declared.suite.RowIn.{RowIn as ARow};
-ghost use Rattle.testing_rules_model.specs.declared.update.Decision.TheVariants.{EasyRefused, RemoveRefused};
+ghost use Rattle.testing_rules_model.specs.declared.update.Decision.TheVariants.{EasyRefused, RemoveRefused, Wait};
 ghost use Rattle.testing_rules_model.specs.Suite.{Suite};
-ghost use Rattle.testing_rules_model.specs.Updates.{decide, move_as_one, remove_version, wait_for, waiting};
+ghost use Rattle.testing_rules_model.specs.Updates.{decide, move_as_one, remove_version, wait_for};
 ghost use Rattle.testing_rules_refusals.specs.Alone.{IsToldAlone};
 ghost use Rattle.testing_rules_refusals.specs.Stuck.{NoGroupFrees};
 ghost use Rattle.testing_rules_refusals.specs.ToldChange.{IsToldMove, IsToldRemoval};
@@ -16,7 +16,7 @@ ghost use Rattle.testing_rules_refusals.specs.ToldChange.{IsToldMove, IsToldRemo
 /// that it waits, and names the answer's offender.
 pub fn told_as_the_run_says()
     ensures { (archs : List Text) (sources : List AnUpload) (unstable : List ARow) (excuses : List AnExcuse) (t : Suite) (e : AnExcuse) (text : Text)
-        → (why : IsToldAlone archs sources unstable excuses t e text) → wait_for archs sources unstable t e ≡ Some (waiting e why.offender) }
+        → (why : IsToldAlone archs sources unstable excuses t e text) → wait_for archs sources unstable t e ≡ Some (Wait e.source e.unstable why.offender) }
 {}
 
 /// If the answer says why a group can't move as one over the testing at its hint's turn, the run refuses the hint, and

@@ -6,8 +6,9 @@ ghost use Rattle.testing_rules_model.specs.JudgedRows.{lent};
 ghost use Rattle.testing_rules_model.specs.Moves as moves;
 ghost use Rattle.testing_rules_model.specs.Moves.{judged_on};
 ghost use Rattle.testing_rules_refusals.specs.Needs.{packages};
-ghost use Rattle.testing_rules_refusals.specs.Refusals.{AreAllThere, IsFirstFailing, IsRefusal, IsRefusalOn};
-ghost use Rattle.testing_rules_suites.specs.JudgedRows.{answers};
+ghost use Rattle.testing_rules_refusals.specs.Refusals.{IsRefusal};
+ghost use Rattle.testing_rules_refusals.specs.steps.Refusals.{AreAllThere, IsFirstFailing, IsRefusalOn};
+ghost use Rattle.testing_rules_suites.specs.steps.JudgedRows.{answers};
 
 use crate::failing::place_of_first;
 use crate::judged::{judged, judged_by, suite_of};

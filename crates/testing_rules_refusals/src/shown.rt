@@ -5,7 +5,7 @@ ghost use Rattle.std.specs.Str.{bytes_eq};
 ghost use Rattle.testing_install.specs.Rows.{binaries};
 ghost use Rattle.testing_rules_model.specs.JudgedRows.{lent, row_of};
 ghost use Rattle.testing_rules_refusals.specs.Needs.{packages, all_there};
-ghost use Rattle.testing_rules_refusals.specs.Shown.{AreOnlyAt, IsOf, IsOnlyOf, IsShownOf};
+ghost use Rattle.testing_rules_refusals.specs.steps.Shown.{AreOnlyAt, IsOf, IsOnlyOf, IsShownOf};
 ghost use Rattle.testing_install_why.specs.Certificate.{IsShownBy};
 
 use crate::judged::suite_of;

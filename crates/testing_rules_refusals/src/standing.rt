@@ -11,10 +11,10 @@ ghost use Rattle.testing_rules_model.specs.InOrder.{AreByKey};
 ghost use Rattle.testing_rules_model.specs.JudgedRows.{lent, row_of};
 ghost use Rattle.testing_rules_model.specs.Moves as moves;
 ghost use Rattle.testing_rules_model.specs.Updates as updates;
-ghost use Rattle.testing_rules_refusals.specs.Arrivals.{IsArrival};
-ghost use Rattle.testing_rules_refusals.specs.Standing.{comes_by, lives_beside};
+ghost use Rattle.testing_rules_refusals.specs.steps.Arrivals.{IsArrival};
+ghost use Rattle.testing_rules_refusals.specs.steps.Standing.{comes_by, lives_beside};
 ghost use Rattle.testing_rules_refusals.specs.Stuck as stuck;
-ghost use Rattle.testing_rules_reports.specs.LentLines.{has_line, lent_lines};
+ghost use Rattle.testing_rules_reports.specs.steps.LentLines.{has_line, lent_lines};
 
 use crate::telling::is_current_in;
 use deb_control::Text;

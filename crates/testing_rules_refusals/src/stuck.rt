@@ -10,12 +10,12 @@ ghost use Rattle.testing_rules_model.specs.FactOrder.{AreBySource};
 ghost use Rattle.testing_rules_model.specs.JudgedRows.{lent, row_of};
 ghost use Rattle.testing_rules_model.specs.Moves as moves;
 ghost use Rattle.testing_rules_model.specs.Unstable.{built_rows};
-ghost use Rattle.testing_rules_refusals.specs.Standing as standing;
+ghost use Rattle.testing_rules_refusals.specs.steps.Standing as standing;
 ghost use Rattle.testing_rules_refusals.specs.Stuck as words;
 ghost use Rattle.testing_rules_refusals.specs.Texts as texts;
 ghost use Rattle.testing_rules_refusals.specs.Told as told_words;
 ghost use Rattle.testing_rules_reports.specs.Reports.{offender_text};
-ghost use Rattle.testing_rules_suites.specs.JudgedRows.{answers};
+ghost use Rattle.testing_rules_suites.specs.steps.JudgedRows.{answers};
 
 use crate::changes::text_of;
 use crate::needs::need_at;

@@ -3,7 +3,7 @@
 ghost use Rattle.std.specs.Prelude.{◌≡◌, IfOk, map};
 ghost use Rattle.testing_rules_model.specs.JudgedRows.{lent};
 ghost use Rattle.testing_rules_model.specs.Moves as moves;
-ghost use Rattle.testing_rules_refusals.specs.LineNumbers.{IsLineIndex};
+ghost use Rattle.testing_rules_refusals.specs.steps.LineNumbers.{IsLineIndex};
 ghost use Rattle.testing_rules_refusals.specs.Needs.{need_of};
 ghost use Rattle.testing_rules_refusals.specs.Told as rules;
 ghost use Rattle.testing_rules_refusals.specs.Told.{told_of};

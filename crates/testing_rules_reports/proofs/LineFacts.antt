@@ -3,7 +3,7 @@ use Rattle.std.proofs.Common.{◌≡◌, ℕ, Bool, ◌||◌, List, [], ◌∷�
 use Rattle.std.specs.Borrow.{Bor}
 use Rattle.std.specs.List.{list_any}
 use Rattle.std.specs.Str.{bytes_eq}
-use Rattle.testing_rules_reports.specs.LentLines.{has_line, lent_lines}
+use Rattle.testing_rules_reports.specs.steps.LentLines.{has_line, lent_lines}
 
 any_lent : (line : List ℕ) (found : List (Bor (List ℕ))) → has_line found line ≡ list_any (bytes_eq line) (lent_lines found)
 any_lent line [] = refl

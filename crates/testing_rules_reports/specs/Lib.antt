@@ -1,5 +1,5 @@
 pub mod Reports
 pub mod Changes
 pub mod Sources
-pub mod LentLines
 pub mod Tried
+pub mod steps

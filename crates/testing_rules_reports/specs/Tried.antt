@@ -1,5 +1,5 @@
 -- The text that says what hints would change.
-use Rattle.std.specs.Prelude.{ℕ, ◌+◌, Bool, not, List, [], ◌∷◌, ◌++◌, codes, decimal, length, ◌==◌}
+use Rattle.std.specs.Prelude.{ℕ, ◌+◌, List, [], ◌∷◌, ◌++◌, codes, decimal}
 use Rattle.std.specs.Str.Lines.{lines}
 use Rattle.jiff_core.specs.declared.civil.date.Date.{Date}
 use Rattle.jiff.specs.Words.{date_text}
@@ -28,7 +28,3 @@ changes_text first second =
 -- what a sender's hints would change
 abbrev pub tried_text : List ℕ → List (List ℕ) → TrialReport → List ℕ
 tried_text sender hints tried = try_lines tried.run tried.date sender tried.first hints ++ changes_text tried.without tried.with
-
--- whether they would change anything
-abbrev pub has_changes : TrialReport → Bool
-has_changes tried = not (length (changes_text tried.without tried.with) == 0)

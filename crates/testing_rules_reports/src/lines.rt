@@ -5,7 +5,7 @@ ghost use Rattle.std.specs.List.{flat_map, list_any};
 ghost use Rattle.std.specs.Str.{bytes_eq};
 ghost use Rattle.std.specs.Str.Lines.{lines};
 ghost use Rattle.testing_rules_reports.specs.Changes.{behind, changes, excuse_lines, fronted, is_inner, lacked};
-ghost use Rattle.testing_rules_reports.specs.LentLines.{has_line, lent_lines};
+ghost use Rattle.testing_rules_reports.specs.steps.LentLines.{has_line, lent_lines};
 
 use deb_control::Text;
 use std::alloc::{AllocError, Global};

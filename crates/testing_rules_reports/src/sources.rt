@@ -5,7 +5,7 @@ ghost use Rattle.std.specs.List.{position};
 ghost use Rattle.std.specs.List.{before_first, flat_map, list_any, starts_with};
 ghost use Rattle.std.specs.Str.Lines.{lines};
 ghost use Rattle.testing_rules_reports.specs.Changes.{behind};
-ghost use Rattle.testing_rules_reports.specs.LentLines.{lent_lines};
+ghost use Rattle.testing_rules_reports.specs.steps.LentLines.{lent_lines};
 ghost use Rattle.testing_rules_reports.specs.Sources.{excuse_of, is_own, is_space, names, own_lines, source_text, update_on, waits_in};
 
 use crate::lines::{is_inner, lines_of, push_behind};

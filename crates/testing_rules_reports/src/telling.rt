@@ -1,7 +1,8 @@
 //! The text that says what hints would change.
 
 ghost use Rattle.std.specs.Prelude.{◌≡◌, ◌++◌, IfOk, OnOk, string_bytes};
-ghost use Rattle.testing_rules_reports.specs.Tried.{changes_text, has_changes, try_line, try_lines, tried_text};
+ghost use Rattle.testing_rules_reports.specs.Tried.{changes_text, try_line, try_lines, tried_text};
+ghost use Rattle.testing_rules_reports.specs.steps.Tried.{has_changes};
 
 use crate::lines::{push_excuse_changes, push_testing_changes, push_update_changes};
 use deb_control::{NoMemory, Text};

@@ -9,15 +9,15 @@ use Rattle.testing_install.specs.Closed.{marked}
 use Rattle.testing_install.proofs.Marking.{marked_longer}
 use Rattle.testing_rules_model.specs.declared.facts.UploadIn.{UploadIn}
 use Rattle.testing_rules_model.specs.declared.suite.RowIn.{RowIn}
-use Rattle.testing_rules_suites.specs.Changes.{has, IsMoveOf}
-use Rattle.testing_rules_model.specs.FactOrder.{IsUnstableOrder}
+use Rattle.testing_rules_suites.specs.steps.Changes.{has, IsMoveOf}
+use Rattle.testing_rules_model.specs.steps.FactOrder.{IsUnstableOrder}
 use Rattle.testing_rules_model.specs.InOrder.{AreByKey}
 use Rattle.testing_rules_model.specs.Moves.{first_failing, judged_on, move_group, remove_source}
 use Rattle.testing_rules_suites.specs.Present.{IsShown, CarriedState}
-use Rattle.testing_rules_suites.specs.PresentSteps.{IsLive, PoolState, present_rows}
+use Rattle.testing_rules_suites.specs.steps.PresentSteps.{IsLive, PoolState, present_rows}
 use Rattle.testing_rules_model.specs.Suite.{Suite}
-use Rattle.testing_rules_suites.specs.Tried.{Tells, IsWithin, IsRemovalOf}
-use Rattle.testing_rules_model.specs.SourceFilter.{hash_passes, passing_rows}
+use Rattle.testing_rules_suites.specs.steps.Tried.{Tells, IsWithin, IsRemovalOf}
+use Rattle.testing_rules_model.specs.steps.SourceFilter.{hash_passes, passing_rows}
 use Rattle.testing_rules_items.specs.Words.{Text}
 use Rattle.testing_rules_suites.proofs.Arranging.{move_of_places}
 use Rattle.testing_rules_suites.proofs.Flags.{flags_after, marked_within}

@@ -11,10 +11,10 @@ use Rattle.std.proofs.lemmas.Slice.Eq.{bytes_eq-Decides}
 use Rattle.testing_install.specs.Closed.{marked}
 use Rattle.testing_rules_model.specs.declared.facts.UploadIn.{UploadIn}
 use Rattle.testing_rules_model.specs.declared.suite.RowIn.{RowIn}
-use Rattle.testing_rules_suites.specs.Changes.{comes_at, stands_of, stands_for, gives_way_to, has, IsMoveOf}
+use Rattle.testing_rules_suites.specs.steps.Changes.{comes_at, stands_of, stands_for, gives_way_to, has, IsMoveOf}
 use Rattle.testing_rules_model.specs.Moves.{is_same_key, is_row_of, row_key}
 use Rattle.testing_rules_model.specs.Unstable.{is_current}
-use Rattle.testing_rules_model.specs.SourceFilter.{hash_passes, passing_rows}
+use Rattle.testing_rules_model.specs.steps.SourceFilter.{hash_passes, passing_rows}
 use Rattle.testing_rules_items.specs.Words.{Text}
 use Rattle.testing_rules_suites.proofs.Changing.{row_that_comes, row_that_stands, row_that_gives_way}
 use Rattle.testing_rules_suites.proofs.Lost.{any_of, some_of, contains_at, at_place, key_of_same}

@@ -10,11 +10,11 @@ use Rattle.testing_install.specs.Among.{IsLost, after_change}
 use Rattle.testing_install.specs.Closed.{marked}
 use Rattle.testing_install.proofs.Counting.{slice_get_some}
 use Rattle.testing_rules_model.specs.declared.suite.RowIn.{RowIn}
-use Rattle.testing_rules_suites.specs.Changes.{has}
-use Rattle.testing_rules_model.specs.Moves.{is_row_on}
-use Rattle.testing_rules_suites.specs.ArchRows.{ArchRows, AreNumbers, AreLostFrom}
-use Rattle.testing_rules_suites.specs.PresentSteps.{IsOn, IsOver, IsSuiteOn}
-use Rattle.testing_rules_suites.specs.Trials.{is_place_on, names_at, IsFirstLost}
+use Rattle.testing_rules_suites.specs.steps.Changes.{has}
+use Rattle.testing_rules_model.specs.steps.Moves.{is_row_on}
+use Rattle.testing_rules_suites.specs.steps.ArchRows.{ArchRows, AreNumbers, AreLostFrom}
+use Rattle.testing_rules_suites.specs.steps.PresentSteps.{IsOn, IsOver, IsSuiteOn}
+use Rattle.testing_rules_suites.specs.steps.Trials.{is_place_on, names_at, IsFirstLost}
 use Rattle.testing_rules_items.specs.Words.{Text, byte_cmp, least}
 use Rattle.testing_rules_suites.proofs.Arranging.{from_has, to_has}
 use Rattle.testing_rules_suites.proofs.Flags.{flags_after, flag_within}

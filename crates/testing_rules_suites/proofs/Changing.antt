@@ -11,7 +11,7 @@ use Rattle.std.proofs.lemmas.List.Elements.{Contains-append_left, Contains-appen
 use Rattle.std.proofs.lemmas.Slice.Eq.{bytes_eq-Decides}
 use Rattle.testing_rules_model.specs.declared.facts.UploadIn.{UploadIn}
 use Rattle.testing_rules_model.specs.declared.suite.RowIn.{RowIn}
-use Rattle.testing_rules_suites.specs.Changes.{comes_at, stands_of, stands_for, gives_way_to, AreThose, IsMoveOf}
+use Rattle.testing_rules_suites.specs.steps.Changes.{comes_at, stands_of, stands_for, gives_way_to, AreThose, IsMoveOf}
 use Rattle.testing_rules_model.specs.Moves.{is_same_key, group_sources}
 use Rattle.testing_rules_model.specs.Unstable.{is_current, is_of_source}
 use Rattle.testing_rules_items.specs.Words.{Text}

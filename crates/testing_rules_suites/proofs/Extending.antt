@@ -10,9 +10,9 @@ use Rattle.testing_install.specs.Among.{after_change}
 use Rattle.testing_install.specs.Closed.{marked}
 use Rattle.testing_rules_model.specs.declared.suite.RowIn.{RowIn}
 use Rattle.testing_rules_model.specs.InOrder.{AreByKey}
-use Rattle.testing_rules_suites.specs.ArchRows.{ArchRows}
+use Rattle.testing_rules_suites.specs.steps.ArchRows.{ArchRows}
 use Rattle.testing_rules_suites.specs.Present.{IsShown}
-use Rattle.testing_rules_suites.specs.PresentSteps.{IsSuiteOn, AreOver, AreSuites, IsCarriedState}
+use Rattle.testing_rules_suites.specs.steps.PresentSteps.{IsSuiteOn, AreOver, AreSuites, IsCarriedState}
 use Rattle.testing_rules_suites.proofs.Lost.{at_place, contains_at}
 use Rattle.testing_rules_suites.proofs.Suites.{are_more, firsts_stand, over_of}
 

@@ -12,9 +12,10 @@ use Rattle.testing_rules_model.specs.declared.suite.LentRow.{LentRow}
 use Rattle.testing_rules_model.specs.declared.suite.RowIn.{RowIn}
 use Rattle.testing_rules_suites.specs.declared.offender.RowAnswer.{RowAnswer}
 use Rattle.testing_rules_model.specs.declared.update.Offender.{Offender}
-use Rattle.testing_rules_items.specs.Words.{Text, byte_cmp, least, first_of_two}
+use Rattle.testing_rules_items.specs.Words.{Text, byte_cmp, least}
+use Rattle.testing_rules_items.specs.steps.Words.{first_of_two}
 use Rattle.testing_rules_model.specs.Moves.{with_answers, first_failing, fails_on, first_of, judged_on, offender_on, RowAnswer as Answer}
-use Rattle.testing_rules_suites.specs.JudgedRows.{answer, answers}
+use Rattle.testing_rules_suites.specs.steps.JudgedRows.{answer, answers}
 use Rattle.testing_rules_model.specs.JudgedRows.{lent, row_of}
 use Rattle.testing_rules_model.proofs.Orders.{least-push, text_order}
 

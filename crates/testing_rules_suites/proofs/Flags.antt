@@ -7,7 +7,7 @@ use Rattle.std.proofs.lemmas.List.{get_or_default}
 use Rattle.testing_install.specs.Among.{with_all, after_change}
 use Rattle.testing_install.specs.Closed.{marked}
 use Rattle.testing_install.proofs.Marking.{with_here, with_elsewhere, length-with_all}
-use Rattle.testing_rules_suites.specs.Changes.{has}
+use Rattle.testing_rules_suites.specs.steps.Changes.{has}
 use Rattle.testing_rules_suites.proofs.Arranging.{from_has, to_has}
 use Rattle.testing_rules_model.proofs.Least.{from_filter}
 

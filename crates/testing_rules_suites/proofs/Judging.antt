@@ -9,14 +9,15 @@ use Rattle.testing_install.specs.Among.{after_change}
 use Rattle.testing_install.specs.Closed.{marked}
 use Rattle.testing_install.proofs.Counting.{slice_get_some}
 use Rattle.testing_rules_model.specs.declared.suite.RowIn.{RowIn}
-use Rattle.testing_rules_suites.specs.Changes.{has}
-use Rattle.testing_rules_model.specs.Moves.{is_row_on, first_failing, judged_on}
-use Rattle.testing_rules_suites.specs.Trials.{is_place_on, IsFirstLost}
+use Rattle.testing_rules_suites.specs.steps.Changes.{has}
+use Rattle.testing_rules_model.specs.Moves.{first_failing, judged_on}
+use Rattle.testing_rules_model.specs.steps.Moves.{is_row_on}
+use Rattle.testing_rules_suites.specs.steps.Trials.{is_place_on, IsFirstLost}
 use Rattle.testing_rules_items.specs.Words.{Text}
 use Rattle.testing_rules_suites.proofs.Arranging.{from_has, to_has}
 use Rattle.testing_rules_suites.proofs.Flags.{flags_after, flag_within}
 use Rattle.testing_rules_model.proofs.Least.{from_filter, to_filter}
-use Rattle.testing_rules_suites.specs.PresentSteps.{IsOn}
+use Rattle.testing_rules_suites.specs.steps.PresentSteps.{IsOn}
 use Rattle.testing_rules_suites.proofs.Lost.{IsChange, lost_where_new}
 use Rattle.testing_rules_suites.proofs.Moving.{after_flags}
 use Rattle.testing_rules_suites.proofs.Trying.{on_after, first_of_lost}

@@ -18,9 +18,10 @@ use Rattle.testing_install.specs.Installable.{are_installable}
 use Rattle.testing_install.proofs.Choosing.{length-are}
 use Rattle.testing_rules_model.specs.declared.suite.RowIn.{RowIn}
 use Rattle.testing_rules_model.specs.InOrder.{AreByKey}
-use Rattle.testing_rules_model.specs.Moves.{row_cmp, row_key, is_row_on, rows_on, is_row_of, is_same_key, is_watched_on, was_installable, fails_on, first_failing, with_answers, judged_on, RowAnswer}
+use Rattle.testing_rules_model.specs.Moves.{row_cmp, row_key, rows_on, is_row_of, is_same_key, is_watched_on, was_installable, fails_on, first_failing, with_answers, judged_on, RowAnswer}
+use Rattle.testing_rules_model.specs.steps.Moves.{is_row_on}
 use Rattle.testing_rules_suites.specs.Present.{IsShown}
-use Rattle.testing_rules_suites.specs.PresentSteps.{IsOn}
+use Rattle.testing_rules_suites.specs.steps.PresentSteps.{IsOn}
 use Rattle.testing_rules_items.specs.Words.{Text, byte_cmp, least}
 use Rattle.testing_rules_model.proofs.Least.{from_filter, to_filter, same-least}
 use Rattle.testing_rules_model.proofs.Listed.{IsAmong, IsListing, listed_exact}

@@ -5,9 +5,9 @@ use Rattle.std.proofs.Common.{◌≡◌, sym, subst, arith, inl, inr}
 use Rattle.std.proofs.lemmas.Bool.{cases_lt}
 use Rattle.std.proofs.lemmas.List.Elements.{All-contains, Contains-append_left, Contains-append_right, Contains-append_cases, Contains-push, Contains-push_cases}
 use Rattle.testing_install.specs.Closed.{marked}
-use Rattle.testing_rules_suites.specs.Pools.{HasPlaces}
+use Rattle.testing_rules_suites.specs.steps.Pools.{HasPlaces}
 use Rattle.testing_rules_model.specs.SameMessages.{SameElements}
-use Rattle.testing_rules_suites.specs.PresentSteps.{set_places}
+use Rattle.testing_rules_suites.specs.steps.PresentSteps.{set_places}
 use Rattle.testing_rules_suites.proofs.Flags.{bounded_members, marked_within}
 use Rattle.testing_rules_model.proofs.Least.{from_filter, to_filter}
 use Rattle.testing_rules_suites.proofs.Showing.{range_has}

@@ -12,10 +12,10 @@ use Rattle.testing_install.specs.Closed.{marked}
 use Rattle.testing_install.proofs.Marking.{marked_longer}
 use Rattle.testing_install.proofs.Sharing.{slice_get_before}
 use Rattle.testing_rules_model.specs.declared.suite.RowIn.{RowIn}
-use Rattle.testing_rules_model.specs.Moves.{is_row_on}
-use Rattle.testing_rules_suites.specs.ArchRows.{ArchRows, IsArchRows, package_at}
-use Rattle.testing_rules_suites.specs.PresentSteps.{IsOver, IsSuiteOn}
-use Rattle.testing_rules_suites.specs.Trials.{is_place_on}
+use Rattle.testing_rules_model.specs.steps.Moves.{is_row_on}
+use Rattle.testing_rules_suites.specs.steps.ArchRows.{ArchRows, IsArchRows, package_at}
+use Rattle.testing_rules_suites.specs.steps.PresentSteps.{IsOver, IsSuiteOn}
+use Rattle.testing_rules_suites.specs.steps.Trials.{is_place_on}
 use Rattle.testing_rules_suites.proofs.Flags.{bounded_members, marked_within}
 use Rattle.testing_rules_model.proofs.Least.{from_filter}
 use Rattle.testing_rules_suites.proofs.Lost.{contains_at}

@@ -14,7 +14,7 @@ use Rattle.testing_install.specs.Among.{IsLost, after_change, with_all}
 use Rattle.testing_install.specs.Closed.{marked}
 use Rattle.testing_install.specs.Suite.{SuiteState}
 use Rattle.testing_install.proofs.Marking.{length-with_all}
-use Rattle.testing_rules_suites.specs.ArchRows.{AreAscending, IsArchRows, IsNumberOf, AreNumbers, IsAfter, AreLostFrom}
+use Rattle.testing_rules_suites.specs.steps.ArchRows.{AreAscending, IsArchRows, IsNumberOf, AreNumbers, IsAfter, AreLostFrom}
 use Rattle.testing_rules_suites.proofs.Flags.{flag_within, bounded_members}
 use Rattle.testing_rules_items.proofs.Members.{none_among}
 use Rattle.testing_rules_model.proofs.Sets.{mapped_from, maps}

@@ -8,7 +8,7 @@ use Rattle.std.proofs.lemmas.List.{take_all, drop_all}
 use Rattle.std.proofs.lemmas.List.Sorted.{Contains-permutation, IsPermutation-sym}
 use Rattle.testing_rules_model.specs.declared.suite.LentRow.{LentRow}
 use Rattle.testing_rules_model.specs.declared.suite.RowIn.{RowIn}
-use Rattle.testing_rules_suites.specs.AfterMoves.{with_rows}
+use Rattle.testing_rules_suites.specs.steps.AfterMoves.{with_rows}
 use Rattle.testing_rules_model.specs.InOrder.{AreByKey}
 use Rattle.testing_rules_model.specs.JudgedRows.{lent, row_of}
 use Rattle.testing_rules_model.specs.Moves.{row_cmp, row_key}

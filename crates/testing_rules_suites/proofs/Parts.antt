@@ -10,10 +10,10 @@ use Rattle.std.proofs.lemmas.Option.{same_Some, slice_get_within, slice_get-map}
 use Rattle.deb_control.specs.declared.binary.Binary.{Binary}
 use Rattle.testing_install.proofs.Counting.{slice_get_some}
 use Rattle.testing_rules_model.specs.declared.suite.RowIn.{RowIn}
-use Rattle.testing_rules_model.specs.Moves.{is_row_on}
-use Rattle.testing_rules_suites.specs.ArchRows.{ArchRows, AreAscending, package_at}
-use Rattle.testing_rules_suites.specs.PresentSteps.{IsOver}
-use Rattle.testing_rules_suites.specs.Trials.{is_place_on}
+use Rattle.testing_rules_model.specs.steps.Moves.{is_row_on}
+use Rattle.testing_rules_suites.specs.steps.ArchRows.{ArchRows, AreAscending, package_at}
+use Rattle.testing_rules_suites.specs.steps.PresentSteps.{IsOver}
+use Rattle.testing_rules_suites.specs.steps.Trials.{is_place_on}
 use Rattle.testing_rules_suites.proofs.Arranging.{at_some_of}
 use Rattle.testing_rules_suites.proofs.Flags.{bounded_members}
 use Rattle.testing_rules_model.proofs.Least.{from_filter, to_filter}

@@ -7,12 +7,13 @@ use Rattle.std.proofs.lemmas.Bool.{cases_lt}
 use Rattle.std.proofs.lemmas.List.{length-append, length-map, map-append, get_or_at}
 use Rattle.std.proofs.lemmas.Slice.Eq.{bytes_eq-Decides}
 use Rattle.deb_control.specs.declared.binary.Binary.{Binary}
-use Rattle.testing_install.specs.Index.{bears, PlacesByName, places_at, IsNoted, IsIndex}
+use Rattle.testing_install.specs.Index.{bears, PlacesByName, places_at, IsNoted}
+use Rattle.testing_install.specs.steps.Index.{IsIndex}
 use Rattle.testing_install.specs.Needers.{IsNotedAt}
 use Rattle.testing_install.proofs.Sharing.{slice_get_before}
 use Rattle.testing_rules_model.specs.declared.suite.RowIn.{RowIn}
 use Rattle.testing_rules_items.specs.Words.{Text}
-use Rattle.testing_rules_suites.specs.Pools.{IsTextIndex, IsPool, sources_of, packages_of}
+use Rattle.testing_rules_suites.specs.steps.Pools.{IsTextIndex, IsPool, sources_of, packages_of}
 
 -- one text more, whose place is noted
 module _ (texts : List Text) (text : Text) (old new : PlacesByName) (n : ℕ) (long : n ≡ length texts) (to : IsTextIndex texts old) (noted : IsNotedAt (λ q. bytes_eq q text) old new n) where

@@ -6,10 +6,10 @@ use Rattle.std.proofs.Common.{◌≡◌, refl, arith, inl, inr}
 use Rattle.std.proofs.lemmas.List.FromFn.{length-range_with_len, get_or-range_with_len}
 use Rattle.testing_install.specs.Closed.{marked}
 use Rattle.testing_rules_model.specs.declared.suite.RowIn.{RowIn}
-use Rattle.testing_rules_suites.specs.AfterMoves.{with_rows, rows_at}
+use Rattle.testing_rules_suites.specs.steps.AfterMoves.{with_rows, rows_at}
 use Rattle.testing_rules_model.specs.InOrder.{AreByKey}
 use Rattle.testing_rules_suites.specs.Present.{IsShown}
-use Rattle.testing_rules_suites.specs.PresentSteps.{PoolState, set_places, present_rows}
+use Rattle.testing_rules_suites.specs.steps.PresentSteps.{PoolState, set_places, present_rows}
 use Rattle.testing_rules_suites.proofs.Flags.{marked_within, bounded_members}
 use Rattle.testing_rules_model.proofs.Least.{from_filter, to_filter}
 use Rattle.testing_rules_items.proofs.Members.{none_among}

@@ -18,10 +18,10 @@ use Rattle.testing_rules_suites.proofs.Flags.{bounded_members, flags_after, mark
 use Rattle.testing_rules_suites.proofs.Lost.{at_place, contains_at}
 use Rattle.testing_rules_suites.proofs.Showing.{range_has}
 use Rattle.testing_rules_suites.proofs.Suites.{length-after}
-use Rattle.testing_rules_suites.specs.Changes.{has}
+use Rattle.testing_rules_suites.specs.steps.Changes.{has}
 use Rattle.testing_rules_suites.specs.Present.{IsShown}
-use Rattle.testing_rules_suites.specs.Tried.{IsWithin}
-use Rattle.testing_rules_suites.specs.Standing.{AreWanted, IsSetFor, is_alone}
+use Rattle.testing_rules_suites.specs.steps.Tried.{IsWithin}
+use Rattle.testing_rules_suites.specs.steps.Standing.{AreWanted, IsSetFor, is_alone}
 
 -- a flag more
 

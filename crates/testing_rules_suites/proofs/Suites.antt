@@ -16,13 +16,14 @@ use Rattle.testing_rules_model.specs.declared.suite.RowIn.{RowIn}
 use Rattle.std.proofs.lemmas.Slice.Eq.{bytes_eq-Decides}
 use Rattle.testing_install.proofs.Counting.{slice_get_some}
 use Rattle.testing_rules_model.specs.declared.facts.UploadIn.{UploadIn}
-use Rattle.testing_rules_suites.specs.Changes.{has, stands_of, stands_for, gives_way_to, IsMoveOf}
-use Rattle.testing_rules_model.specs.Moves.{is_row_on, group_sources}
+use Rattle.testing_rules_suites.specs.steps.Changes.{has, stands_of, stands_for, gives_way_to, IsMoveOf}
+use Rattle.testing_rules_model.specs.Moves.{group_sources}
+use Rattle.testing_rules_model.specs.steps.Moves.{is_row_on}
 use Rattle.testing_rules_suites.specs.Present.{IsShown}
-use Rattle.testing_rules_suites.specs.PresentSteps.{IsOn, IsOver, IsSuiteOn, AreOver, AreSuites}
-use Rattle.testing_rules_suites.specs.ArchRows.{ArchRows, IsAfter, package_at}
-use Rattle.testing_rules_suites.specs.Tried.{IsWithin, IsRemovalOf, Tells}
-use Rattle.testing_rules_suites.specs.Trials.{IsFirstLost}
+use Rattle.testing_rules_suites.specs.steps.PresentSteps.{IsOn, IsOver, IsSuiteOn, AreOver, AreSuites}
+use Rattle.testing_rules_suites.specs.steps.ArchRows.{ArchRows, IsAfter, package_at}
+use Rattle.testing_rules_suites.specs.steps.Tried.{IsWithin, IsRemovalOf, Tells}
+use Rattle.testing_rules_suites.specs.steps.Trials.{IsFirstLost}
 use Rattle.testing_rules_items.specs.Words.{Text}
 use Rattle.testing_rules_suites.proofs.Arranging.{from_has, to_has, at_some_of}
 use Rattle.testing_rules_suites.proofs.Carried.{has_number}

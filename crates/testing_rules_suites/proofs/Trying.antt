@@ -4,10 +4,11 @@ use Rattle.std.specs.List.{slice_get, filter_map}
 use Rattle.std.proofs.Common.{◌≡◌, refl, ap₂, ◌∙◌}
 use Rattle.std.proofs.lemmas.Option.{slice_get_within}
 use Rattle.testing_rules_model.specs.declared.suite.RowIn.{RowIn}
-use Rattle.testing_rules_model.specs.Moves.{is_row_on, is_watched_on, first_failing, judged_on}
+use Rattle.testing_rules_model.specs.Moves.{is_watched_on, first_failing, judged_on}
+use Rattle.testing_rules_model.specs.steps.Moves.{is_row_on}
 use Rattle.testing_rules_items.specs.Words.{Text, byte_cmp, least}
 use Rattle.testing_rules_model.proofs.Least.{from_filter, to_filter}
-use Rattle.testing_rules_suites.specs.PresentSteps.{IsOn}
+use Rattle.testing_rules_suites.specs.steps.PresentSteps.{IsOn}
 use Rattle.testing_rules_suites.proofs.Lost.{IsLostAt, IsChange, AreLost, first_lost}
 use Rattle.testing_rules_suites.proofs.Moving.{after_flags}
 use Rattle.testing_rules_model.proofs.Sets.{given_by, gives, maps, mapped_from}

@@ -1,11 +1,3 @@
 pub mod CarriedOver
-pub mod Standing
-pub mod AfterMoves
-pub mod ArchRows
-pub mod Changes
-pub mod JudgedRows
-pub mod Pools
 pub mod Present
-pub mod PresentSteps
-pub mod Trials
-pub mod Tried
+pub mod steps

@@ -5,9 +5,9 @@ ghost use Rattle.std.specs.List.{All, range_with_len};
 ghost use Rattle.std.specs.Ordering.{nat_cmp};
 ghost use Rattle.std.specs.Result.{result_ok};
 ghost use Rattle.testing_install.specs.Rows.{shared};
-ghost use Rattle.testing_rules_suites.specs.ArchRows.{AreAscending, AreNumbers, IsNumberOf, IsAfter, AreLostFrom, package_at};
-ghost use Rattle.testing_rules_suites.specs.PresentSteps.{IsOver, IsSuiteOn};
-ghost use Rattle.testing_rules_suites.specs.Trials.{is_place_on};
+ghost use Rattle.testing_rules_suites.specs.steps.ArchRows.{AreAscending, AreNumbers, IsNumberOf, IsAfter, AreLostFrom, package_at};
+ghost use Rattle.testing_rules_suites.specs.steps.PresentSteps.{IsOver, IsSuiteOn};
+ghost use Rattle.testing_rules_suites.specs.steps.Trials.{is_place_on};
 
 use crate::offender::is_row_on;
 use crate::pool::Pool;
@@ -130,7 +130,7 @@ impl Drop for ArchSuite {
 }
 
 impl Model for ArchSuite {
-    ghost use Rattle.testing_rules_suites.specs.ArchRows.{ArchRows, IsArchRows};
+    ghost use Rattle.testing_rules_suites.specs.steps.ArchRows.{ArchRows, IsArchRows};
 
     ghost Value = { ArchRows };
 

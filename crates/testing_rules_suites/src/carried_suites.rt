@@ -5,14 +5,14 @@ ghost use Rattle.std.specs.Prelude.{◌≡◌, ℕ, ◌++◌, ◌-◌, ◌^◌, 
 ghost use Rattle.std.specs.List.{All, range_with_len};
 ghost use Rattle.testing_install.specs.Among.{with_all, after_change};
 ghost use Rattle.testing_install.specs.Closed.{marked};
-ghost use Rattle.testing_rules_suites.specs.AfterMoves.{with_rows, rows_at};
-ghost use Rattle.testing_rules_suites.specs.Changes.{has};
+ghost use Rattle.testing_rules_suites.specs.steps.AfterMoves.{with_rows, rows_at};
+ghost use Rattle.testing_rules_suites.specs.steps.Changes.{has};
 ghost use Rattle.testing_rules_model.specs.InOrder.{AreByKey};
 ghost use Rattle.testing_rules_model.specs.JudgedRows.{lent};
 ghost use Rattle.testing_rules_model.specs.SameMessages.{SameElements};
 ghost use Rattle.testing_rules_suites.specs.Present.{IsShown};
-ghost use Rattle.testing_rules_suites.specs.PresentSteps.{AreOver, AreSuites, set_places};
-ghost use Rattle.testing_rules_suites.specs.Tried.{first_told, Tells, IsWithin};
+ghost use Rattle.testing_rules_suites.specs.steps.PresentSteps.{AreOver, AreSuites, set_places};
+ghost use Rattle.testing_rules_suites.specs.steps.Tried.{first_told, Tells, IsWithin};
 ghost use Rattle.testing_rules_items.specs.Words.{Text as Word};
 ghost use Rattle.testing_rules_model.specs.declared.suite.RowIn.{RowIn as ARow};
 
@@ -162,7 +162,7 @@ impl Drop for CarriedSuites {
 
 impl Model for CarriedSuites {
     ghost use Rattle.testing_rules_suites.specs.Present.{CarriedState};
-    ghost use Rattle.testing_rules_suites.specs.PresentSteps.{IsCarriedState};
+    ghost use Rattle.testing_rules_suites.specs.steps.PresentSteps.{IsCarriedState};
 
     ghost Value = { CarriedState };
 

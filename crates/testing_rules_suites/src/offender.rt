@@ -1,7 +1,7 @@
 //! Rows on an architecture.
 
 ghost use Rattle.std.specs.Prelude.{◌≡◌, ◌==◌};
-ghost use Rattle.testing_rules_model.specs.Moves as moves;
+ghost use Rattle.testing_rules_model.specs.steps.Moves as moves_steps;
 ghost use Rattle.testing_rules_model.specs.JudgedRows.{row_of};
 
 use testing_rules_items::ALL;
@@ -9,7 +9,7 @@ use testing_rules_model::LentRow;
 
 /// The row is the architecture's own, or one of `all`.
 pub fn is_row_on(arch: u32, row: &LentRow) -> bool
-    ensures { result ≡ moves.is_row_on arch (row_of row.now) }
+    ensures { result ≡ moves_steps.is_row_on arch (row_of row.now) }
 {
     row.arch == arch || row.arch == ALL
 }

@@ -5,7 +5,7 @@ ghost use Rattle.std.specs.List.{All, slice_get};
 ghost use Rattle.testing_install.specs.Index.{bears};
 ghost use Rattle.testing_rules_model.specs.declared.suite.RowIn.{RowIn as ARow};
 ghost use Rattle.testing_rules_model.specs.JudgedRows.{lent, row_of};
-ghost use Rattle.testing_rules_suites.specs.Pools.{IsPool, HasPlaces};
+ghost use Rattle.testing_rules_suites.specs.steps.Pools.{IsPool, HasPlaces};
 
 use crate::row_order::merged;
 use deb_control::Binary;
@@ -39,7 +39,7 @@ impl Drop for Pool {
 impl Model for Pool {
     ghost use Rattle.std.specs.Prelude.{List};
     ghost use Rattle.testing_rules_model.specs.declared.suite.RowIn.{RowIn};
-    ghost use Rattle.testing_rules_suites.specs.Pools.{IsOrderedPool};
+    ghost use Rattle.testing_rules_suites.specs.steps.Pools.{IsOrderedPool};
 
     ghost Value = { List RowIn };
 

@@ -2,7 +2,7 @@
 //! place is guaranteed to be included, and whoever lists rows tests their order.
 
 ghost use Rattle.std.specs.Prelude.{◌≡◌, ◌≤◌, length, IfOk};
-ghost use Rattle.testing_rules_suites.specs.Pools.{HasPlaces};
+ghost use Rattle.testing_rules_suites.specs.steps.Pools.{HasPlaces};
 ghost use Rattle.testing_rules_model.specs.Moves as moves;
 
 use deb_version::NoMemory;

@@ -7,7 +7,7 @@ ghost use Rattle.testing_rules_model.specs.InOrder.{AreByKey};
 ghost use Rattle.testing_rules_model.specs.JudgedRows.{lent};
 ghost use Rattle.testing_rules_model.specs.declared.suite.RowIn.{RowIn as ARow};
 ghost use Rattle.testing_rules_suites.specs.Present.{IsShown};
-ghost use Rattle.testing_rules_suites.specs.Standing.{AreWanted, is_alone};
+ghost use Rattle.testing_rules_suites.specs.steps.Standing.{AreWanted, is_alone};
 
 use crate::carried_suites::CarriedSuites;
 use crate::lent_rows::order_rows;

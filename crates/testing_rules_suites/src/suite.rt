@@ -5,7 +5,7 @@ ghost use Rattle.std.specs.List.Sorted.{IsBinarySearchResult, IsSearchInRange};
 ghost use Rattle.testing_rules_model.specs.Moves as moves;
 ghost use Rattle.testing_rules_model.specs.InOrder.{AreByName, AreByKey};
 ghost use Rattle.testing_rules_suites.specs.CarriedOver.{AreCarriedOver};
-ghost use Rattle.testing_rules_model.specs.Places.{IsPlaceFor};
+ghost use Rattle.testing_rules_model.specs.steps.Places.{IsPlaceFor};
 ghost use Rattle.testing_rules_items.specs.Words.{byte_cmp};
 
 use crate::carried_suites::CarriedSuites;
@@ -27,7 +27,7 @@ struct SuiteEntries {
 
 impl Model for SuiteEntries {
     ghost use Rattle.testing_rules_model.specs.Suite.{Suite};
-    ghost use Rattle.testing_rules_model.specs.InOrder.{IsInOrder};
+    ghost use Rattle.testing_rules_model.specs.steps.InOrder.{IsInOrder};
 
     ghost Value = { Suite };
 

@@ -3,10 +3,10 @@
 ghost use Rattle.std.specs.Prelude.{◌≡◌, ◌<◌, ℕ, Bool, List, Option, Some, length, IfOk, option_copied};
 ghost use Rattle.std.specs.List.{All, slice_get};
 ghost use Rattle.testing_install.specs.Closed.{marked};
-ghost use Rattle.testing_rules_suites.specs.ArchRows.{ArchRows};
-ghost use Rattle.testing_rules_suites.specs.PresentSteps.{IsOn, IsOver, IsSuiteOn, AreOver, AreSuites};
-ghost use Rattle.testing_rules_suites.specs.Trials.{names_at, IsFirstLost};
-ghost use Rattle.testing_rules_suites.specs.Tried.{first_told, Tells};
+ghost use Rattle.testing_rules_suites.specs.steps.ArchRows.{ArchRows};
+ghost use Rattle.testing_rules_suites.specs.steps.PresentSteps.{IsOn, IsOver, IsSuiteOn, AreOver, AreSuites};
+ghost use Rattle.testing_rules_suites.specs.steps.Trials.{names_at, IsFirstLost};
+ghost use Rattle.testing_rules_suites.specs.steps.Tried.{first_told, Tells};
 ghost use Rattle.testing_rules_items.specs.Words.{Text as Word, byte_cmp, least};
 
 use crate::watched::{first_of_two, is_watched_on};

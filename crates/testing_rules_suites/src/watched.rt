@@ -3,7 +3,8 @@
 ghost use Rattle.std.specs.Prelude.{◌≡◌, ◌==◌};
 ghost use Rattle.testing_rules_model.specs.Moves as moves;
 ghost use Rattle.testing_rules_model.specs.JudgedRows.{row_of};
-ghost use Rattle.testing_rules_items.specs.Words.{byte_cmp, first_of_two};
+ghost use Rattle.testing_rules_items.specs.Words.{byte_cmp};
+ghost use Rattle.testing_rules_items.specs.steps.Words.{first_of_two};
 ghost use Rattle.std.specs.Option.{option_copied};
 
 use testing_rules_items::ALL;

@@ -2,15 +2,15 @@ use Rattle.std.proofs.Common.{ap, map, refl, subst, true, ◌∙◌, ◌≡◌}
 use Rattle.std.proofs.lemmas.Result.{IfErr-weaker, IfOk-weaker}
 use Rattle.clap.specs.Words.{App, FailsBy, fault_of, is_simple, is_simple_and_free, subcommand_of, takes}
 use Rattle.clap.proofs.OnLiterals.{clap_on_literals}
-use Rattle.office_cli_words.specs.Program.{of_eleven, of_fifteen, of_five, of_nine, of_three, office}
+use Rattle.office_cli_words.specs.Program.{of_three, office}
 use Rattle.office_cli_words.proofs.matches.Goals as goal
 
 office_simple : is_simple office ≡ true
-unfolding clap_on_literals office of_fifteen of_eleven of_nine of_five of_three
+unfolding clap_on_literals office of_three
 office_simple = refl
 
 office_free : is_simple_and_free office ≡ true
-unfolding clap_on_literals office of_fifteen of_eleven of_nine of_five of_three
+unfolding clap_on_literals office of_three
 office_free = refl
 
 pub returns-clause-ok : goal.returns-clause-ok

@@ -3,7 +3,8 @@ use Rattle.clap.proofs.CallerLemmas.{some_of_text}
 use Rattle.clap.specs.Words.{subcommand_of}
 use Rattle.std.specs.Prelude.{option_map}
 use Rattle.office_cli_words.specs.Program.{office}
-use Rattle.office_cli_words.specs.Asked.{asked, asked_by}
+use Rattle.office_cli_words.specs.Asked.{asked}
+use Rattle.office_cli_words.specs.steps.AskedSteps.{asked_by}
 use Rattle.office_cli_words.proofs.Reading.{faultless, gives_refusal}
 use Rattle.office_cli_words.proofs.Taken.{taken_words_ask}
 use Rattle.office_cli_words.proofs.read_command.Goals as goal

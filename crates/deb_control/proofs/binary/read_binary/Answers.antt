@@ -1,5 +1,5 @@
 use Rattle.std.proofs.Common.{rules}
-use Rattle.deb_control.specs.BinarySteps.{binary_by}
+use Rattle.deb_control.specs.steps.BinarySteps.{binary_by}
 use Rattle.deb_control.proofs.binary.read_binary.Goals as goal
 
 pub returns : goal.returns

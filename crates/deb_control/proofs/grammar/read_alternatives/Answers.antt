@@ -1,13 +1,14 @@
 use Rattle.std.proofs.Common.{Ok, sym, ap, ◌∙◌}
 use Rattle.std.specs.List.{slice_split}
 use Rattle.std.proofs.lemmas.Result.{err_from_is_err_and}
-use Rattle.deb_control.specs.Relations.{each_in, is_bar, alternative_in, clause_in}
+use Rattle.deb_control.specs.Results.{each_of}
+use Rattle.deb_control.specs.Relations.{is_bar, alternative_in, clause_in}
 use Rattle.deb_control.specs.declared.relation.Signs.TheVariants.{Any}
 use Rattle.deb_control.proofs.Each.{items_left, begins_with_none, each_step, each_fails, each_ends, fails_as}
 use Rattle.deb_control.proofs.grammar.read_alternatives.Goals as goal
 
 pub parts-init : goal.parts-init
-parts-init c = rw c.in_ok-alternatives.ensures.items (begins_with_none (each_in (alternative_in Any) (slice_split is_bar c.args.item.now)))
+parts-init c = rw c.in_ok-alternatives.ensures.items (begins_with_none (each_of (alternative_in Any) (slice_split is_bar c.args.item.now)))
 
 pub parts-preserved : goal.parts-preserved
 parts-preserved c =

@@ -1,6 +1,6 @@
 use Rattle.std.proofs.Common.{List, ◌∷◌, Result, subst, ap, ◌∙◌}
 use Rattle.deb_control.specs.Relations.{is_bar}
-use Rattle.deb_control.specs.RelationAnswers.{Gives}
+use Rattle.deb_control.specs.steps.RelationAnswers.{Gives}
 use Rattle.deb_control.specs.declared.fault.RelationFault.{RelationFault}
 use Rattle.deb_control.specs.declared.relation.Alternative.{Alternative}
 use Rattle.deb_control.proofs.Alike.{one_alternative}

@@ -2,7 +2,7 @@ use Rattle.std.proofs.Common.{ℕ, List, take, drop, sym, ap, ◌∙◌, arith}
 use Rattle.std.specs.List.{prefix_len}
 use Rattle.std.proofs.lemmas.List.Sums.{prefix_len-le-length}
 use Rattle.deb_control.specs.Relations.{is_package_char, is_package_name}
-use Rattle.deb_control.specs.ClauseSteps.{is_package}
+use Rattle.deb_control.specs.steps.ClauseSteps.{is_package}
 use Rattle.deb_control.proofs.PackageNames.{good_package, bad_package}
 use Rattle.deb_control.proofs.grammar.split_package.Goals as goal
 

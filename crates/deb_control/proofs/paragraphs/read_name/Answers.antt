@@ -1,6 +1,6 @@
 use Rattle.std.proofs.Common.{◌≡◌, ℕ, List, true, take, sym, subst, ◌∙◌}
 use Rattle.deb_control.specs.Paragraphs.{is_field_name}
-use Rattle.deb_control.specs.ReaderSteps.{IsColonAt}
+use Rattle.deb_control.specs.steps.ReaderSteps.{IsColonAt}
 use Rattle.deb_control.proofs.Names.{good_name}
 use Rattle.deb_control.proofs.paragraphs.read_name.Goals as goal
 

@@ -1,9 +1,10 @@
 use Rattle.std.proofs.Common.{◌≡◌, ◌++◌, [], ◌∷◌, true, false, map, sym, ap, ◌∙◌, rules, inr, Some}
 use Rattle.std.proofs.lemmas.List.{append-nil}
 use Rattle.std.proofs.lemmas.Result.{err_from_is_err_and}
+use Rattle.std.specs.Option.{option_or}
 use Rattle.deb_control.specs.Text.{lines, is_blank_line, continues}
-use Rattle.deb_control.specs.Paragraphs.{shown, name_in, fields, first_fault, or_else, reading_of}
-use Rattle.deb_control.specs.ReaderSteps.{line_in_front, front_run}
+use Rattle.deb_control.specs.Paragraphs.{shown, name_in, fields, first_fault, reading_of}
+use Rattle.deb_control.specs.steps.ReaderSteps.{line_in_front, front_run}
 use Rattle.deb_control.proofs.Lines.{first_continues, refused, was_read, shorter, field_step, at_blank_line, names_with, fields_with}
 use Rattle.deb_control.proofs.paragraphs.read_paragraph.Goals as goal
 
@@ -18,7 +19,7 @@ returns-in_err-field c =
     let names = map (λ f. f.0.now) c.fields.fields.items in
     let step = field_step c.fields.rest.now _ _ names c.split_field.ensures full c.fields.invariant.1 in
     let bad = rw c.deref.ensures.value at c.in_err-field.ensures in
-    let fault : first_fault [] (front_run (lines c.args.text.now)) ≡ Some c.in_err-field.field-0.0 = c.fields.invariant.2 ∙ step.fault ∙ ap (λ o. or_else o (first_fault (names ++ name_in (line_in_front c.split_field.result.0.now) ∷ []) (front_run (lines c.split_field.result.1.now)))) bad in
+    let fault : first_fault [] (front_run (lines c.args.text.now)) ≡ Some c.in_err-field.field-0.0 = c.fields.invariant.2 ∙ step.fault ∙ ap (λ o. option_or o (first_fault (names ++ name_in (line_in_front c.split_field.result.0.now) ∷ []) (front_run (lines c.split_field.result.1.now)))) bad in
     let p = err_from_is_err_and c.from_residual-in_err-field.result c.from_residual-in_err-field.ensures.1 in
     rw (p.1, p.2) (inr (refused c.args.text.now _ c.requires fault))
 
@@ -38,7 +39,7 @@ fields-preserved c =
       search rules,
       c.split_field.ensures.ends,
       c.fields.invariant.2 ∙ step.fault
-          ∙ ap (λ o. or_else o (first_fault (names ++ name_in (line_in_front c.split_field.result.0.now) ∷ []) after)) good.0
+          ∙ ap (λ o. option_or o (first_fault (names ++ name_in (line_in_front c.split_field.result.0.now) ∷ []) after)) good.0
           ∙ ap (λ ns. first_fault ns after) (names_with items c.push.new.self.items c.in_ok-field.field _ c.in_ok-push.ensures.items good.1),
       c.fields.invariant.3 ∙ ap (λ fs. map shown items ++ fs) step.value
           ∙ fields_with items c.push.new.self.items c.in_ok-field.field _ _ (fields after) c.in_ok-push.ensures.items good.1 good.2,

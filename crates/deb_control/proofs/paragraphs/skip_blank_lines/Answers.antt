@@ -2,7 +2,7 @@ use Rattle.std.proofs.Common.{◌≡◌, ◌+◌, ℕ, true, drop, slice_index, 
 use Rattle.std.specs.List.{position_or_len}
 use Rattle.deb_control.specs.Text.{is_line_feed, is_blank_line}
 use Rattle.deb_control.specs.Paragraphs.{reading_of_text}
-use Rattle.deb_control.specs.ReaderSteps.{line_in_front}
+use Rattle.deb_control.specs.steps.ReaderSteps.{line_in_front}
 use Rattle.deb_control.proofs.Lines.{reading_past_blank, reading_of_blank, reading_of_nothing}
 use Rattle.deb_control.proofs.Cuts.{feed_at, feed_within}
 use Rattle.deb_control.proofs.paragraphs.skip_blank_lines.Goals as goal

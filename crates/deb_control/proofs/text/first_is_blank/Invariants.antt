@@ -1,6 +1,6 @@
 use Rattle.std.proofs.Common.{◌≡◌}
 use Rattle.deb_control.specs.Text.{is_blank_line}
-use Rattle.deb_control.specs.ReaderSteps.{line_in_front}
+use Rattle.deb_control.specs.steps.ReaderSteps.{line_in_front}
 use Rattle.deb_control.proofs.LineFronts.{blank_from}
 use Rattle.deb_control.proofs.text.first_is_blank.Given as goal
 

@@ -1,6 +1,6 @@
 use Rattle.std.proofs.Common.{◌≡◌, sym, subst, arith}
 use Rattle.std.proofs.lemmas.Grind.{common_steps}
-use Rattle.deb_version.specs.Digits.{AreDigits, leading_digits}
+use Rattle.deb_version.specs.steps.Digits.{AreDigits, leading_digits}
 use Rattle.deb_version.proofs.Numbers.{AreDigits-run}
 use Rattle.deb_version.proofs.Runs.{position_unwrapped}
 use Rattle.deb_version.proofs.parts.first_number.Goals as goal

@@ -1,7 +1,7 @@
 use Rattle.std.proofs.Common.{◌≡◌, ◌∙◌, sym, ap, rules}
 use Rattle.std.specs.Ordering.{nat_cmp}
 use Rattle.deb_version.specs.Key.{part_cmp}
-use Rattle.deb_version.specs.Laws.{same_refl}
+use Rattle.deb_version.specs.steps.Laws.{same_refl}
 use Rattle.deb_version.specs.Order.{version_cmp}
 use Rattle.deb_version.specs.Text.{epoch_of, upstream_of, revision_of}
 use Rattle.deb_version.proofs.Steps.{epochs_decide, upstreams_decide, revisions_decide}

@@ -1,5 +1,5 @@
 use Rattle.std.proofs.Common.{refl}
-use Rattle.office_cli_words.specs.Program.{of_eleven, tries, why}
+use Rattle.office_cli_words.specs.steps.ProgramSteps.{of_eleven, tries, why}
 use Rattle.office_cli_words.proofs.command.command_of_eleven.Goals as goal
 
 pub returns : goal.returns

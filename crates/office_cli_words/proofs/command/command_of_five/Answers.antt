@@ -1,5 +1,5 @@
 use Rattle.std.proofs.Common.{refl}
-use Rattle.office_cli_words.specs.Program.{of_five, report, waiting}
+use Rattle.office_cli_words.specs.steps.ProgramSteps.{of_five, report, waiting}
 use Rattle.office_cli_words.proofs.command.command_of_five.Goals as goal
 
 pub returns : goal.returns

@@ -1,6 +1,6 @@
 use Rattle.office_mail.specs.Kept.{Kept}
 use Rattle.office_core_orders.specs.Ready.{HasEach}
-use Rattle.office_core.specs.Counting.{AreKept}
+use Rattle.office_core.specs.steps.Counting.{AreKept}
 use Rattle.office_core.proofs.counting.count_each.Given as goal
 
 -- the counts go no further than what is kept

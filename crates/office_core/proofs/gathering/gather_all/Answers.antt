@@ -3,8 +3,8 @@ use Rattle.std.proofs.lemmas.List.{take_more, length-append}
 use Rattle.office_store_keeper.specs.Content.{Content}
 use Rattle.office_core_orders.specs.declared.faults.DeliverFault.{DeliverFault}
 use Rattle.office_core_orders.specs.declared.faults.Held.{Held}
-use Rattle.office_core.specs.Asked.{AreFreeFrom}
-use Rattle.office_core.specs.GatherSteps.{TakesText}
+use Rattle.office_core.specs.steps.Asked.{AreFreeFrom}
+use Rattle.office_core.specs.steps.GatherSteps.{TakesText}
 use Rattle.office_core.proofs.GatherFacts.{each_push, gathers_none, gathers_more}
 use Rattle.office_core_orders.proofs.LookFacts.{looked_none, looked_then}
 use Rattle.office_core.proofs.gathering.gather_all.Goals as goal

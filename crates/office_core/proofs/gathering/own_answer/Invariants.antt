@@ -1,5 +1,5 @@
 use Rattle.std.proofs.Common.{◌≡◌, None, take}
-use Rattle.office_core.specs.GatherSteps.{own_text}
+use Rattle.office_core.specs.steps.GatherSteps.{own_text}
 use Rattle.office_core.proofs.gathering.own_answer.Given as goal
 
 abbrev pub invariant-letters : goal.invariant-letters

@@ -1,4 +1,4 @@
-use Rattle.office_core.proofs.HistoryFacts.{agree, by_rules_all, leads_stand, settled_all}
+use Rattle.office_core.proofs.HistoryFacts.{agree, by_rules_all, follow_stay, settled_all}
 use Rattle.office_core.proofs.laws.headline.Goals as goal
 
 pub returns-clause-rules : goal.returns-clause-rules
@@ -11,4 +11,4 @@ pub returns-clause-settled : goal.returns-clause-settled
 returns-clause-settled c = settled_all
 
 pub returns-clause-only : goal.returns-clause-only
-returns-clause-only c = leads_stand
+returns-clause-only c = follow_stay

@@ -9,7 +9,7 @@ use Rattle.office_store_keeper.specs.FactSet.{AreHoldable, facts_after}
 use Rattle.office_store_keeper.specs.Provenance.{AreOwnTexts}
 use Rattle.office_core_facts.specs.Known.{AreUnderWay}
 use Rattle.office_core_facts.specs.Outcome.{outcome}
-use Rattle.office_core_facts.specs.Walk.{said_within}
+use Rattle.office_core_facts.specs.steps.Walk.{said_within}
 use Rattle.office_core_facts.proofs.GivenFacts.{given_by_mail, known_by_mail}
 use Rattle.office_core_orders.proofs.LookFacts.{looked_fails, looked_none, looked_then}
 use Rattle.office_core.proofs.leaving.leave.Goals as goal

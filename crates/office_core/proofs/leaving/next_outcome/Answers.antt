@@ -8,8 +8,9 @@ use Rattle.office_store_keeper.specs.Content.{Content}
 use Rattle.office_store_keeper.specs.FactSet.{AreHoldable, facts_after}
 use Rattle.office_store_keeper.specs.Provenance.{AreOwnTexts, IsGiven}
 use Rattle.office_core_facts.specs.Known.{AreUnderWay}
-use Rattle.office_core_facts.specs.Outcome.{outcome, outcome_in}
-use Rattle.office_core_facts.specs.Walk.{said_within}
+use Rattle.office_core_facts.specs.Outcome.{outcome}
+use Rattle.office_core_facts.specs.steps.Outcome.{outcome_in}
+use Rattle.office_core_facts.specs.steps.Walk.{said_within}
 use Rattle.office_core.proofs.RunFacts.{next_run}
 use Rattle.office_core_facts.proofs.TakenFacts.{said_within-same}
 use Rattle.office_core.proofs.leaving.next_outcome.Goals as goal

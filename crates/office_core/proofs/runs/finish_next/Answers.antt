@@ -14,10 +14,12 @@ use Rattle.office_store_keeper.specs.FactSet.{AreHoldable, facts_after}
 use Rattle.office_store_keeper.specs.Provenance.{AreOwnTexts, IsGiven}
 use Rattle.office_core_facts.specs.declared.covered.KnownFacts.{KnownFacts}
 use Rattle.office_core_facts.specs.Known.{AreKnown}
-use Rattle.office_core_facts.specs.Outcome.{outcome_in, outcome_of}
-use Rattle.office_core_orders.specs.Ready.{FirstOrders, HasEach}
+use Rattle.office_core_facts.specs.Outcome.{outcome_of}
+use Rattle.office_core_facts.specs.steps.Outcome.{outcome_in}
+use Rattle.office_core_orders.specs.Ready.{HasEach}
+use Rattle.office_core_orders.specs.steps.Ready.{FirstOrders}
 use Rattle.office_core_facts.specs.State.{IsOffice, KeepsFacts}
-use Rattle.office_core_facts.specs.Walk.{said_within}
+use Rattle.office_core_facts.specs.steps.Walk.{said_within}
 use Rattle.office_core_orders.proofs.CountFacts.{IsCounted-later}
 use Rattle.office_core.proofs.FinishFacts.{IsOffice-finished}
 use Rattle.office_core_orders.proofs.LastFacts.{lasts_then}

@@ -1,6 +1,6 @@
 use Rattle.std.proofs.Common.{true, ◌≡◌, ◌-◌, ◌≤◌, IfSome, length}
 use Rattle.office_core_facts.specs.Known.{AreKnown}
-use Rattle.office_core_orders.specs.Ready.{IsCounted}
+use Rattle.office_core_orders.specs.steps.Ready.{IsCounted}
 use Rattle.office_core_facts.specs.State.{IsOffice}
 use Rattle.office_core_orders.specs.StaysTrusted.{StaysTrusted}
 use Rattle.office_core.proofs.runs.settle.Given as goal

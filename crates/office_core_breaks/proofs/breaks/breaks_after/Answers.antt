@@ -4,7 +4,7 @@ use Rattle.jiff_core.specs.declared.civil.date.Date.{Date}
 use Rattle.office_mail.specs.Runs.{latest_day}
 use Rattle.office_store_keeper.specs.Content.{Content}
 use Rattle.office_core_facts.specs.Outcome.{covered_items}
-use Rattle.office_core_breaks.specs.Grounds.{IsToldSome}
+use Rattle.office_core_breaks.specs.steps.Grounds.{IsToldSome}
 use Rattle.office_core_breaks.specs.Told.{IsBreaks}
 use Rattle.office_core_breaks.proofs.BreaksFacts.{breaks_none, breaks_told}
 use Rattle.office_core_breaks.proofs.breaks.breaks_after.Goals as goal

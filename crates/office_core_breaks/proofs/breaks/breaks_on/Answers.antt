@@ -1,11 +1,11 @@
 use Rattle.std.proofs.Common.{◌≡◌, Option, IfOk, IfSome, length, subst}
 use Rattle.office_store_keeper.specs.Content.{Content}
-use Rattle.office_core_orders.specs.Ready.{FirstOrders}
+use Rattle.office_core_orders.specs.steps.Ready.{FirstOrders}
 use Rattle.office_core_facts.specs.declared.covered.KnownFacts.{KnownFacts}
 use Rattle.office_core_facts.specs.Known.{AreKnown}
 use Rattle.office_core_facts.specs.Outcome.{covered_items}
 use Rattle.office_core_facts.specs.State.{IsOffice}
-use Rattle.office_core_breaks.specs.Grounds.{IsToldSome}
+use Rattle.office_core_breaks.specs.steps.Grounds.{IsToldSome}
 use Rattle.office_core_breaks.proofs.breaks.breaks_on.Goals as goal
 
 pub returns-clause-known : goal.returns-clause-known

@@ -7,7 +7,7 @@ use Rattle.office_core_facts.specs.declared.covered.KnownFacts.{KnownFacts}
 use Rattle.office_core_facts.specs.Known.{AreKnown}
 use Rattle.office_core_facts.specs.Outcome.{covered_items}
 use Rattle.office_core_facts.proofs.KnownStand.{known_stand}
-use Rattle.office_core_breaks.specs.Grounds.{IsToldSome}
+use Rattle.office_core_breaks.specs.steps.Grounds.{IsToldSome}
 use Rattle.office_core_breaks.proofs.BreaksFacts.{stands_covered}
 use Rattle.office_core_breaks.proofs.breaks.tell_known.Goals as goal
 

@@ -6,7 +6,7 @@ use Rattle.office_mail.specs.declared.message.RunOrder.{RunOrder}
 use Rattle.office_mail.specs.Runs.{cover_of, orders_to}
 use Rattle.office_store_keeper.specs.Content.{Content}
 use Rattle.office_core_facts.specs.Outcome.{covered_items}
-use Rattle.office_core_breaks.specs.Grounds.{IsToldSome}
+use Rattle.office_core_breaks.specs.steps.Grounds.{IsToldSome}
 use Rattle.office_core_breaks.proofs.BreaksFacts.{stands_covered}
 use Rattle.office_core_breaks.proofs.breaks.tell_unknown.Goals as goal
 

@@ -4,9 +4,9 @@ use Rattle.std.specs.Str.{bytes_eq}
 use Rattle.testing_rules_items.specs.Words.{all_place}
 use Rattle.testing_rules_model.specs.JudgedRows.{lent}
 use Rattle.testing_rules_model.specs.Moves.{RowAnswer, fails_on, judged_on}
-use Rattle.testing_rules_reports.specs.LentLines.{has_line}
-use Rattle.testing_rules_suites.specs.JudgedRows.{answers}
-use Rattle.office_core_breaks.specs.Worked.{working_names}
+use Rattle.testing_rules_reports.specs.steps.LentLines.{has_line}
+use Rattle.testing_rules_suites.specs.steps.JudgedRows.{answers}
+use Rattle.office_core_breaks.specs.steps.Worked.{working_names}
 use Rattle.office_core_breaks.proofs.Working.{same_failing}
 use Rattle.office_core_breaks.proofs.broken.broken_on.Goals as goal
 

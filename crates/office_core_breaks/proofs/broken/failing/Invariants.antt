@@ -1,7 +1,7 @@
 use Rattle.std.proofs.Common.{◌≡◌, take, map, filter}
 use Rattle.testing_rules_model.specs.JudgedRows.{lent}
-use Rattle.testing_rules_suites.specs.JudgedRows.{answers}
-use Rattle.office_core_breaks.specs.Worked.{fails_by}
+use Rattle.testing_rules_suites.specs.steps.JudgedRows.{answers}
+use Rattle.office_core_breaks.specs.steps.Worked.{fails_by}
 use Rattle.office_core_breaks.proofs.broken.failing.Given as goal
 
 -- those so far

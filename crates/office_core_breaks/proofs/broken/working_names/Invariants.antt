@@ -1,7 +1,7 @@
 use Rattle.std.proofs.Common.{◌≡◌, take}
-use Rattle.testing_rules_reports.specs.LentLines.{lent_lines}
-use Rattle.testing_rules_suites.specs.JudgedRows.{answers}
-use Rattle.office_core_breaks.specs.Worked.{working_names}
+use Rattle.testing_rules_reports.specs.steps.LentLines.{lent_lines}
+use Rattle.testing_rules_suites.specs.steps.JudgedRows.{answers}
+use Rattle.office_core_breaks.specs.steps.Worked.{working_names}
 use Rattle.office_core_breaks.proofs.broken.working_names.Given as goal
 
 -- those so far

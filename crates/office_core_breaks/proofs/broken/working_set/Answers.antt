@@ -2,9 +2,9 @@ use Rattle.std.proofs.Common.{◌≡◌, ◌∙◌, ℕ, List, ap}
 use Rattle.std.specs.List.{list_any}
 use Rattle.std.specs.Str.{bytes_eq}
 use Rattle.std.proofs.lemmas.Result.{IfOk-weaker}
-use Rattle.testing_rules_reports.specs.LentLines.{has_line, lent_lines}
-use Rattle.testing_rules_suites.specs.JudgedRows.{answers}
-use Rattle.office_core_breaks.specs.Worked.{working_names}
+use Rattle.testing_rules_reports.specs.steps.LentLines.{has_line, lent_lines}
+use Rattle.testing_rules_suites.specs.steps.JudgedRows.{answers}
+use Rattle.office_core_breaks.specs.steps.Worked.{working_names}
 use Rattle.office_core_breaks.proofs.broken.working_set.Goals as goal
 
 pub returns : goal.returns

@@ -4,7 +4,7 @@ use Rattle.testing_rules_model.specs.Boxed.{unboxed}
 use Rattle.testing_rules_model.specs.JudgedRows.{lent}
 use Rattle.testing_rules_model.specs.Moves.{is_row_of}
 use Rattle.testing_rules_model.specs.declared.suite.RowIn.{RowIn}
-use Rattle.testing_rules_suites.specs.AfterMoves.{moved_rows}
+use Rattle.testing_rules_suites.specs.steps.AfterMoves.{moved_rows}
 use Rattle.office_core_breaks.specs.Breaks.{coming, leaving}
 use Rattle.office_core_breaks.proofs.change.rows_after.Goals as goal
 

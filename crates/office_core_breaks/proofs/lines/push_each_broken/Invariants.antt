@@ -1,7 +1,7 @@
 use Rattle.std.proofs.Common.{◌≡◌, ◌++◌, string_bytes, take}
 use Rattle.std.specs.List.{flat_map}
 use Rattle.testing_rules_model.specs.JudgedRows.{lent}
-use Rattle.office_core_breaks.specs.Grounds.{known_on}
+use Rattle.office_core_breaks.specs.steps.Grounds.{known_on}
 use Rattle.office_core_breaks.specs.Texts.{row_text}
 use Rattle.office_core_breaks.proofs.lines.push_each_broken.Given as goal
 

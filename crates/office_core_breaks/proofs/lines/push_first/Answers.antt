@@ -5,7 +5,7 @@ use Rattle.testing_rules_items.specs.Words.{Text}
 use Rattle.testing_rules_model.specs.JudgedRows.{lent}
 use Rattle.testing_rules_model.specs.declared.suite.LentRow.{LentRow}
 use Rattle.testing_rules_model.specs.declared.suite.RowIn.{RowIn}
-use Rattle.office_core_breaks.specs.Grounds.{known_on}
+use Rattle.office_core_breaks.specs.steps.Grounds.{known_on}
 use Rattle.office_core_breaks.specs.Texts.{row_text, untold_text}
 use Rattle.office_core_breaks.proofs.Untold.{first_lent}
 use Rattle.office_core_breaks.proofs.lines.push_first.Goals as goal

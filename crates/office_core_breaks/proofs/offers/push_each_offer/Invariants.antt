@@ -2,7 +2,7 @@ use Rattle.std.proofs.Common.{◌≡◌, ◌++◌, string_bytes, take}
 use Rattle.std.specs.List.{flat_map}
 use Rattle.testing_rules_model.specs.JudgedRows.{lent}
 use Rattle.testing_rules_refusals.specs.Texts.{offer_line}
-use Rattle.office_core_breaks.specs.Grounds.{known_on}
+use Rattle.office_core_breaks.specs.steps.Grounds.{known_on}
 use Rattle.office_core_breaks.proofs.offers.push_each_offer.Given as goal
 
 -- the text so far

@@ -4,7 +4,7 @@ use Rattle.testing_rules_model.specs.Boxed.{unboxed}
 use Rattle.testing_rules_model.specs.JudgedRows.{lent}
 use Rattle.testing_rules_model.specs.declared.suite.RowIn.{RowIn}
 use Rattle.office_core_breaks.specs.Breaks.{rows_after}
-use Rattle.office_core_breaks.specs.Grounds.{known_on}
+use Rattle.office_core_breaks.specs.steps.Grounds.{known_on}
 use Rattle.office_core_breaks.specs.Texts.{all_text}
 use Rattle.office_core_breaks.proofs.told.broken_over.Goals as goal
 

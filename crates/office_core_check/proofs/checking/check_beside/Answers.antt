@@ -1,7 +1,7 @@
 use Rattle.std.proofs.Common.{◌≤◌, length, subst, arith}
 use Rattle.office_mail.specs.Kept.{Kept}
 use Rattle.office_store_keeper.specs.MemoryState.{content_of}
-use Rattle.office_core_check.specs.Comparing.{IsMade}
+use Rattle.office_core_check.specs.steps.Comparing.{IsMade}
 use Rattle.office_core_check.proofs.FoundFacts.{unmade_differs}
 use Rattle.office_core_check.proofs.checking.check_beside.Goals as goal
 

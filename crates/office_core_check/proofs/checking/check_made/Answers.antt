@@ -3,7 +3,7 @@ use Rattle.std.proofs.lemmas.Result.{IfOk-at_ok, IfOk-weaker}
 use Rattle.std.specs.FinMap.{len}
 use Rattle.office_store_keeper.specs.Content.{Content}
 use Rattle.office_store_keeper.specs.MemoryState.{content_of}
-use Rattle.office_core_check.specs.Comparing.{IsCompared, IsReadAs}
+use Rattle.office_core_check.specs.steps.Comparing.{IsCompared, IsReadAs}
 use Rattle.office_core_check.specs.Whole.{IsFound}
 use Rattle.office_core_check.proofs.FoundFacts.{compared_differs, tables_found}
 use Rattle.office_core_check.proofs.FrontFacts.{front_low}

@@ -5,8 +5,8 @@ use Rattle.office_store_keeper.specs.Content.{Content, no_content}
 use Rattle.office_store_keeper.specs.MemoryState.{content_of}
 use Rattle.office_core_facts.specs.State.{IsOffice}
 use Rattle.office_core.proofs.OfficeFacts.{IsOffice-new}
-use Rattle.office_core_check.specs.Comparing.{IsAnew}
-use Rattle.office_core_check.specs.Reading.{IsFront}
+use Rattle.office_core_check.specs.steps.Comparing.{IsAnew}
+use Rattle.office_core_check.specs.steps.Reading.{IsFront}
 use Rattle.office_core_check.specs.Whole.{IsFound}
 use Rattle.office_core_check.proofs.FoundFacts.{office_whole}
 use Rattle.office_core_check.proofs.FrontFacts.{front_none}

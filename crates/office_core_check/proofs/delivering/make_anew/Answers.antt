@@ -2,8 +2,8 @@ use Rattle.std.proofs.Common.{None, length, sym, subst}
 use Rattle.office_mail.specs.Kept.{Kept}
 use Rattle.office_mail.specs.Lists.{Lists}
 use Rattle.office_store_keeper.specs.MemoryState.{content_of}
-use Rattle.office_core_check.specs.Comparing.{IsAllTaken, IsMade}
-use Rattle.office_core_check.specs.Reading.{IsFront}
+use Rattle.office_core_check.specs.steps.Comparing.{IsAllTaken, IsMade}
+use Rattle.office_core_check.specs.steps.Reading.{IsFront}
 use Rattle.office_core_check.proofs.FoundFacts.{is_none, made_by}
 use Rattle.office_core_check.proofs.delivering.make_anew.Goals as goal
 

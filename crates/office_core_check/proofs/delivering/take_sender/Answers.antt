@@ -3,7 +3,7 @@ use Rattle.office_store_keeper.specs.Content.{Content}
 use Rattle.office_store_keeper.specs.MemoryState.{content_of}
 use Rattle.office_store_keeper.specs.declared.values.Letter.{Letter}
 use Rattle.office_core_orders.proofs.LookFacts.{looked_then}
-use Rattle.office_core_check.specs.Reading.{IsFront, IsNextLetter}
+use Rattle.office_core_check.specs.steps.Reading.{IsFront, IsNextLetter}
 use Rattle.office_core_check.proofs.FrontFacts.{front_more}
 use Rattle.office_core_check.proofs.delivering.take_sender.Goals as goal
 

@@ -1,8 +1,8 @@
 use Rattle.std.proofs.Common.{◌-◌, ◌≡◌, ◌≤◌}
 use Rattle.office_store_keeper.specs.MemoryState.{content_of}
 use Rattle.office_core_orders.proofs.LookFacts.{Looked}
-use Rattle.office_core_check.specs.Comparing.{IsAnew}
-use Rattle.office_core_check.specs.Reading.{IsFront}
+use Rattle.office_core_check.specs.steps.Comparing.{IsAnew}
+use Rattle.office_core_check.specs.steps.Reading.{IsFront}
 use Rattle.office_core_check.proofs.delivering.take_sender.Given as goal
 
 abbrev pub invariant-loop-letter : goal.invariant-loop-letter

@@ -4,8 +4,8 @@ use Rattle.office_store_keeper.specs.Content.{Content, no_content}
 use Rattle.office_store_keeper.specs.MemoryState.{content_of}
 use Rattle.office_core_facts.specs.State.{IsOffice}
 use Rattle.office_core.proofs.OfficeFacts.{IsOffice-new}
-use Rattle.office_core_check.specs.Comparing.{IsAnew, IsMadeUpTo}
-use Rattle.office_core_check.specs.Reading.{IsFront}
+use Rattle.office_core_check.specs.steps.Comparing.{IsAnew, IsMadeUpTo}
+use Rattle.office_core_check.specs.steps.Reading.{IsFront}
 use Rattle.office_core_check.specs.Whole.{AreOfSenders}
 use Rattle.office_core_check.proofs.FrontFacts.{front_none}
 use Rattle.office_core_check.proofs.earlier.made_up_to.Goals as goal

@@ -4,8 +4,8 @@ use Rattle.office_mail.specs.Lists.{Lists}
 use Rattle.office_store_keeper.specs.Content.{Content}
 use Rattle.office_store_keeper.specs.MemoryState.{content_of}
 use Rattle.office_core_facts.specs.State.{IsOffice}
-use Rattle.office_core_check.specs.Comparing.{IsMade}
-use Rattle.office_core_check.specs.Reading.{IsFront}
+use Rattle.office_core_check.specs.steps.Comparing.{IsMade}
+use Rattle.office_core_check.specs.steps.Reading.{IsFront}
 use Rattle.office_core_check.proofs.EarlierFacts.{made_of_no_office}
 use Rattle.office_core_check.proofs.FoundFacts.{is_none}
 use Rattle.office_core_check.proofs.FrontFacts.{front_all}

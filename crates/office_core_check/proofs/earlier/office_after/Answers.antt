@@ -1,6 +1,6 @@
 use Rattle.std.proofs.Common.{◌≡◌, ◌≤◌, IfOk, IsTrue, length, sym, subst}
 use Rattle.office_store_keeper.specs.Content.{Content}
-use Rattle.office_core_check.specs.Comparing.{IsMadeUpTo}
+use Rattle.office_core_check.specs.steps.Comparing.{IsMadeUpTo}
 use Rattle.office_core_check.specs.Whole.{AreOfSenders, IsFinished}
 use Rattle.office_core_check.proofs.EarlierFacts.{after_made}
 use Rattle.office_core_check.proofs.earlier.office_after.Goals as goal

@@ -1,5 +1,5 @@
 use Rattle.office_core_check.proofs.UnreadFacts.{asks_by, asks_then, readable_then}
-use Rattle.office_core_check.specs.Unread.{Asks}
+use Rattle.office_core_check.specs.steps.Unread.{Asks}
 use Rattle.office_core_check.proofs.unread.unread_finished.Goals as goal
 
 pub returns-clause-asks : goal.returns-clause-asks

@@ -3,7 +3,7 @@ use Rattle.testing_rules_model.specs.FactLists.{FactLists}
 use Rattle.testing_rules_model.specs.StandsFor.{StandsFor}
 use Rattle.office_store_keeper.specs.Content.{Content}
 use Rattle.office_core_facts.specs.declared.covered.KnownFacts.{KnownFacts}
-use Rattle.office_core_facts.specs.Walk.{said_within}
+use Rattle.office_core_facts.specs.steps.Walk.{said_within}
 use Rattle.office_core_facts.proofs.KnownStand.{known_stand}
 use Rattle.office_core_facts.proofs.copying.copied_to.Goals as goal
 

@@ -2,9 +2,9 @@ use Rattle.std.proofs.Common.{◌≡◌, ◌+◌, ◌<◌, ◌≤◌, ℕ, lengt
 use Rattle.testing_rules_model.specs.StandsFor.{StandsFor}
 use Rattle.office_mail.specs.Runs.{cover_of}
 use Rattle.office_core_facts.specs.Known.{AreUnderWay}
-use Rattle.office_core_orders.specs.Ready.{FirstOrders}
+use Rattle.office_core_orders.specs.steps.Ready.{FirstOrders}
 use Rattle.office_core_facts.specs.State.{IsOffice}
-use Rattle.office_core_facts.specs.Walk.{said_within}
+use Rattle.office_core_facts.specs.steps.Walk.{said_within}
 use Rattle.office_core_orders.proofs.LookFacts.{Looked}
 use Rattle.office_core_facts.proofs.covered.facts.Given as goal
 

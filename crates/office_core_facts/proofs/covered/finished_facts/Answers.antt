@@ -3,7 +3,7 @@ use Rattle.testing_rules_model.specs.declared.fact_row.FactRow.{FactRow}
 use Rattle.testing_rules_model.specs.FactLists.{no_facts}
 use Rattle.office_store_keeper.specs.Content.{Content}
 use Rattle.office_core_facts.specs.Known.{said_all}
-use Rattle.office_core_facts.specs.Taking.{HavePutBack}
+use Rattle.office_core_facts.specs.steps.Taking.{HavePutBack}
 use Rattle.office_core_facts.proofs.covered.finished_facts.Goals as goal
 
 pub returns-clause-way : goal.returns-clause-way

@@ -4,7 +4,7 @@ use Rattle.testing_rules_model.specs.Covered.{Covered}
 use Rattle.testing_rules_model.specs.StandsFor.{StandsFor}
 use Rattle.office_store_keeper.specs.declared.values.Letter.{Letter}
 use Rattle.office_core_facts.specs.Outcome.{item_at}
-use Rattle.office_core_facts.specs.Walk.{said_in}
+use Rattle.office_core_facts.specs.steps.Walk.{said_in}
 use Rattle.office_core_facts.proofs.SaidLetters.{own_letter, said_in-none, said_in-more}
 use Rattle.office_core_facts.proofs.covered.take_letters.Goals as goal
 

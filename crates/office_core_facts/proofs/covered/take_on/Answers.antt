@@ -3,7 +3,7 @@ use Rattle.std.proofs.lemmas.List.{get_or_default, get_or-set_same, get_or-set_o
 use Rattle.testing_rules_model.specs.Covered.{Covered}
 use Rattle.testing_rules_model.specs.StandsFor.{StandsFor}
 use Rattle.office_store_keeper.specs.Content.{Content}
-use Rattle.office_core_facts.specs.Walk.{said_by, said_within}
+use Rattle.office_core_facts.specs.steps.Walk.{said_by, said_within}
 use Rattle.office_core_facts.proofs.TakenFacts.{Grows, stand_again, stand_more}
 use Rattle.office_core_facts.proofs.covered.take_on.Goals as goal
 

@@ -2,7 +2,7 @@ use Rattle.std.proofs.Common.{ℕ, ◌++◌, subst, arith}
 use Rattle.testing_rules_model.specs.StandsFor.{StandsFor}
 use Rattle.office_store_keeper.specs.Content.{Content}
 use Rattle.office_core_facts.specs.Known.{AreUnderWay}
-use Rattle.office_core_facts.specs.Walk.{said_by}
+use Rattle.office_core_facts.specs.steps.Walk.{said_by}
 use Rattle.office_core_orders.proofs.LookFacts.{looked_none, looked_then}
 use Rattle.office_core_facts.proofs.covered.take_sender.Goals as goal
 

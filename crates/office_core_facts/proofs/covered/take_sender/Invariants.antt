@@ -3,7 +3,7 @@ use Rattle.testing_rules_model.specs.Covered.{Covered}
 use Rattle.testing_rules_model.specs.Suite.{Suite}
 use Rattle.testing_rules_model.specs.StandsFor.{StandsFor}
 use Rattle.office_core_facts.specs.Known.{AreUnderWay}
-use Rattle.office_core_facts.specs.Walk.{said_by}
+use Rattle.office_core_facts.specs.steps.Walk.{said_by}
 use Rattle.office_core_orders.proofs.LookFacts.{Looked}
 use Rattle.office_core_facts.proofs.covered.take_sender.Given as goal
 

@@ -1,7 +1,7 @@
 use Rattle.std.proofs.Common.{length, slice_index, subst, arith}
 use Rattle.testing_rules_model.specs.StandsFor.{StandsFor}
 use Rattle.office_store_keeper.specs.Content.{Content}
-use Rattle.office_core_facts.specs.Walk.{said_within}
+use Rattle.office_core_facts.specs.steps.Walk.{said_within}
 use Rattle.office_core_facts.proofs.finished.facts_within.Goals as goal
 
 pub take_to-requires : goal.take_to-requires

@@ -1,6 +1,6 @@
 use Rattle.std.proofs.Common.{length, sym, ap, subst, arith}
 use Rattle.office_store_keeper.specs.Content.{Content}
-use Rattle.office_core_orders.specs.Ready.{FirstOrders}
+use Rattle.office_core_orders.specs.steps.Ready.{FirstOrders}
 use Rattle.office_core_facts.proofs.FinishedFacts.{first_none, orders_all, orders_whole}
 use Rattle.office_core_facts.proofs.finished.finished_orders.Goals as goal
 

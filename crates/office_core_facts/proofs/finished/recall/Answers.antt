@@ -3,10 +3,10 @@ use Rattle.testing_rules_model.specs.declared.fact_row.FactRow.{FactRow}
 use Rattle.testing_rules_model.specs.FactLists.{no_facts}
 use Rattle.office_store_keeper.specs.Content.{Content}
 use Rattle.office_store_keeper.specs.FactSet.{rows_in}
-use Rattle.office_core_orders.specs.Ready.{FirstOrders}
+use Rattle.office_core_orders.specs.steps.Ready.{FirstOrders}
 use Rattle.office_core_facts.specs.declared.covered.KnownFacts.{KnownFacts}
 use Rattle.office_core_facts.specs.Known.{AreKnown, said_all}
-use Rattle.office_core_facts.specs.Taking.{HavePutBack}
+use Rattle.office_core_facts.specs.steps.Taking.{HavePutBack}
 use Rattle.office_core_facts.proofs.finished.recall.Goals as goal
 
 pub returns-clause-known : goal.returns-clause-known

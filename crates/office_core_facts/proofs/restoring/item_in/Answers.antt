@@ -4,7 +4,7 @@ use Rattle.testing_rules_items.specs.declared.item.Item.TheVariants.{Nothing}
 use Rattle.office_mail.specs.declared.message.MailFault.TheVariants.{NoMemory}
 use Rattle.office_mail.specs.Kept.{Place}
 use Rattle.office_core_facts.specs.Outcome.{item_at}
-use Rattle.office_core_facts.specs.Taking.{IsSaidItem}
+use Rattle.office_core_facts.specs.steps.Taking.{IsSaidItem}
 use Rattle.office_core_facts.proofs.TakenFacts.{ok_read}
 use Rattle.office_core_facts.proofs.TakenFacts.{err_read}
 use Rattle.office_core_facts.proofs.WalkFacts.{item_is}

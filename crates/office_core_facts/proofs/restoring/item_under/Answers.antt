@@ -2,7 +2,7 @@ use Rattle.std.proofs.lemmas.Result.{IfOk-weaker}
 use Rattle.office_mail.specs.Kept.{Place}
 use Rattle.office_core_facts.specs.Known.{said_all}
 use Rattle.office_core_facts.specs.Outcome.{item_at}
-use Rattle.office_core_facts.specs.Taking.{AreLettersOf, IsItemAt, IsSaidItem}
+use Rattle.office_core_facts.specs.steps.Taking.{AreLettersOf, IsItemAt, IsSaidItem}
 use Rattle.office_core_facts.proofs.RestoringFacts.{item_kept}
 use Rattle.office_core_facts.proofs.restoring.item_under.Goals as goal
 

@@ -2,7 +2,7 @@ use Rattle.std.proofs.Common.{ℕ, ◌<◌, ◌≤◌, get_or, take}
 use Rattle.testing_rules_model.specs.declared.fact_row.FactRow.{FactRow}
 use Rattle.testing_rules_model.specs.FactLists.{FactLists}
 use Rattle.testing_rules_model.specs.Covered.{Covered}
-use Rattle.office_core_facts.specs.Taking.{HavePutBack, IsItemAt}
+use Rattle.office_core_facts.specs.steps.Taking.{HavePutBack, IsItemAt}
 use Rattle.office_core_facts.proofs.restoring.put_facts.Given as goal
 
 abbrev pub invariant-rows : goal.invariant-rows

@@ -2,7 +2,7 @@ use Rattle.std.proofs.Common.{◌≡◌, ℕ, List, get_or, take, subst, arith}
 use Rattle.testing_rules_model.specs.declared.fact_row.FactRow.{FactRow}
 use Rattle.testing_rules_model.specs.Covered.{Covered}
 use Rattle.office_core_facts.specs.Known.{said_all}
-use Rattle.office_core_facts.specs.Taking.{HavePutBack}
+use Rattle.office_core_facts.specs.steps.Taking.{HavePutBack}
 use Rattle.office_core_facts.proofs.RestoringFacts.{items_near}
 use Rattle.office_core_facts.proofs.restoring.put_letters.Goals as goal
 

@@ -3,7 +3,7 @@ use Rattle.testing_rules_model.specs.declared.fact_row.FactRow.{FactRow}
 use Rattle.testing_rules_model.specs.FactLists.{FactLists}
 use Rattle.office_mail.specs.Kept.{Kept}
 use Rattle.office_core_facts.specs.Known.{said_all}
-use Rattle.office_core_facts.specs.Taking.{AreLettersOf, HavePutBack}
+use Rattle.office_core_facts.specs.steps.Taking.{AreLettersOf, HavePutBack}
 use Rattle.office_core_facts.proofs.restoring.put_letters.Given as goal
 
 abbrev pub invariant-messages : goal.invariant-messages

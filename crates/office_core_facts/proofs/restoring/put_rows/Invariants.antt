@@ -1,6 +1,6 @@
 use Rattle.std.proofs.Common.{◌-◌, ◌≤◌, length, take}
 use Rattle.office_core_facts.specs.Known.{said_all}
-use Rattle.office_core_facts.specs.Taking.{HavePutBack}
+use Rattle.office_core_facts.specs.steps.Taking.{HavePutBack}
 use Rattle.office_core_orders.proofs.LookFacts.{Looked}
 use Rattle.office_core_facts.proofs.restoring.put_rows.Given as goal
 

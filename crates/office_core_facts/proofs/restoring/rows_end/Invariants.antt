@@ -1,6 +1,6 @@
 use Rattle.std.proofs.Common.{◌-◌, ◌<◌, ◌≤◌, get_or}
 use Rattle.testing_rules_model.specs.declared.fact_row.FactRow.{FactRow}
-use Rattle.office_core_facts.specs.Taking.{AreNear}
+use Rattle.office_core_facts.specs.steps.Taking.{AreNear}
 use Rattle.office_core_facts.proofs.restoring.rows_end.Given as goal
 
 abbrev pub invariant-rows : goal.invariant-rows

@@ -7,7 +7,7 @@ use Rattle.testing_rules_model.specs.Suite.{Suite}
 use Rattle.testing_rules_laws.proofs.BesideTesting.{trim_keeps}
 use Rattle.office_store_keeper.specs.Content.{Content}
 use Rattle.office_core_facts.specs.Known.{AreUnderWay, said_all}
-use Rattle.office_core_facts.specs.Walk.{said_within}
+use Rattle.office_core_facts.specs.steps.Walk.{said_within}
 use Rattle.office_core_facts.proofs.TakenFacts.{AreUnderWay-trimmed}
 use Rattle.office_core_facts.proofs.KeptRows.{holdable, release_by_mail}
 use Rattle.office_core_facts.proofs.SaidFacts.{one_of_all}

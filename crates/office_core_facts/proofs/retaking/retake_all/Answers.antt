@@ -2,8 +2,8 @@ use Rattle.std.proofs.Common.{◌≡◌, ℕ, ◌++◌, length, slice_index, ap,
 use Rattle.testing_rules_model.specs.Covered.{Covered}
 use Rattle.office_store_keeper.specs.Content.{Content}
 use Rattle.office_core_facts.specs.Known.{AreUnderWay}
-use Rattle.office_core_facts.specs.Taking.{TookAgain}
-use Rattle.office_core_facts.specs.Walk.{said_by, said_within}
+use Rattle.office_core_facts.specs.steps.Taking.{TookAgain}
+use Rattle.office_core_facts.specs.steps.Walk.{said_by, said_within}
 use Rattle.office_core_facts.proofs.AgainFacts.{again_none}
 use Rattle.office_core_orders.proofs.LookFacts.{looked_none, looked_then}
 use Rattle.office_core_facts.proofs.WalkFacts.{said_within-none, said_within-more}

@@ -3,8 +3,8 @@ use Rattle.std.proofs.lemmas.Result.{on_ok_weaker}
 use Rattle.testing_rules_model.specs.Covered.{Covered}
 use Rattle.office_store_keeper.specs.declared.values.Letter.{Letter}
 use Rattle.office_store_keeper.specs.Content.{Content, letters_within}
-use Rattle.office_core_facts.specs.Taking.{TookAgain}
-use Rattle.office_core_facts.specs.Walk.{said_by, said_in}
+use Rattle.office_core_facts.specs.steps.Taking.{TookAgain}
+use Rattle.office_core_facts.specs.steps.Walk.{said_by, said_in}
 use Rattle.office_core_facts.proofs.SaidLetters.{letters_own, said_block}
 use Rattle.office_core_facts.proofs.retaking.retake_block.Goals as goal
 

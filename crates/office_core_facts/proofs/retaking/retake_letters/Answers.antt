@@ -3,8 +3,8 @@ use Rattle.std.proofs.lemmas.List.{take_more, take_all}
 use Rattle.testing_rules_model.specs.Covered.{Covered}
 use Rattle.office_store_keeper.specs.declared.values.Letter.{Letter}
 use Rattle.office_core_facts.specs.Outcome.{item_at}
-use Rattle.office_core_facts.specs.Taking.{TookAgain}
-use Rattle.office_core_facts.specs.Walk.{said_in}
+use Rattle.office_core_facts.specs.steps.Taking.{TookAgain}
+use Rattle.office_core_facts.specs.steps.Walk.{said_in}
 use Rattle.office_core_facts.proofs.SaidLetters.{own_letter, said_in-none, said_in-more}
 use Rattle.office_core_facts.proofs.retaking.retake_letters.Goals as goal
 

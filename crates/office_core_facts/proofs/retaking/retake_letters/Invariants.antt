@@ -3,8 +3,8 @@ use Rattle.testing_rules_model.specs.Covered.{Covered}
 use Rattle.testing_rules_model.specs.FactLists.{FactLists}
 use Rattle.office_store_keeper.specs.Content.{Content}
 use Rattle.office_core_facts.specs.Known.{AreUnderWay}
-use Rattle.office_core_facts.specs.Taking.{AreLettersOf, TookAgain}
-use Rattle.office_core_facts.specs.Walk.{said_in}
+use Rattle.office_core_facts.specs.steps.Taking.{AreLettersOf, TookAgain}
+use Rattle.office_core_facts.specs.steps.Walk.{said_in}
 use Rattle.office_core_facts.proofs.retaking.retake_letters.Given as goal
 
 abbrev pub invariant-letters : goal.invariant-letters

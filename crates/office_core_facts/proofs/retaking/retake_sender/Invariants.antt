@@ -2,8 +2,8 @@ use Rattle.std.proofs.Common.{◌≤◌, ◌-◌, ◌++◌}
 use Rattle.testing_rules_model.specs.Covered.{Covered}
 use Rattle.testing_rules_model.specs.FactLists.{FactLists}
 use Rattle.office_core_facts.specs.Known.{AreUnderWay}
-use Rattle.office_core_facts.specs.Taking.{TookAgain}
-use Rattle.office_core_facts.specs.Walk.{said_by}
+use Rattle.office_core_facts.specs.steps.Taking.{TookAgain}
+use Rattle.office_core_facts.specs.steps.Walk.{said_by}
 use Rattle.office_core_orders.proofs.LookFacts.{Looked}
 use Rattle.office_core_facts.proofs.retaking.retake_sender.Given as goal
 

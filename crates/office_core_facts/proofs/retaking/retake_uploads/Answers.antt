@@ -2,11 +2,11 @@ use Rattle.std.proofs.Common.{List, length, slice_index, sym, subst, ◌∙◌}
 use Rattle.std.proofs.lemmas.Result.{on_ok_weaker}
 use Rattle.testing_rules_items.specs.Words.{Text}
 use Rattle.testing_rules_model.specs.Covered.{Covered}
-use Rattle.testing_rules_model.specs.KeptFacts.{AreFallen}
+use Rattle.testing_rules_model.specs.steps.KeptFacts.{AreFallen}
 use Rattle.testing_rules_model.specs.Suite.{Suite}
 use Rattle.testing_rules_laws.proofs.FallenNames.{names_are_fallen}
 use Rattle.office_store_keeper.specs.Content.{Content}
-use Rattle.office_core_facts.specs.Walk.{said_within}
+use Rattle.office_core_facts.specs.steps.Walk.{said_within}
 use Rattle.office_core_facts.proofs.AgainFacts.{again_stand, none_stand}
 use Rattle.office_core_facts.proofs.WalkFacts.{one_of_each}
 use Rattle.office_core_facts.proofs.retaking.retake_uploads.Goals as goal

@@ -8,7 +8,7 @@ use Rattle.office_core_facts.specs.declared.covered.KnownFacts.{KnownFacts}
 use Rattle.office_core_facts.specs.Known.{AreKnown}
 use Rattle.office_core_facts.specs.Seen.{IsSeen, IsUnbroken, items_within}
 use Rattle.office_core_facts.specs.State.{IsOffice}
-use Rattle.office_core_facts.specs.Walk.{said_within}
+use Rattle.office_core_facts.specs.steps.Walk.{said_within}
 use Rattle.office_core_facts.proofs.CoveredFacts.{stands_within}
 use Rattle.office_core_facts.proofs.seen.seen_facts.Goals as goal
 

@@ -2,7 +2,7 @@ use Rattle.std.proofs.Common.{true, ◌≡◌, ◌+◌, Some, List, [], ◌∷�
 use Rattle.std.proofs.lemmas.List.{length-append}
 use Rattle.office_mail.specs.declared.message.RunOrder.{RunOrder}
 use Rattle.office_mail.specs.Runs.{order_at}
-use Rattle.office_core_orders.specs.Ready.{FirstOrders}
+use Rattle.office_core_orders.specs.steps.Ready.{FirstOrders}
 use Rattle.office_core_orders.proofs.ReadyCount.{FirstOrders-more}
 use Rattle.office_core_orders.proofs.LookFacts.{looked_then}
 use Rattle.office_core_orders.proofs.orders.read_orders.Goals as goal

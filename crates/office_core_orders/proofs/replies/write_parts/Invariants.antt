@@ -1,6 +1,6 @@
 use Rattle.std.proofs.Common.{◌≡◌, take}
 use Rattle.std.specs.Io.KnownBytes.{Appends}
-use Rattle.office_core_orders.specs.Written.{joined}
+use Rattle.office_core_orders.specs.steps.Written.{joined}
 use Rattle.office_core_orders.proofs.replies.write_parts.Given as goal
 
 abbrev pub invariant-loop-part : goal.invariant-loop-part

@@ -1,6 +1,7 @@
 use Rattle.std.proofs.Common.{ℕ, ◌<◌, ◌≤◌, length}
 use Rattle.office_mail.specs.Kept.{Kept}
-use Rattle.office_core_orders.specs.Ready.{HasEach, IsReached}
+use Rattle.office_core_orders.specs.Ready.{HasEach}
+use Rattle.office_core_orders.specs.steps.Ready.{IsReached}
 use Rattle.office_core_orders.specs.Waiting.{AreLacks}
 use Rattle.office_core_orders.proofs.waiting.lacks_behind.Given as goal
 

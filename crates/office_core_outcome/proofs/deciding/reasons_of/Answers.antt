@@ -9,7 +9,7 @@ use Rattle.testing_rules_model.specs.declared.excuse.Excuse.{Excuse}
 use Rattle.testing_rules_model.specs.declared.update.Decision.{Decision}
 use Rattle.office_core_orders.specs.Replies.{name_at}
 use Rattle.office_core_facts.specs.Seen.{release}
-use Rattle.office_core_outcome.specs.RuleSteps.{IsRuled}
+use Rattle.office_core_outcome.specs.steps.RuleSteps.{IsRuled}
 use Rattle.office_core_outcome.specs.Trial.{judged_by}
 use Rattle.office_core_outcome.specs.WhyRefused.{AreFirstTold, AreReasons}
 use Rattle.office_core_outcome.proofs.RefusalFacts.{decisions_are, judged_over, reasons_by}

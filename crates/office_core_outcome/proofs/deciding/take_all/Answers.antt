@@ -2,7 +2,7 @@ use Rattle.std.proofs.Common.{ℕ, ap, subst, ◌∙◌}
 use Rattle.std.proofs.lemmas.Result.{on_ok_weaker}
 use Rattle.testing_rules_laws.specs.Covered.{Covered}
 use Rattle.testing_rules_laws.specs.StandsFor.{StandsFor}
-use Rattle.office_core_facts.specs.Walk.{said_in}
+use Rattle.office_core_facts.specs.steps.Walk.{said_in}
 use Rattle.office_core_facts.specs.Seen.{release}
 use Rattle.office_core_outcome.proofs.HintFacts.{letters_said}
 use Rattle.office_core_outcome.proofs.deciding.take_all.Goals as goal

@@ -1,7 +1,7 @@
 use Rattle.std.proofs.Common.{◌≡◌, sym, subst, ◌∙◌}
 use Rattle.testing_rules_laws.specs.StandsFor.{StandsFor}
 use Rattle.testing_rules_laws.specs.Suite.{Suite}
-use Rattle.office_core_outcome.specs.RuleSteps.{IsRuled}
+use Rattle.office_core_outcome.specs.steps.RuleSteps.{IsRuled}
 use Rattle.office_core_outcome.specs.Trial.{judged_by}
 use Rattle.office_core_outcome.specs.WhyRefused.{AreReasons}
 use Rattle.office_core_outcome.proofs.deciding.tell_run.Goals as goal

@@ -3,7 +3,7 @@ use Rattle.std.proofs.lemmas.Bool.{cases_lt}
 use Rattle.office_mail.specs.declared.message.RunOrder.{RunOrder}
 use Rattle.office_mail.specs.Runs.{latest_day, order_at}
 use Rattle.office_store_keeper.specs.Content.{Content}
-use Rattle.office_core_orders.specs.Ready.{FirstOrders}
+use Rattle.office_core_orders.specs.steps.Ready.{FirstOrders}
 use Rattle.office_core_orders.proofs.ReadyCount.{ready_bound}
 use Rattle.office_core_facts.specs.State.{IsOffice}
 use Rattle.office_core_facts.proofs.FinishedFacts.{first_none}

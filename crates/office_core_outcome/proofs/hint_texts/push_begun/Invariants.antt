@@ -1,7 +1,7 @@
 use Rattle.std.proofs.Common.{◌≡◌, ◌++◌, [], filter, string_bytes, take}
 use Rattle.std.specs.List.{flat_map}
 use Rattle.testing_rules_reports.specs.Changes.{behind}
-use Rattle.testing_rules_reports.specs.LentLines.{lent_lines}
+use Rattle.testing_rules_reports.specs.steps.LentLines.{lent_lines}
 use Rattle.office_core_outcome.specs.HintTold.{begins_with_either}
 use Rattle.office_core_outcome.proofs.hint_texts.push_begun.Given as goal
 

@@ -4,7 +4,7 @@ use Rattle.testing_rules_laws.specs.Covered.{Covered}
 use Rattle.testing_rules_laws.specs.StandsFor.{StandsFor}
 use Rattle.testing_rules_laws.specs.Suite.{Suite}
 use Rattle.office_core_outcome.specs.HintTold.{IsHintText}
-use Rattle.office_core_outcome.specs.RuleSteps.{IsRuled}
+use Rattle.office_core_outcome.specs.steps.RuleSteps.{IsRuled}
 use Rattle.office_core_outcome.proofs.hint_texts.told_over.Goals as goal
 
 pub returns-clause-told : goal.returns-clause-told

@@ -1,6 +1,6 @@
 use Rattle.std.proofs.Common.{◌≡◌, drop}
 use Rattle.std.specs.List.{list_all}
-use Rattle.testing_rules_reports.specs.LentLines.{has_line, lent_lines}
+use Rattle.testing_rules_reports.specs.steps.LentLines.{has_line, lent_lines}
 use Rattle.office_core_outcome.proofs.keeping.has_all.Given as goal
 
 -- the rest decides

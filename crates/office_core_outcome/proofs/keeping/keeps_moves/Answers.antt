@@ -1,5 +1,5 @@
 use Rattle.std.proofs.Common.{◌∙◌, ap, sym}
-use Rattle.testing_rules_reports.specs.LentLines.{lent_lines}
+use Rattle.testing_rules_reports.specs.steps.LentLines.{lent_lines}
 use Rattle.office_core_outcome.proofs.KeepFacts.{kept_by}
 use Rattle.office_core_outcome.proofs.keeping.keeps_moves.Goals as goal
 

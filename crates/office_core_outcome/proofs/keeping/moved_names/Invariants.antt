@@ -1,7 +1,7 @@
 use Rattle.std.proofs.Common.{◌≡◌, take}
 use Rattle.std.specs.List.{flat_map}
-use Rattle.testing_rules_reports.specs.LentLines.{lent_lines}
-use Rattle.office_core_outcome.specs.Settled.{names_in}
+use Rattle.testing_rules_reports.specs.steps.LentLines.{lent_lines}
+use Rattle.office_core_outcome.specs.steps.Settled.{names_in}
 use Rattle.office_core_outcome.proofs.keeping.moved_names.Given as goal
 
 -- those so far

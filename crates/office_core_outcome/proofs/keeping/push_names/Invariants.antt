@@ -1,6 +1,6 @@
 use Rattle.std.proofs.Common.{◌≡◌, ◌++◌, map, take}
 use Rattle.testing_rules_model.specs.declared.update.Moved.{Moved}
-use Rattle.testing_rules_reports.specs.LentLines.{lent_lines}
+use Rattle.testing_rules_reports.specs.steps.LentLines.{lent_lines}
 use Rattle.office_core_outcome.proofs.keeping.push_names.Given as goal
 
 -- those so far

@@ -6,7 +6,7 @@ use Rattle.office_core_facts.specs.declared.covered.KnownFacts.{KnownFacts}
 use Rattle.office_core_facts.specs.Known.{AreKnown}
 use Rattle.office_core_facts.specs.State.{IsOffice}
 use Rattle.office_core_facts.specs.Seen.{release}
-use Rattle.office_core_outcome.specs.Settled.{IsProposedOver}
+use Rattle.office_core_outcome.specs.steps.Settled.{IsProposedOver}
 use Rattle.office_core_outcome.specs.Trial.{trial_date}
 use Rattle.office_core_outcome.proofs.ProposalFacts.{proposed_is}
 use Rattle.office_core_outcome.proofs.proposing.proposed_after_orders.Goals as goal

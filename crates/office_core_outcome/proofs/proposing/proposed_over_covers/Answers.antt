@@ -4,7 +4,7 @@ use Rattle.office_store_keeper.specs.Content.{Content}
 use Rattle.office_core_orders.proofs.ReadyCount.{ready_bound}
 use Rattle.office_core_facts.specs.Seen.{release}
 use Rattle.office_core_outcome.specs.Proposal.{freed_by}
-use Rattle.office_core_outcome.specs.Settled.{AreAnswersOver, IsSettled, KeepsRun}
+use Rattle.office_core_outcome.specs.steps.Settled.{AreAnswersOver, IsSettled, KeepsRun}
 use Rattle.office_core_facts.proofs.CoveredFacts.{stands_within}
 use Rattle.office_core_outcome.proofs.ProposalFacts.{decided_is, done_over, keeps_over, answers_are, taken_over}
 use Rattle.office_core_outcome.proofs.proposing.proposed_over_covers.Goals as goal

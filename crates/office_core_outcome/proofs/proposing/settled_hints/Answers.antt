@@ -4,7 +4,7 @@ use Rattle.testing_rules_model.specs.StandsFor.{StandsFor}
 use Rattle.testing_rules_model.specs.Suite.{Suite}
 use Rattle.testing_rules_model.specs.declared.update.Decision.{Decision}
 use Rattle.office_core_outcome.specs.Proposal.{decisions_by}
-use Rattle.office_core_outcome.specs.Settled.{AreAnswersOver, IsSettled, KeepsRun}
+use Rattle.office_core_outcome.specs.steps.Settled.{AreAnswersOver, IsSettled, KeepsRun}
 use Rattle.office_core_outcome.proofs.proposing.settled_hints.Goals as goal
 
 pub settle-requires : goal.settle-requires

@@ -2,7 +2,7 @@ use Rattle.std.proofs.Common.{sym, ap, subst, ◌∙◌}
 use Rattle.testing_rules_laws.specs.Suite.{Suite}
 use Rattle.office_store_keeper.specs.Content.{Content}
 use Rattle.office_core_orders.proofs.GivingBack.{given_back}
-use Rattle.office_core_outcome.specs.Settled.{AreAnswersOver, IsSettled, KeepsRun}
+use Rattle.office_core_outcome.specs.steps.Settled.{AreAnswersOver, IsSettled, KeepsRun}
 use Rattle.office_core_outcome.proofs.proposing.settled_kept.Goals as goal
 
 pub give_back-requires : goal.give_back-requires

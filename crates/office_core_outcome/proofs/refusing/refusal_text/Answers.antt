@@ -1,5 +1,5 @@
 use Rattle.std.proofs.Common.{rules, ◌≡◌, ◌∙◌}
-use Rattle.office_core_outcome.specs.RefusalSteps.{judged_in}
+use Rattle.office_core_outcome.specs.steps.RefusalSteps.{judged_in}
 use Rattle.office_core_outcome.proofs.RefusalFacts.{refused_told}
 use Rattle.office_core_outcome.proofs.refusing.refusal_text.Goals as goal
 

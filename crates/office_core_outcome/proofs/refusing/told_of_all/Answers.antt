@@ -1,7 +1,7 @@
 use Rattle.std.proofs.Common.{◌≡◌, ◌+◌, ◌++◌, ◌∷◌, ◌≤◌, ℕ, true, false, List, drop, length, string_bytes, sym, ap, subst, ◌∙◌, arith}
 use Rattle.std.proofs.lemmas.List.{drop_all}
 use Rattle.testing_rules_model.specs.declared.update.Decision.{Decision}
-use Rattle.office_core_outcome.specs.RefusalSteps.{judged_in}
+use Rattle.office_core_outcome.specs.steps.RefusalSteps.{judged_in}
 use Rattle.office_core_outcome.specs.WhyRefused.{AreToldOf}
 use Rattle.office_core_outcome.proofs.RefusalFacts.{next_decision, told_all, told_more, told_none}
 use Rattle.office_core_outcome.proofs.refusing.told_of_all.Goals as goal

@@ -1,5 +1,5 @@
 use Rattle.std.proofs.Common.{◌++◌, drop, string_bytes, List, ℕ}
-use Rattle.office_core_outcome.specs.RefusalSteps.{judged_in}
+use Rattle.office_core_outcome.specs.steps.RefusalSteps.{judged_in}
 use Rattle.office_core_outcome.specs.WhyRefused.{AreToldOf}
 use Rattle.office_core_outcome.proofs.refusing.told_of_all.Given as goal
 

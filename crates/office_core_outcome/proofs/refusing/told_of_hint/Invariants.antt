@@ -1,6 +1,6 @@
 use Rattle.std.proofs.Common.{◌++◌, drop, filter, string_bytes, List, ℕ}
 use Rattle.office_core_outcome.specs.HintTold.{is_of_hint}
-use Rattle.office_core_outcome.specs.RefusalSteps.{judged_in}
+use Rattle.office_core_outcome.specs.steps.RefusalSteps.{judged_in}
 use Rattle.office_core_outcome.specs.WhyRefused.{AreToldOf}
 use Rattle.office_core_outcome.proofs.refusing.told_of_hint.Given as goal
 

@@ -8,7 +8,7 @@ use Rattle.testing_rules_laws.specs.Updates.{IsUpdate}
 use Rattle.testing_rules_laws.specs.Reports.{excuses_text, update_text}
 use Rattle.testing_rules_laws.specs.Provenance.{IsGivenBy}
 use Rattle.testing_rules_laws.proofs.Giving.{facts_give_update}
-use Rattle.testing_rules_laws.specs.GivenUpdate.{suite_by}
+use Rattle.testing_rules_laws.specs.steps.GivenUpdate.{suite_by}
 use Rattle.testing_rules_model.specs.Updates.{Outcome as Update}
 use Rattle.office_store_keeper.specs.declared.values.Reports.{Reports}
 use Rattle.office_core_facts.specs.Outcome.{Outcome, outcome}

@@ -1,5 +1,5 @@
 use Rattle.std.proofs.Common.{ℕ, List, sym, subst}
-use Rattle.office_core_outcome.specs.Settled.{IsSettled}
+use Rattle.office_core_outcome.specs.steps.Settled.{IsSettled}
 use Rattle.office_core_outcome.proofs.ProposalFacts.{settled_none}
 use Rattle.office_core_outcome.proofs.settling.settle.Goals as goal
 

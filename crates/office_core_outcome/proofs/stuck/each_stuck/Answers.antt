@@ -1,7 +1,7 @@
 use Rattle.std.proofs.Common.{arith, ◌≤◌, length, subst, Option, List}
 use Rattle.std.proofs.lemmas.List.{take_all}
 use Rattle.testing_rules_items.specs.Words.{Text}
-use Rattle.office_core_outcome.specs.Settled.{AreAnswersBehind, IsAnswerBehind}
+use Rattle.office_core_outcome.specs.steps.Settled.{AreAnswersBehind, IsAnswerBehind}
 use Rattle.office_core_outcome.proofs.StuckFacts.{zipped_more}
 use Rattle.office_core_outcome.proofs.stuck.each_stuck.Goals as goal
 

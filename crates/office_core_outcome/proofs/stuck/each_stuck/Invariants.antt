@@ -1,5 +1,5 @@
 use Rattle.std.proofs.Common.{take}
-use Rattle.office_core_outcome.specs.Settled.{AreAnswersBehind}
+use Rattle.office_core_outcome.specs.steps.Settled.{AreAnswersBehind}
 use Rattle.office_core_outcome.proofs.stuck.each_stuck.Given as goal
 
 -- those so far

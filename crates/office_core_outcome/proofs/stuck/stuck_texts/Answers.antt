@@ -7,8 +7,8 @@ use Rattle.testing_rules_model.specs.StandsFor.{StandsFor}
 use Rattle.testing_rules_model.specs.Suite.{Suite}
 use Rattle.testing_rules_model.specs.Unstable.{built_rows}
 use Rattle.testing_rules_model.specs.declared.excuse.Excuse.{Excuse}
-use Rattle.testing_rules_moves.specs.Turns.{behind_hints}
-use Rattle.office_core_outcome.specs.Settled.{AreAnswersBehind, AreAnswersOver}
+use Rattle.testing_rules_moves.specs.steps.Turns.{behind_hints}
+use Rattle.office_core_outcome.specs.steps.Settled.{AreAnswersBehind, AreAnswersOver}
 use Rattle.office_core_outcome.proofs.StuckFacts.{answers_over}
 use Rattle.office_core_outcome.proofs.stuck.stuck_texts.Goals as goal
 

@@ -7,7 +7,7 @@ use Rattle.office_core_orders.proofs.GivingBack.{given_back}
 use Rattle.office_core_facts.specs.Outcome.{outcome}
 use Rattle.office_core_facts.specs.Seen.{release}
 use Rattle.office_core_outcome.specs.Hints.{with_letters}
-use Rattle.office_core_outcome.specs.RuleSteps.{IsToldRun}
+use Rattle.office_core_outcome.specs.steps.RuleSteps.{IsToldRun}
 use Rattle.office_core_outcome.specs.Trial.{decided}
 use Rattle.office_core_outcome.proofs.trying.decide_kept.Goals as goal
 

@@ -6,7 +6,7 @@ use Rattle.office_store_keeper.specs.Content.{Content}
 use Rattle.office_core_facts.specs.Outcome.{outcome}
 use Rattle.office_core_facts.specs.Seen.{items_within, release}
 use Rattle.office_core_outcome.specs.Hints.{with_letters}
-use Rattle.office_core_outcome.specs.RuleSteps.{IsToldRun}
+use Rattle.office_core_outcome.specs.steps.RuleSteps.{IsToldRun}
 use Rattle.office_core_outcome.specs.Trial.{decided}
 use Rattle.office_core_facts.proofs.CoveredFacts.{stands_within}
 use Rattle.office_core_outcome.proofs.trying.decide_within.Goals as goal

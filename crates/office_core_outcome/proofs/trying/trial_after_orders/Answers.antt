@@ -8,7 +8,7 @@ use Rattle.office_core_facts.specs.Known.{AreKnown}
 use Rattle.office_core_facts.specs.State.{IsOffice}
 use Rattle.office_core_facts.specs.Seen.{release}
 use Rattle.office_core_outcome.specs.Trial.{IsTrial, trial_date}
-use Rattle.office_core_outcome.specs.TrialSteps.{IsTrialOver}
+use Rattle.office_core_outcome.specs.steps.TrialSteps.{IsTrialOver}
 use Rattle.office_core_outcome.specs.declared.Trial.TheVariants.{NoDate}
 use Rattle.office_core_outcome.proofs.TryFacts.{is_trial}
 use Rattle.office_core_outcome.proofs.trying.trial_after_orders.Goals as goal

@@ -1,7 +1,7 @@
 use Rattle.std.proofs.Common.{◌==◌, ◌+◌, ℕ, true, None, Some, sym, ap, subst, ◌∙◌, refl, ◌≤◌, arith}
 use Rattle.office_store_keeper.specs.Content.{Content, IsNextNumber}
 use Rattle.office_core_queries.specs.declared.mail.MailCount.{MailCount}
-use Rattle.office_core_queries.specs.Numbers.{IsAbove, IsCountSoFar}
+use Rattle.office_core_queries.specs.steps.Numbers.{IsAbove, IsCountSoFar}
 use Rattle.office_core_queries.proofs.AskFacts.{asked_any, asked_none, asked_then, holds_before, holds_behind}
 use Rattle.office_core_queries.proofs.CountFacts.{count_all, count_more, count_none, unbroken_within}
 use Rattle.office_core_queries.proofs.mail.count_mail.Goals as goal

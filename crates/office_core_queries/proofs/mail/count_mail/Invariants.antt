@@ -1,6 +1,6 @@
 use Rattle.std.proofs.Common.{◌≡◌, ◌-◌, ◌≤◌}
 use Rattle.office_core.specs.Preserves.{Holds}
-use Rattle.office_core_queries.specs.Numbers.{IsCountSoFar}
+use Rattle.office_core_queries.specs.steps.Numbers.{IsCountSoFar}
 use Rattle.office_core_queries.proofs.AskFacts.{Asked}
 use Rattle.office_core_queries.proofs.mail.count_mail.Given as goal
 

@@ -2,7 +2,7 @@ use Rattle.std.proofs.Common.{◌≡◌, ◌++◌, ℕ, List, length, true, fals
 use Rattle.office_mail.specs.Bag.{framed}
 use Rattle.office_store_keeper.specs.Content.{Content}
 use Rattle.office_store_keeper.specs.declared.values.Letter.{Letter}
-use Rattle.office_core_queries.specs.Numbers.{IsLetterAbove, IsNextLetter}
+use Rattle.office_core_queries.specs.steps.Numbers.{IsLetterAbove, IsNextLetter}
 use Rattle.office_core_queries.proofs.AskFacts.{asked_any, asked_none, asked_then, holds_before, holds_behind}
 use Rattle.office_core_queries.proofs.PartFacts.{has_room, part_all, part_full, part_more}
 use Rattle.office_core_queries.proofs.parts.push_part.Goals as goal

@@ -2,7 +2,7 @@ use Rattle.std.proofs.Common.{◌<◌, length, ap, ◌∙◌, arith}
 use Rattle.std.proofs.lemmas.Result.{err_from_is_err_and}
 use Rattle.office_mail.specs.Lists.{Lists}
 use Rattle.office_store_keeper.specs.Content.{Content}
-use Rattle.office_core_queries.specs.Walk.{told_as}
+use Rattle.office_core_queries.specs.steps.Walk.{told_as}
 use Rattle.office_core_queries.proofs.AskFacts.{both_any, both_none, both_then, holds_before, holds_behind}
 use Rattle.office_core_queries.proofs.TextLists.{mail_cut, mail_more, senders_none}
 use Rattle.office_core_queries.proofs.walk.write_mail.Goals as goal

@@ -2,7 +2,7 @@ use Rattle.std.proofs.Common.{◌≤◌, length, flat_map}
 use Rattle.std.specs.Io.KnownBytes.{Appends}
 use Rattle.office_core.specs.Preserves.{Holds}
 use Rattle.office_core_queries.specs.Export.{texts_to}
-use Rattle.office_core_queries.specs.Walk.{told_as}
+use Rattle.office_core_queries.specs.steps.Walk.{told_as}
 use Rattle.office_core_queries.proofs.AskFacts.{AskedBoth}
 use Rattle.office_core_queries.proofs.walk.write_mail.Given as goal
 

@@ -1,7 +1,7 @@
 use Rattle.std.proofs.Common.{◌-◌, ◌≤◌}
 use Rattle.std.specs.Io.KnownBytes.{Appends}
 use Rattle.office_core.specs.Preserves.{Holds}
-use Rattle.office_core_queries.specs.Walk.{told_as}
+use Rattle.office_core_queries.specs.steps.Walk.{told_as}
 use Rattle.office_core_queries.proofs.AskFacts.{AskedBoth}
 use Rattle.office_core_queries.proofs.TextLists.{told_to}
 use Rattle.office_core_queries.proofs.walk.write_sender.Given as goal

@@ -4,7 +4,7 @@ use Rattle.std.proofs.lemmas.Result.{err_from_is_err_and}
 use Rattle.office_mail.specs.Lists.{Lists}
 use Rattle.office_core_orders.specs.Replies.{reply_line}
 use Rattle.office_core_orders.specs.Written.{AppendsFront}
-use Rattle.office_core_replay.specs.BlockSteps.{DeliversTextsFront}
+use Rattle.office_core_replay.specs.steps.BlockSteps.{DeliversTextsFront}
 use Rattle.office_core.specs.Preserves.{StoreRefused}
 use Rattle.office_core_facts.specs.State.{state_of}
 use Rattle.office_core_replay.proofs.BlockFacts.{block_delivers, block_front, texts_from, front_from}

@@ -2,7 +2,7 @@ use Rattle.std.proofs.Common.{ℕ, List, subst, ◌∙◌, refl, arith}
 use Rattle.std.proofs.lemmas.Result.{err_from_is_err_and}
 use Rattle.office_mail.proofs.BagFacts.{counts_same, counts_twice}
 use Rattle.office_core_replay.specs.Blocks.{DeliversTexts}
-use Rattle.office_core_replay.specs.BlockSteps.{DeliversTextsFront}
+use Rattle.office_core_replay.specs.steps.BlockSteps.{DeliversTextsFront}
 use Rattle.office_core.specs.Preserves.{StoreRefused}
 use Rattle.office_core_facts.specs.State.{state_of}
 use Rattle.office_core_replay.proofs.BlockFacts.{delivers_texts, delivers_last, block_stop}

@@ -1,7 +1,7 @@
 use Rattle.std.proofs.Common.{◌≡◌, Bool, ◌||◌, ◌+◌, ◌++◌, ◌∷◌, [], List, ℕ, take, drop, sym, ap, subst, refl, ◌∙◌}
 use Rattle.std.proofs.lemmas.List.{take_more, take-append-drop}
 use Rattle.std.proofs.lemmas.Result.{err_from_is_err_and}
-use Rattle.office_core_replay.specs.BlockSteps.{DeliversTextsFront}
+use Rattle.office_core_replay.specs.steps.BlockSteps.{DeliversTextsFront}
 use Rattle.office_core.specs.Preserves.{StoreRefused}
 use Rattle.office_core_facts.specs.State.{state_of}
 use Rattle.office_core_replay.proofs.BlockFacts.{texts_none, texts_more, texts_front}

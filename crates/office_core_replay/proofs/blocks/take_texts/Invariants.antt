@@ -1,7 +1,7 @@
 use Rattle.std.proofs.Common.{◌≡◌, ◌<◌, ◌≤◌, ◌+◌, false}
 use Rattle.std.specs.Prelude.{vec_len, vec_capacity}
 use Rattle.office_mail.specs.BagSteps.{CountsEach}
-use Rattle.office_core_replay.specs.BlockSteps.{TakesTexts}
+use Rattle.office_core_replay.specs.steps.BlockSteps.{TakesTexts}
 use Rattle.office_core_replay.proofs.blocks.take_texts.Given as goal
 
 abbrev pub invariant-messages : goal.invariant-messages

@@ -3,7 +3,7 @@ use Rattle.std.proofs.lemmas.Result.{err_from_is_err_and}
 use Rattle.std.specs.Io.KnownBytes.{Appends}
 use Rattle.std.proofs.KnownBytes.{Appends-trans}
 use Rattle.office_core.specs.Preserves.{StoreRefused}
-use Rattle.office_core_replay.specs.Ending.{mark_in, WritesNews, WritesNewsFront}
+use Rattle.office_core_replay.specs.steps.Ending.{mark_in, WritesNews, WritesNewsFront}
 use Rattle.office_core_replay.specs.Losses.{is_missing, is_report_missing}
 use Rattle.office_core_facts.specs.Outcome.{testing_text, testing_after}
 use Rattle.office_core_facts.specs.OfficeState.{OfficeState}

@@ -1,7 +1,7 @@
 use Rattle.std.proofs.Common.{◌+◌, ap, subst, ◌∙◌, refl, arith}
 use Rattle.std.proofs.lemmas.Result.{err_from_is_err_and}
 use Rattle.office_core.specs.Preserves.{StoreRefused}
-use Rattle.office_core_replay.specs.Ending.{WritesRun, WritesRunFront}
+use Rattle.office_core_replay.specs.steps.Ending.{WritesRun, WritesRunFront}
 use Rattle.office_core_facts.specs.OfficeState.{OfficeState}
 use Rattle.office_core_facts.specs.State.{state_of}
 use Rattle.office_core.proofs.CarryFacts.{asks_none, asks_twice, holds_first, holds_next, refused_first, refused_next, state_asked}

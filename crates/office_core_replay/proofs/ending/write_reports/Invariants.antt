@@ -1,6 +1,6 @@
 use Rattle.std.proofs.Common.{◌≡◌, ◌-◌, ◌≤◌}
 use Rattle.office_core.specs.Preserves.{Asks, Holds, StoreRefused}
-use Rattle.office_core_replay.specs.Ending.{WritesReports}
+use Rattle.office_core_replay.specs.steps.Ending.{WritesReports}
 use Rattle.office_core_facts.specs.State.{state_of}
 use Rattle.office_core_replay.proofs.ending.write_reports.Given as goal
 

@@ -4,7 +4,7 @@ use Rattle.std.specs.Io.KnownBytes.{Appends}
 use Rattle.office_core_orders.specs.Written.{AppendsFront}
 use Rattle.office_core_replay.specs.Losses.{is_missing}
 use Rattle.office_core.specs.Preserves.{StoreRefused}
-use Rattle.office_core_replay.specs.Ending.{WritesRun, mark_in, report_shown}
+use Rattle.office_core_replay.specs.steps.Ending.{WritesRun, mark_in, report_shown}
 use Rattle.office_core_facts.specs.State.{state_of}
 use Rattle.office_core.proofs.CarryFacts.{asks_call}
 use Rattle.office_core_replay.proofs.EndFacts.{missing_is}

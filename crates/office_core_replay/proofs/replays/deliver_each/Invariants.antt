@@ -1,7 +1,7 @@
 use Rattle.std.proofs.Common.{◌≡◌, ◌+◌, ◌≤◌, false}
 use Rattle.office_mail.specs.BagSteps.{CountsEach}
 use Rattle.office_core.specs.Preserves.{Preserves, Holds, StoreRefused}
-use Rattle.office_core_replay.specs.DeliverySteps.{Delivers}
+use Rattle.office_core_replay.specs.steps.DeliverySteps.{Delivers}
 use Rattle.office_core_facts.specs.State.{state_of}
 use Rattle.office_core_replay.proofs.replays.deliver_each.Given as goal
 

@@ -4,7 +4,7 @@ use Rattle.std.specs.Io.KnownBytes.{Appends}
 use Rattle.office_mail.specs.Lists.{Lists}
 use Rattle.office_core_orders.specs.declared.replies.Mark.{Mark}
 use Rattle.office_core.specs.Preserves.{StoreRefused}
-use Rattle.office_core_replay.specs.DeliverySteps.{DeliversOne}
+use Rattle.office_core_replay.specs.steps.DeliverySteps.{DeliversOne}
 use Rattle.office_core_orders.specs.Replies.{reply_line}
 use Rattle.office_core_facts.specs.State.{state_of}
 use Rattle.office_core_orders.specs.Written.{AppendsFront}

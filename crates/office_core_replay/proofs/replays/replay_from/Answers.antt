@@ -5,7 +5,7 @@ use Rattle.office_core_orders.specs.declared.faults.StoreFault.TheVariants.{NoMe
 use Rattle.office_core.specs.Preserves.{StoreRefused}
 use Rattle.office_core_replay.specs.Losses.{is_short}
 use Rattle.office_core_replay.specs.Output.{Marks}
-use Rattle.office_core_replay.specs.Ending.{WritesEnd, WritesEndFront}
+use Rattle.office_core_replay.specs.steps.Ending.{WritesEnd, WritesEndFront}
 use Rattle.office_core_replay.specs.Replay.{ReplaysAll, ReplaysFront}
 use Rattle.office_core_facts.specs.OfficeState.{OfficeState}
 use Rattle.office_core_facts.specs.State.{state_of}

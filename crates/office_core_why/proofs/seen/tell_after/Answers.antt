@@ -4,7 +4,7 @@ use Rattle.office_store_keeper.specs.Content.{Content}
 use Rattle.office_core_facts.specs.declared.covered.KnownFacts.{KnownFacts}
 use Rattle.office_core_facts.specs.Known.{AreKnown}
 use Rattle.office_core_facts.specs.State.{IsOffice}
-use Rattle.office_core_why.specs.SeenText.{IsSeenText}
+use Rattle.office_core_why.specs.steps.SeenText.{IsSeenText}
 use Rattle.office_core_why.proofs.seen.tell_after.Goals as goal
 
 pub returns-clause-known : goal.returns-clause-known

@@ -2,7 +2,7 @@ use Rattle.std.proofs.Common.{◌≡◌, List, sym, subst}
 use Rattle.testing_rules_items.specs.Words.{Text}
 use Rattle.office_mail.specs.Runs.{cover_of}
 use Rattle.office_store_keeper.specs.Content.{Content}
-use Rattle.office_core_why.specs.SeenText.{text_over}
+use Rattle.office_core_why.specs.steps.SeenText.{text_over}
 use Rattle.office_core_why.specs.UnstableText.{unstable_text}
 use Rattle.office_core_why.specs.declared.seen.Subject.{Subject}
 use Rattle.office_core_why.proofs.seen.tell_by.Goals as goal

@@ -4,7 +4,7 @@ use Rattle.testing_rules_model.specs.StandsFor.{StandsFor}
 use Rattle.testing_rules_model.specs.Suite.{Suite}
 use Rattle.office_mail.specs.Runs.{cover_of}
 use Rattle.office_store_keeper.specs.Content.{Content}
-use Rattle.office_core_why.specs.SeenText.{text_over}
+use Rattle.office_core_why.specs.steps.SeenText.{text_over}
 use Rattle.office_core_why.specs.declared.seen.Subject.TheVariants.{Hints}
 use Rattle.office_core_orders.proofs.GivingBack.{given_back}
 use Rattle.office_core_why.proofs.seen.tell_hints.Goals as goal

@@ -4,7 +4,7 @@ use Rattle.testing_rules_model.specs.Covered.{Covered}
 use Rattle.testing_rules_model.specs.StandsFor.{StandsFor}
 use Rattle.office_mail.specs.Runs.{cover_of}
 use Rattle.office_store_keeper.specs.Content.{Content}
-use Rattle.office_core_why.specs.SeenText.{IsSeenText, text_over}
+use Rattle.office_core_why.specs.steps.SeenText.{IsSeenText, text_over}
 use Rattle.office_core_why.proofs.SeenFacts.{seen_told}
 use Rattle.office_core_why.proofs.seen.tell_seen.Goals as goal
 

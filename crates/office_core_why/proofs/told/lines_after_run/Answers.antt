@@ -2,7 +2,7 @@ use Rattle.std.proofs.Common.{◌∙◌}
 use Rattle.std.proofs.lemmas.Result.{IfOk-weaker}
 use Rattle.testing_rules_model.specs.Covered.{Covered}
 use Rattle.testing_rules_model.specs.StandsFor.{StandsFor}
-use Rattle.office_core_why.specs.Telling.{unstable_of}
+use Rattle.office_core_why.specs.steps.Telling.{unstable_of}
 use Rattle.office_core_why.specs.Why.{IsToldBy, IsToldOf}
 use Rattle.office_core_why.proofs.WhyFacts.{told_over}
 use Rattle.office_core_why.proofs.told.lines_after_run.Goals as goal

@@ -6,7 +6,7 @@ use Rattle.testing_rules_model.specs.declared.facts.UploadIn.{UploadIn}
 use Rattle.testing_rules_model.specs.Moves.{source_in}
 use Rattle.testing_rules_model.specs.Unstable.{built_rows}
 use Rattle.testing_rules_reports.specs.Sources.{source_text, waits_in}
-use Rattle.office_core_why.specs.Telling.{unstable_of}
+use Rattle.office_core_why.specs.steps.Telling.{unstable_of}
 use Rattle.office_core_why.specs.Why.{IsRefusedWhere, standing_lines}
 use Rattle.office_core_why.proofs.WhyFacts.{is_some-copied}
 use Rattle.office_core_why.proofs.told.lines_from_excuses.Goals as goal

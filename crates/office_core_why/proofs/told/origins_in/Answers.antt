@@ -4,7 +4,7 @@ use Rattle.testing_rules_model.specs.declared.excuse.Excuse.{Excuse}
 use Rattle.testing_rules_model.specs.declared.facts.UploadIn.{UploadIn}
 use Rattle.testing_rules_model.specs.Moves.{source_in}
 use Rattle.testing_rules_excuses.specs.States.{excuse_of}
-use Rattle.office_core_why.specs.Telling.{unstable_of}
+use Rattle.office_core_why.specs.steps.Telling.{unstable_of}
 use Rattle.office_core_why.specs.Why.{AreOrigins}
 use Rattle.office_core_why.proofs.told.origins_in.Goals as goal
 

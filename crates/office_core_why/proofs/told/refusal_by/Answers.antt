@@ -1,7 +1,7 @@
 use Rattle.std.proofs.Common.{◌≡◌, Bool, true, false, IfOk, sym, subst, ◌∙◌}
 use Rattle.testing_rules_excuses.specs.States.{excuse_of}
 use Rattle.testing_rules_reports.specs.Sources.{waits_in}
-use Rattle.office_core_why.specs.Telling.{unstable_of}
+use Rattle.office_core_why.specs.steps.Telling.{unstable_of}
 use Rattle.office_core_why.specs.Why.{IsRefusedWhere}
 use Rattle.office_core_why.proofs.told.refusal_by.Goals as goal
 

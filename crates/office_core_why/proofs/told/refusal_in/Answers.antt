@@ -2,7 +2,7 @@ use Rattle.std.proofs.Common.{◌≡◌, Option, Some, None, IfOk, sym, ap, subs
 use Rattle.std.specs.Option.{option_copied}
 use Rattle.testing_rules_model.specs.declared.excuse.Excuse.{Excuse}
 use Rattle.testing_rules_excuses.specs.States.{excuse_of}
-use Rattle.office_core_why.specs.Telling.{unstable_of}
+use Rattle.office_core_why.specs.steps.Telling.{unstable_of}
 use Rattle.office_core_why.specs.Why.{IsRefused}
 use Rattle.office_core_why.proofs.told.refusal_in.Goals as goal
 

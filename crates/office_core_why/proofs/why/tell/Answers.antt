@@ -3,7 +3,7 @@ use Rattle.testing_rules_model.specs.Covered.{Covered}
 use Rattle.testing_rules_model.specs.StandsFor.{StandsFor}
 use Rattle.office_store_keeper.specs.declared.values.Reports.{Reports}
 use Rattle.office_store_keeper.specs.Content.{Content, item_from_one}
-use Rattle.office_core_why.specs.Telling.{IsToldWith}
+use Rattle.office_core_why.specs.steps.Telling.{IsToldWith}
 use Rattle.office_core_why.proofs.why.tell.Goals as goal
 
 pub returns-in-Some-clause-told : goal.returns-in-Some-clause-told

@@ -3,7 +3,7 @@ use Rattle.testing_rules_model.specs.Covered.{Covered}
 use Rattle.testing_rules_model.specs.StandsFor.{StandsFor}
 use Rattle.testing_rules_model.specs.Suite.{Suite}
 use Rattle.office_store_keeper.specs.Content.{Content}
-use Rattle.office_core_why.specs.Telling.{IsToldWith}
+use Rattle.office_core_why.specs.steps.Telling.{IsToldWith}
 use Rattle.office_core_orders.proofs.GivingBack.{given_back}
 use Rattle.office_core_why.proofs.why.tell_by.Goals as goal
 

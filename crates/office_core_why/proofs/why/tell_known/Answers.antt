@@ -7,7 +7,7 @@ use Rattle.office_core_facts.specs.declared.covered.KnownFacts.{KnownFacts}
 use Rattle.office_core_facts.specs.Known.{AreKnown}
 use Rattle.office_core_facts.specs.Outcome.{covered_items}
 use Rattle.office_core_facts.proofs.KnownStand.{known_stand}
-use Rattle.office_core_why.specs.Telling.{IsToldWith}
+use Rattle.office_core_why.specs.steps.Telling.{IsToldWith}
 use Rattle.office_core_why.proofs.WhyFacts.{stands_covered}
 use Rattle.office_core_why.proofs.why.tell_known.Goals as goal
 

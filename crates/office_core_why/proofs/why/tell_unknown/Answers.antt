@@ -6,7 +6,7 @@ use Rattle.office_mail.specs.declared.message.RunOrder.{RunOrder}
 use Rattle.office_mail.specs.Runs.{cover_of, orders_to}
 use Rattle.office_store_keeper.specs.Content.{Content, item_from_one}
 use Rattle.office_core_facts.specs.Outcome.{covered_items}
-use Rattle.office_core_why.specs.Telling.{IsToldWith}
+use Rattle.office_core_why.specs.steps.Telling.{IsToldWith}
 use Rattle.office_core_why.proofs.WhyFacts.{stands_covered}
 use Rattle.office_core_why.proofs.why.tell_unknown.Goals as goal
 

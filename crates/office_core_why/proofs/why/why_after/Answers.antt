@@ -4,7 +4,7 @@ use Rattle.jiff_core.specs.declared.civil.date.Date.{Date}
 use Rattle.office_mail.specs.Runs.{latest_day}
 use Rattle.office_store_keeper.specs.Content.{Content, item_from_one}
 use Rattle.office_core_facts.specs.Outcome.{covered_items}
-use Rattle.office_core_why.specs.Telling.{IsToldWith}
+use Rattle.office_core_why.specs.steps.Telling.{IsToldWith}
 use Rattle.office_core_why.specs.Why.{IsWhy}
 use Rattle.office_core_why.proofs.WhyFacts.{why_none, why_told}
 use Rattle.office_core_why.proofs.why.why_after.Goals as goal

@@ -4,7 +4,7 @@ use Rattle.office_http_requests.specs.declared.reply.Answer.{Answer}
 use Rattle.office_core_facts.specs.State.{state_of}
 use Rattle.office_http.proofs.ProposalFacts.{proposed_for}
 use Rattle.office_http.specs.Serve.{proposal_answer}
-use Rattle.office_http.specs.ServeSteps.{TellsProposal}
+use Rattle.office_http.specs.steps.ServeSteps.{TellsProposal}
 use Rattle.office_http.proofs.proposals.propose.Goals as goal
 
 pub returns-clause-tells : goal.returns-clause-tells

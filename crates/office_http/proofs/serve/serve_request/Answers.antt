@@ -3,7 +3,7 @@ use Rattle.std.proofs.lemmas.Result.{err_from_is_err_and}
 use Rattle.office_mail.specs.Lists.{Lists}
 use Rattle.office_http_requests.specs.Asked.{asked_of}
 use Rattle.office_core.specs.Preserves.{StoreRefused}
-use Rattle.office_http_requests.specs.Reply.{HasPlace}
+use Rattle.office_http_requests.specs.steps.Reply.{HasPlace}
 use Rattle.office_core_facts.specs.State.{state_of}
 use Rattle.office_http.proofs.ServeFacts.{asked_due, served_head, served_front, stopped_asked, stopped_request}
 use Rattle.office_http.proofs.serve.serve_request.Goals as goal

@@ -5,7 +5,7 @@ use Rattle.std.specs.Str.{is_utf8}
 use Rattle.office_core.specs.Preserves.{StoreRefused}
 use Rattle.office_core_facts.specs.State.{state_of}
 use Rattle.office_core.proofs.CarryFacts.{risen, state_asked}
-use Rattle.office_http.specs.ServeSteps.{TellsTrial}
+use Rattle.office_http.specs.steps.ServeSteps.{TellsTrial}
 use Rattle.office_http.specs.Trials.{hints_in}
 use Rattle.office_http.proofs.ServeFacts.{place_or}
 use Rattle.office_http.proofs.TriedFacts.{tried, tried_bad}

@@ -1,5 +1,5 @@
 use Rattle.std.proofs.Common.{◌≡◌, take}
-use Rattle.testing_rules_reports.specs.LentLines.{lent_lines}
+use Rattle.testing_rules_reports.specs.steps.LentLines.{lent_lines}
 use Rattle.office_http.proofs.trials.copies.Given as goal
 
 -- those so far

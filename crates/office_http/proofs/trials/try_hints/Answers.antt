@@ -3,7 +3,7 @@ use Rattle.std.proofs.lemmas.Result.{IfOk-weaker}
 use Rattle.office_mail.specs.Lists.{Lists}
 use Rattle.office_http_requests.specs.declared.reply.Answer.{Answer}
 use Rattle.office_core_facts.specs.State.{state_of}
-use Rattle.office_http.specs.ServeSteps.{TellsTrial}
+use Rattle.office_http.specs.steps.ServeSteps.{TellsTrial}
 use Rattle.office_http.specs.Trials.{trial_answer}
 use Rattle.office_http.proofs.trials.try_hints.Goals as goal
 

@@ -1,5 +1,6 @@
 use Rattle.matchit.proofs.OnLiterals.{matchit_on_literals}
-use Rattle.office_http_requests.specs.Routes.{seventeen_routes, office_routes}
+use Rattle.office_http_requests.specs.Routes.{office_routes}
+use Rattle.office_http_requests.specs.steps.Routes.{seventeen_routes}
 use Rattle.office_http_requests.proofs.routes.insert_hints.Goals as goal
 
 pub returns : goal.returns

@@ -1,5 +1,6 @@
 use Rattle.matchit.proofs.OnLiterals.{matchit_on_literals}
-use Rattle.office_http_requests.specs.Routes.{twelve_routes, seventeen_routes}
+use Rattle.office_http_requests.specs.Routes.{twelve_routes}
+use Rattle.office_http_requests.specs.steps.Routes.{seventeen_routes}
 use Rattle.office_http_requests.proofs.routes.insert_parts.Goals as goal
 
 pub returns : goal.returns

@@ -2,7 +2,7 @@ use Rattle.std.proofs.Common.{Result, sym, subst}
 use Rattle.deb_control.specs.Binary.{binary_of}
 use Rattle.deb_control.specs.declared.binary.Binary.{Binary}
 use Rattle.office_mail.specs.declared.message.MailFault.{MailFault}
-use Rattle.office_mail.specs.Answers.{Gives}
+use Rattle.office_mail.specs.steps.Answers.{Gives}
 use Rattle.office_mail.specs.Read.{binary_in, of_binary}
 use Rattle.office_mail.proofs.BuildFacts.{told_as_mail}
 use Rattle.office_mail.proofs.bodies.binary_in.Goals as goal

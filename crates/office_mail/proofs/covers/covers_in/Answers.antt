@@ -2,7 +2,7 @@ use Rattle.std.proofs.Common.{◌≡◌, Ok, sym, ap, ◌∙◌}
 use Rattle.deb_control.specs.Relations.{◌>>=◌, items}
 use Rattle.office_mail.specs.Covers.{BadCovers, cover_in, numbers_by_sender}
 use Rattle.testing_rules_items.specs.Distinct.{is_distinct}
-use Rattle.office_mail_setup.specs.Steps.{needs, each_of}
+use Rattle.office_mail_setup.specs.WholeText.{needs, each_of}
 use Rattle.office_mail_setup.proofs.Each.{texts}
 use Rattle.office_mail.proofs.Views.{stated_covers}
 use Rattle.office_mail.proofs.CoverFacts.{names, covers_are}

@@ -3,7 +3,7 @@ use Rattle.deb_control.specs.Relations.{◌>>=◌}
 use Rattle.testing_rules_items.specs.declared.item.HintItem.{HintItem}
 use Rattle.testing_rules_items.specs.Distinct.{is_distinct}
 use Rattle.office_mail.specs.Hints.{BadHint}
-use Rattle.office_mail_setup.specs.Steps.{needs}
+use Rattle.office_mail_setup.specs.WholeText.{needs}
 use Rattle.office_mail.proofs.HintFacts.{group_is}
 use Rattle.office_mail.proofs.hints.group_in.Goals as goal
 

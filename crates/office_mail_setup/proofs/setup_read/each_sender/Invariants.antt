@@ -1,5 +1,5 @@
 use Rattle.std.proofs.Common.{◌≡◌, drop}
-use Rattle.office_mail_setup.specs.Steps.{each_of}
+use Rattle.office_mail_setup.specs.WholeText.{each_of}
 use Rattle.office_mail_setup.specs.Setup.{sender_texts}
 use Rattle.office_mail_setup.proofs.Each.{then_append}
 use Rattle.office_mail_setup.proofs.Views.{sender_lines}

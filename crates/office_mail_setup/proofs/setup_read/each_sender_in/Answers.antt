@@ -1,7 +1,7 @@
 use Rattle.std.proofs.Common.{get_or, sym, ap, ◌∙◌}
 use Rattle.std.proofs.lemmas.List.{drop_more, drop_all}
 use Rattle.std.proofs.lemmas.Result.{err_from_is_err_and}
-use Rattle.office_mail_setup.specs.Steps.{each_of}
+use Rattle.office_mail_setup.specs.WholeText.{each_of}
 use Rattle.office_mail_setup.specs.Setup.{sender_in}
 use Rattle.office_mail_setup.proofs.Each.{begins_with_none, each_step, each_fails, each_ends}
 use Rattle.office_mail_setup.proofs.SetupAnswerFacts.{setup_fails_as}

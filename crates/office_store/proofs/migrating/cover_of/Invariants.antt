@@ -1,5 +1,5 @@
 use Rattle.std.proofs.Common.{◌≡◌, drop}
-use Rattle.office_store.specs.MigratingSteps.{cover_on}
+use Rattle.office_store.specs.steps.MigratingSteps.{cover_on}
 use Rattle.office_store.proofs.migrating.cover_of.Given as goal
 
 -- what the letters that are left state behind the orders so far, is what all state

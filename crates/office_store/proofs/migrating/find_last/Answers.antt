@@ -4,7 +4,7 @@ use Rattle.sqlite.specs.Held.{state}
 use Rattle.office_store_keeper.specs.Content.{letters_within}
 use Rattle.office_store_tables.specs.Tables.{IsWhole, kept_rows}
 use Rattle.office_store_tables.specs.TableContent.{release_place}
-use Rattle.office_store.specs.MigratingSteps.{told_on}
+use Rattle.office_store.specs.steps.MigratingSteps.{told_on}
 use Rattle.office_store_tables.proofs.Passed.{passed}
 use Rattle.office_store.proofs.RangeFacts.{tells_on, uncovered, untold}
 use Rattle.office_store_tables.proofs.WithinLemmas.{then_within}

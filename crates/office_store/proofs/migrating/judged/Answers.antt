@@ -1,6 +1,7 @@
 use Rattle.std.proofs.Common.{◌≡◌, sym, ap, ◌∙◌}
 use Rattle.sqlite.specs.Held.{state}
-use Rattle.office_store.specs.Opening.{lists_by, text_of_one, shown_office, text_before}
+use Rattle.office_store.specs.Opening.{lists_by, text_of_one, text_before}
+use Rattle.office_store.specs.steps.Opening.{shown_office}
 use Rattle.office_store_tables.specs.Tables.{IsTrusted}
 use Rattle.office_store.proofs.MigrateLemmas.{judges_on, shown_before}
 use Rattle.office_store.proofs.migrating.judged.Goals as goal

@@ -1,5 +1,5 @@
 use Rattle.std.proofs.Common.{◌≡◌, drop, None}
-use Rattle.office_store.specs.MigratingSteps.{told_on}
+use Rattle.office_store.specs.steps.MigratingSteps.{told_on}
 use Rattle.office_store.proofs.migrating.last_told.Given as goal
 
 -- what the letters that are left tell behind the last delays so far, is what all tell

@@ -1,7 +1,8 @@
 use Rattle.std.proofs.Common.{◌≡◌, ap, ◌∙◌, sym, Option, subst, OnOk, Some}
 use Rattle.sqlite.specs.Held.{state}
 use Rattle.office_mail.specs.Lists.{Lists}
-use Rattle.office_store.specs.Opening.{text_of_one, shown_office, kept_text, lists_by}
+use Rattle.office_store.specs.Opening.{text_of_one, kept_text, lists_by}
+use Rattle.office_store.specs.steps.Opening.{shown_office}
 use Rattle.office_store_tables.specs.Tables.{IsTrusted}
 use Rattle.office_store.proofs.OpenLemmas.{shown_text}
 use Rattle.office_store.proofs.opening.go_on.Goals as goal

@@ -1,7 +1,7 @@
 use Rattle.std.proofs.Common.{◌≡◌, ◌≤◌, ◌++◌, [], List, length, rules, arith, sym, ap, ◌∙◌}
 use Rattle.std.proofs.lemmas.List.{append-nil, nil_from_length, take_all}
 use Rattle.testing_rules_model.specs.declared.fact_row.FactRow.{FactRow}
-use Rattle.office_store_keeper.specs.MemoryState.{rows_left}
+use Rattle.office_store_keeper.specs.steps.MemoryState.{rows_left}
 use Rattle.office_store_keeper.proofs.LeftRows.{each_left, none_gone}
 use Rattle.office_store_keeper.proofs.fact_rows.put_remaining.Goals as goal
 

@@ -1,5 +1,5 @@
 use Rattle.std.proofs.Common.{◌≡◌, ◌++◌, take}
-use Rattle.office_store_keeper.specs.MemoryState.{rows_left}
+use Rattle.office_store_keeper.specs.steps.MemoryState.{rows_left}
 use Rattle.office_store_keeper.proofs.fact_rows.put_remaining.Given as goal
 
 -- those of the rows so far

@@ -1,8 +1,8 @@
 use Rattle.std.proofs.Common.{◌∙◌, ◌++◌, refl, ap}
 use Rattle.testing_rules_model.specs.declared.fact_row.FactRow.{FactRow}
 use Rattle.std.specs.Prelude.{List}
-use Rattle.office_store_keeper.specs.FactSet.{is_among}
-use Rattle.office_store_keeper.specs.MemoryState.{rows_left}
+use Rattle.office_store_keeper.specs.steps.FactSet.{is_among}
+use Rattle.office_store_keeper.specs.steps.MemoryState.{rows_left}
 use Rattle.office_store_keeper.proofs.FactSets.{rows_after-is}
 use Rattle.office_store_keeper.proofs.fact_rows.rows_after.Goals as goal
 

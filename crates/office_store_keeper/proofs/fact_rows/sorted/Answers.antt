@@ -3,7 +3,7 @@ use Rattle.std.specs.List.Sorted.{IsSorted}
 use Rattle.std.proofs.lemmas.List.Sorted.{list_any-IsPermutation}
 use Rattle.testing_rules_model.proofs.FactKinds.{derived_order}
 use Rattle.testing_rules_model.specs.FactRows.{is_row}
-use Rattle.office_store_keeper.specs.FactSet.{is_among}
+use Rattle.office_store_keeper.specs.steps.FactSet.{is_among}
 use Rattle.office_store_keeper.proofs.fact_rows.sorted.Goals as goal
 
 pub returns-clause-order : goal.returns-clause-order

@@ -3,7 +3,7 @@ use Rattle.std.specs.BTreeMap.Range.{entries_between}
 use Rattle.std.specs.Range.{range_inclusive_end}
 use Rattle.std.specs.declared.ops.Bound.TheVariants.{Included}
 use Rattle.office_mail.specs.Kept.{Place, place_cmp}
-use Rattle.office_store_keeper.specs.MemoryState.{letter_of}
+use Rattle.office_store_keeper.specs.steps.MemoryState.{letter_of}
 use Rattle.office_store_keeper.proofs.PartFacts.{letter_comes, letters_are_all}
 use Rattle.office_store_keeper.proofs.memory.letters_between.Goals as goal
 

@@ -2,7 +2,7 @@ use Rattle.std.proofs.Common.{◌≡◌, ◌++◌, map}
 use Rattle.std.specs.BTreeMap.Range.{entries_between}
 use Rattle.std.specs.declared.ops.Bound.TheVariants.{Included}
 use Rattle.office_mail.specs.Kept.{place_cmp}
-use Rattle.office_store_keeper.specs.MemoryState.{letter_of}
+use Rattle.office_store_keeper.specs.steps.MemoryState.{letter_of}
 use Rattle.office_store_keeper.proofs.memory.letters_between.Given as goal
 
 -- those so far, and those that are left, are all

@@ -2,7 +2,7 @@ use Rattle.std.proofs.Common.{◌≤◌, ◌-◌, take, drop, length, true, refl
 use Rattle.std.proofs.lemmas.List.{take_all}
 use Rattle.std.proofs.lemmas.Result.{IfOk-from_err}
 use Rattle.sqlite.specs.Held.{state}
-use Rattle.office_store_testing_tables.specs.TableSteps.{AddsLetters}
+use Rattle.office_store_testing_tables.specs.steps.TableSteps.{AddsLetters}
 use Rattle.office_store_testing_tables.proofs.WithinLemmas.{none_within, kept_within, failed_within, then_within}
 use Rattle.office_store_testing_tables.proofs.Eights.{rest_length}
 use Rattle.office_store_tables.proofs.KeepAllLemmas.{letters_on}

@@ -1,7 +1,7 @@
 use Rattle.std.proofs.Common.{◌≤◌, ◌-◌, take, length}
 use Rattle.sqlite.specs.Held.{state}
 use Rattle.office_store_testing_tables.specs.Tables.{IsTrusted}
-use Rattle.office_store_testing_tables.specs.TableSteps.{AddsLetters}
+use Rattle.office_store_testing_tables.specs.steps.TableSteps.{AddsLetters}
 use Rattle.office_store_testing_tables.proofs.WithinLemmas.{WentWithin}
 use Rattle.office_store_tables.proofs.mail.add_letters.Given as goal
 

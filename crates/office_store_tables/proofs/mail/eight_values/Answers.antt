@@ -1,5 +1,5 @@
 use Rattle.std.proofs.Common.{◌∷◌, [], map, ap, ◌∙◌}
-use Rattle.office_store_testing_tables.specs.TableSteps.{letter_parameters}
+use Rattle.office_store_testing_tables.specs.steps.TableSteps.{letter_parameters}
 use Rattle.office_store_testing_tables.proofs.Eights.{eight_items}
 use Rattle.office_store_tables.proofs.mail.eight_values.Goals as goal
 

@@ -4,8 +4,8 @@ use Rattle.sqlite.specs.Tree.{Trees}
 use Rattle.sqlite.specs.Effect.{Database}
 use Rattle.sqlite.specs.declared.types.Value.TheVariants.{Int}
 use Rattle.sqlite.specs.Held.{state}
-use Rattle.office_store_testing_tables.specs.Texts.{next_text}
-use Rattle.office_store_testing_tables.specs.TableSteps.{ShowsLeast}
+use Rattle.office_store_testing_tables.specs.steps.Texts.{next_text}
+use Rattle.office_store_testing_tables.specs.steps.TableSteps.{ShowsLeast}
 use Rattle.office_store_testing_tables.proofs.StateLemmas.{Asked, asked_before, asked_same, asked_rows, lasts_survived}
 use Rattle.office_store_tables.proofs.NextFacts.{next_plain, shows_least}
 use Rattle.office_store_testing_tables.proofs.ReadingLemmas.{asked_read}

@@ -8,7 +8,7 @@ use Rattle.office_store_testing_tables.specs.Tables.{kept_rows}
 use Rattle.office_store_testing_tables.specs.Legible.{IsLegible}
 use Rattle.office_store_testing_tables.proofs.Passed.{passed}
 use Rattle.office_store_testing_tables.proofs.ReadingLemmas.{kept_read, then_read}
-use Rattle.office_store_tables.specs.Reading.{SaysFor, IsOwnCount}
+use Rattle.office_store_tables.specs.steps.Reading.{SaysFor, IsOwnCount}
 use Rattle.office_store_tables.proofs.RestReads.{whole_by, not_own}
 use Rattle.office_store_tables.proofs.reading.is_whole.Goals as goal
 

@@ -1,8 +1,8 @@
 use Rattle.std.proofs.Common.{◌∷◌, [], pos}
 use Rattle.sqlite.specs.declared.types.Value.TheVariants.{Int, Text}
 use Rattle.sqlite.specs.Held.{state}
-use Rattle.office_store_testing_tables.specs.Texts.{add_office_text}
-use Rattle.office_store_testing_tables.specs.TableSteps.{SaysMore}
+use Rattle.office_store_testing_tables.specs.steps.Texts.{add_office_text}
+use Rattle.office_store_testing_tables.specs.steps.TableSteps.{SaysMore}
 use Rattle.office_store_testing_tables.proofs.StateLemmas.{lasts_survived}
 use Rattle.office_store_testing_tables.proofs.StepLemmas.{Stepped, step_gives}
 use Rattle.office_store_testing_tables.proofs.WithinLemmas.{stepped_within}

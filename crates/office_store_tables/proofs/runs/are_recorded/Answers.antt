@@ -2,7 +2,7 @@ use Rattle.std.proofs.Common.{◌≤◌, ◌+◌, true, false, ℕ, refl, sym, s
 use Rattle.std.proofs.lemmas.Result.{IfOk-from_err}
 use Rattle.sqlite.specs.Effect.{Database}
 use Rattle.sqlite.specs.Held.{state}
-use Rattle.office_store_tables.specs.Reading.{IsRecorded}
+use Rattle.office_store_tables.specs.steps.Reading.{IsRecorded}
 use Rattle.office_store_testing_tables.proofs.Passed.{passed}
 use Rattle.office_store_testing_tables.proofs.ReadingLemmas.{none_read, kept_read, failed_read, then_read}
 use Rattle.office_store_tables.proofs.RunCounts.{recorded_more}

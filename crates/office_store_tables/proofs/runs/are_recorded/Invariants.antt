@@ -2,7 +2,7 @@ use Rattle.std.proofs.Common.{◌≤◌, ◌-◌, ℕ}
 use Rattle.sqlite.specs.Held.{state}
 use Rattle.office_store_testing_tables.specs.Tables.{IsTrusted}
 use Rattle.office_store_testing_tables.proofs.ReadingLemmas.{HasRead}
-use Rattle.office_store_tables.specs.Reading.{IsRecorded}
+use Rattle.office_store_tables.specs.steps.Reading.{IsRecorded}
 use Rattle.office_store_tables.proofs.runs.are_recorded.Given as goal
 
 -- nothing changed, and the runs so far have their reports

@@ -1,7 +1,7 @@
 use Rattle.std.proofs.Common.{[]}
 use Rattle.sqlite.specs.Held.{state}
-use Rattle.office_store_testing_tables.specs.Texts.{clear_office_text}
-use Rattle.office_store_testing_tables.specs.TableSteps.{Silences}
+use Rattle.office_store_testing_tables.specs.steps.Texts.{clear_office_text}
+use Rattle.office_store_testing_tables.specs.steps.TableSteps.{Silences}
 use Rattle.office_store_testing_tables.proofs.StateLemmas.{lasts_survived}
 use Rattle.office_store_testing_tables.proofs.StepLemmas.{Stepped, step_gives}
 use Rattle.office_store_testing_tables.proofs.WithinLemmas.{stepped_within}

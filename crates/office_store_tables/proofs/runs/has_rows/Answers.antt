@@ -1,7 +1,7 @@
 use Rattle.std.proofs.Common.{length, arith}
 use Rattle.std.proofs.lemmas.Result.{IfOk-from_err}
 use Rattle.sqlite.specs.Held.{state}
-use Rattle.office_store_testing_tables.specs.TableSteps.{rowid_column}
+use Rattle.office_store_testing_tables.specs.steps.TableSteps.{rowid_column}
 use Rattle.office_store_testing_tables.proofs.MailLemmas.{as_many}
 use Rattle.office_store_tables.proofs.RestReads.{same_count}
 use Rattle.office_store_tables.proofs.runs.has_rows.Goals as goal

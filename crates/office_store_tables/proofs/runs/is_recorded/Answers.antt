@@ -2,7 +2,7 @@ use Rattle.std.proofs.Common.{sym, subst}
 use Rattle.std.specs.Prelude.{◌↔◌, IsTrue}
 use Rattle.std.proofs.lemmas.Result.{IfOk-from_err}
 use Rattle.sqlite.specs.Held.{state}
-use Rattle.office_store_tables.specs.Reading.{IsRecorded}
+use Rattle.office_store_tables.specs.steps.Reading.{IsRecorded}
 use Rattle.office_store_tables.proofs.RunCounts.{recorded_is}
 use Rattle.office_store_tables.proofs.runs.is_recorded.Goals as goal
 

@@ -4,8 +4,8 @@ use Rattle.sqlite.specs.Order.{Row}
 use Rattle.sqlite.specs.Tree.{Trees}
 use Rattle.sqlite.specs.Effect.{Database}
 use Rattle.sqlite.specs.Held.{state}
-use Rattle.office_store_testing_tables.specs.Texts.{run_numbers_text}
-use Rattle.office_store_testing_tables.specs.TableSteps.{rowid_column}
+use Rattle.office_store_testing_tables.specs.steps.Texts.{run_numbers_text}
+use Rattle.office_store_testing_tables.specs.steps.TableSteps.{rowid_column}
 use Rattle.office_store_testing_tables.proofs.StateLemmas.{Asked, asked_before, asked_same, asked_rows, lasts_survived}
 use Rattle.office_store_tables.proofs.RowShows.{shows_numbers, run_plain}
 use Rattle.office_store_testing_tables.proofs.ReadingLemmas.{asked_read}

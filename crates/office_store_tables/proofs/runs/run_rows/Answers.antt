@@ -5,8 +5,8 @@ use Rattle.sqlite.specs.Tree.{Trees}
 use Rattle.sqlite.specs.Effect.{Database}
 use Rattle.sqlite.specs.declared.types.Value.TheVariants.{Int}
 use Rattle.sqlite.specs.Held.{state}
-use Rattle.office_store_testing_tables.specs.Texts.{reports_text}
-use Rattle.office_store_testing_tables.specs.TableSteps.{is_run, run_columns}
+use Rattle.office_store_testing_tables.specs.steps.Texts.{reports_text}
+use Rattle.office_store_testing_tables.specs.steps.TableSteps.{is_run, run_columns}
 use Rattle.office_store_testing_tables.proofs.StateLemmas.{Asked, asked_before, asked_same, asked_rows, lasts_survived}
 use Rattle.office_store_tables.proofs.RunLemmas.{shows_runs, reports_plain}
 use Rattle.office_store_testing_tables.proofs.ReadingLemmas.{asked_read}

@@ -2,7 +2,7 @@ use Rattle.std.proofs.Common.{[]}
 use Rattle.sqlite.specs.Held.{state}
 use Rattle.office_store_tables.specs.Texts.{create_mail_text}
 use Rattle.office_store_tables.specs.Layout.{mail}
-use Rattle.office_store_tables.specs.CreatingSteps.{schema_of_one}
+use Rattle.office_store_tables.specs.steps.CreatingSteps.{schema_of_one}
 use Rattle.office_store_tables.proofs.StepLemmas.{Stepped, step_open}
 use Rattle.office_store_tables.proofs.CreateLemmas.{makes, mail_is}
 use Rattle.office_store_tables.proofs.schema.create_mail.Goals as goal

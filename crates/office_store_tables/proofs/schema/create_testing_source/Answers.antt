@@ -2,7 +2,7 @@ use Rattle.std.proofs.Common.{[]}
 use Rattle.sqlite.specs.Held.{state}
 use Rattle.office_store_tables.specs.Texts.{create_testing_source_text}
 use Rattle.office_store_tables.specs.Layout.{testing_source}
-use Rattle.office_store_tables.specs.CreatingSteps.{schema_of_three}
+use Rattle.office_store_tables.specs.steps.CreatingSteps.{schema_of_three}
 use Rattle.office_store_tables.proofs.StepLemmas.{Stepped, step_open}
 use Rattle.office_store_tables.proofs.CreateLemmas.{makes, testing_source_is}
 use Rattle.office_store_tables.proofs.schema.create_testing_source.Goals as goal

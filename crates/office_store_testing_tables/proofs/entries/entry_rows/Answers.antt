@@ -4,8 +4,8 @@ use Rattle.sqlite.specs.Order.{Row}
 use Rattle.sqlite.specs.Tree.{Trees}
 use Rattle.sqlite.specs.Effect.{Database}
 use Rattle.sqlite.specs.Held.{state}
-use Rattle.office_store_testing_tables.specs.Texts.{rows_text}
-use Rattle.office_store_testing_tables.specs.EntrySteps.{entry_columns}
+use Rattle.office_store_testing_tables.specs.steps.Texts.{rows_text}
+use Rattle.office_store_testing_tables.specs.steps.EntrySteps.{entry_columns}
 use Rattle.office_store_testing_tables.proofs.StateLemmas.{Asked, asked_before, asked_same, asked_rows, lasts_survived}
 use Rattle.office_store_testing_tables.proofs.EntryShows.{shows_rows, rows_plain}
 use Rattle.office_store_testing_tables.proofs.ReadingLemmas.{asked_read}

@@ -2,7 +2,7 @@ use Rattle.std.proofs.Common.{refl, sym, ap, ◌∙◌, arith}
 use Rattle.std.specs.Vec.Iter.{into_iter_items}
 use Rattle.std.proofs.lemmas.List.{nil_from_length}
 use Rattle.testing_rules_model.specs.Suite.{Suite}
-use Rattle.office_store_testing_tables.specs.TableContent.{put_all_rows}
+use Rattle.office_store_testing_tables.specs.steps.TableContent.{put_all_rows}
 use Rattle.office_store_testing_tables.proofs.EntryLists.{suite_of}
 use Rattle.office_store_testing_tables.proofs.entries.put_rows.Goals as goal
 

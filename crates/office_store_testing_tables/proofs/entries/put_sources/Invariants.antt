@@ -1,6 +1,6 @@
 use Rattle.std.proofs.Common.{◌≡◌}
 use Rattle.std.specs.Vec.Iter.{into_iter_items}
-use Rattle.office_store_testing_tables.specs.TableContent.{put_all_sources}
+use Rattle.office_store_testing_tables.specs.steps.TableContent.{put_all_sources}
 use Rattle.office_store_testing_tables.proofs.entries.put_sources.Given as goal
 
 -- with those that are left, all are put in

@@ -3,8 +3,9 @@ use Rattle.sqlite.specs.Held.{state}
 use Rattle.office_store_testing_tables.specs.Tables.{IsTrusted, kept_rows}
 use Rattle.std.specs.List.{AllByRecursion}
 use Rattle.office_store_keeper.specs.Provenance.{IsArchPlace}
-use Rattle.office_store_testing_tables.specs.Loaded.{AreLettersOf}
-use Rattle.office_store_testing_tables.specs.TableContent.{row_of, message_at}
+use Rattle.office_store_testing_tables.specs.steps.Loaded.{AreLettersOf}
+use Rattle.office_store_testing_tables.specs.TableContent.{message_at}
+use Rattle.office_store_testing_tables.specs.steps.TableContent.{row_of}
 use Rattle.office_store_testing_tables.proofs.ReadingLemmas.{HasRead}
 use Rattle.office_store_testing_tables.proofs.entries.read_rows.Given as goal
 

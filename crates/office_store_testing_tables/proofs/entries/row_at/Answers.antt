@@ -2,8 +2,8 @@ use Rattle.std.proofs.Common.{inr, sym, ◌∙◌}
 use Rattle.std.proofs.lemmas.Result.{IfOk-from_err}
 use Rattle.sqlite.specs.Held.{state}
 use Rattle.office_store_testing_tables.specs.Tables.{kept_rows}
-use Rattle.office_store_testing_tables.specs.TableSteps.{IsCrowded}
-use Rattle.office_store_testing_tables.specs.Nearby.{read_binary}
+use Rattle.office_store_testing_tables.specs.steps.TableSteps.{IsCrowded}
+use Rattle.office_store_testing_tables.specs.steps.Nearby.{read_binary}
 use Rattle.office_store_testing_tables.proofs.Passed.{passed}
 use Rattle.office_store_testing_tables.proofs.EntryReads.{row_none, row_missing, row_by_last, row_known}
 use Rattle.office_store_testing_tables.proofs.ReadingLemmas.{none_read}

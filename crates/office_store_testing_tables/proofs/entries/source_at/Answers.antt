@@ -2,7 +2,7 @@ use Rattle.std.proofs.Common.{Some, inr, sym, ◌∙◌}
 use Rattle.std.proofs.lemmas.Result.{IfOk-from_err}
 use Rattle.sqlite.specs.Held.{state}
 use Rattle.office_store_testing_tables.specs.Tables.{kept_rows}
-use Rattle.office_store_testing_tables.specs.TableSteps.{IsCrowded}
+use Rattle.office_store_testing_tables.specs.steps.TableSteps.{IsCrowded}
 use Rattle.office_store_testing_tables.proofs.EntryReads.{source_none, source_by_parts, source_missing}
 use Rattle.office_store_testing_tables.proofs.Passed.{passed}
 use Rattle.office_store_testing_tables.proofs.ReadingLemmas.{none_read}

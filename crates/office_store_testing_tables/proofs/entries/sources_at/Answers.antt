@@ -3,7 +3,7 @@ use Rattle.std.proofs.lemmas.Result.{IfOk-from_err}
 use Rattle.sqlite.specs.Effect.{Database}
 use Rattle.sqlite.specs.Held.{state}
 use Rattle.office_store_testing_tables.specs.Tables.{kept_rows}
-use Rattle.office_store_testing_tables.specs.TableContent.{source_of}
+use Rattle.office_store_testing_tables.specs.steps.TableContent.{source_of}
 use Rattle.office_store_testing_tables.proofs.Passed.{passed, no_none}
 use Rattle.office_store_testing_tables.proofs.EntryLists.{read_more}
 use Rattle.office_store_testing_tables.proofs.ReadingLemmas.{kept_read, failed_read, then_read}

@@ -1,8 +1,8 @@
 use Rattle.std.proofs.Common.{◌≡◌, map, take, Some}
 use Rattle.sqlite.specs.Held.{state}
 use Rattle.office_store_testing_tables.specs.Tables.{IsTrusted, kept_rows}
-use Rattle.office_store_testing_tables.specs.Loaded.{AreLettersOf}
-use Rattle.office_store_testing_tables.specs.TableContent.{source_of}
+use Rattle.office_store_testing_tables.specs.steps.Loaded.{AreLettersOf}
+use Rattle.office_store_testing_tables.specs.steps.TableContent.{source_of}
 use Rattle.office_store_testing_tables.proofs.ReadingLemmas.{HasRead}
 use Rattle.office_store_testing_tables.proofs.entries.sources_at.Given as goal
 

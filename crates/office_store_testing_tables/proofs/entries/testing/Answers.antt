@@ -7,8 +7,8 @@ use Rattle.sqlite.specs.Order.{Row}
 use Rattle.sqlite.specs.Effect.{Database}
 use Rattle.sqlite.specs.Held.{state}
 use Rattle.office_store_testing_tables.specs.Tables.{kept_rows}
-use Rattle.office_store_testing_tables.specs.EntrySteps.{source_columns, entry_columns}
-use Rattle.office_store_testing_tables.specs.TableContent.{source_of, row_of, ReadsEach}
+use Rattle.office_store_testing_tables.specs.steps.EntrySteps.{source_columns, entry_columns}
+use Rattle.office_store_testing_tables.specs.steps.TableContent.{source_of, row_of, ReadsEach}
 use Rattle.testing_rules_model.specs.declared.suite.RowIn.{RowIn}
 use Rattle.office_store_keeper.specs.Provenance.{IsArchPlace}
 use Rattle.office_store_testing_tables.proofs.EntryLists.{reordered}

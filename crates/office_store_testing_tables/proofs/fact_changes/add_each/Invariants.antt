@@ -1,7 +1,7 @@
 use Rattle.std.proofs.Common.{◌≤◌, ◌-◌, take, length}
 use Rattle.sqlite.specs.Held.{state}
 use Rattle.office_store_testing_tables.specs.Tables.{IsTrusted}
-use Rattle.office_store_testing_tables.specs.FactSteps.{AddsEach}
+use Rattle.office_store_testing_tables.specs.steps.FactSteps.{AddsEach}
 use Rattle.office_store_testing_tables.proofs.WithinLemmas.{WentWithin}
 use Rattle.office_store_testing_tables.proofs.fact_changes.add_each.Given as goal
 

@@ -2,8 +2,8 @@ use Rattle.std.proofs.Common.{ap}
 use Rattle.std.specs.List.{flat_map}
 use Rattle.sqlite.specs.Values.{bound}
 use Rattle.sqlite.specs.Held.{state}
-use Rattle.office_store_testing_tables.specs.Texts.{add_eight_facts_text}
-use Rattle.office_store_testing_tables.specs.FactSteps.{fact_parameters, AddsFacts}
+use Rattle.office_store_testing_tables.specs.steps.Texts.{add_eight_facts_text}
+use Rattle.office_store_testing_tables.specs.steps.FactSteps.{fact_parameters, AddsFacts}
 use Rattle.office_store_testing_tables.proofs.Eights.{flattened}
 use Rattle.office_store_testing_tables.proofs.StateLemmas.{lasts_survived}
 use Rattle.office_store_testing_tables.proofs.StepLemmas.{Stepped, step_gives}

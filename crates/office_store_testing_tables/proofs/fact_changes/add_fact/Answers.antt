@@ -1,7 +1,7 @@
 use Rattle.std.proofs.Common.{arith}
 use Rattle.sqlite.specs.Held.{state}
-use Rattle.office_store_testing_tables.specs.Texts.{add_fact_text}
-use Rattle.office_store_testing_tables.specs.FactSteps.{AddsFact}
+use Rattle.office_store_testing_tables.specs.steps.Texts.{add_fact_text}
+use Rattle.office_store_testing_tables.specs.steps.FactSteps.{AddsFact}
 use Rattle.office_store_testing_tables.proofs.StateLemmas.{lasts_survived}
 use Rattle.office_store_testing_tables.proofs.StepLemmas.{Stepped, step_gives}
 use Rattle.office_store_testing_tables.proofs.WithinLemmas.{stepped_within}

@@ -3,8 +3,8 @@ use Rattle.std.specs.List.Sorted.{IsPermutation}
 use Rattle.sqlite.specs.Order.{Row}
 use Rattle.sqlite.specs.declared.types.Value.TheVariants.{Int}
 use Rattle.sqlite.specs.Held.{state}
-use Rattle.office_store_testing_tables.specs.Texts.{delays_ids_text}
-use Rattle.office_store_testing_tables.specs.FactSteps.{id_columns, is_delays}
+use Rattle.office_store_testing_tables.specs.steps.Texts.{delays_ids_text}
+use Rattle.office_store_testing_tables.specs.steps.FactSteps.{id_columns, is_delays}
 use Rattle.office_store_testing_tables.proofs.FactShows.{delays_ids_plain, shows_delays_ids}
 use Rattle.office_store_testing_tables.proofs.InsideLemmas.{AskedInside, inside_same, inside_rows}
 use Rattle.office_store_testing_tables.proofs.StateLemmas.{lasts_survived}

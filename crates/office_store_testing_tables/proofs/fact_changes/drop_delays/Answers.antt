@@ -3,7 +3,7 @@ use Rattle.std.proofs.lemmas.Result.{IfOk-from_err}
 use Rattle.sqlite.specs.Effect.{Database}
 use Rattle.sqlite.specs.Held.{state}
 use Rattle.office_store_testing_tables.proofs.WithinLemmas.{failed_within, then_within}
-use Rattle.office_store_testing_tables.specs.FactSteps.{is_delays, IsFound}
+use Rattle.office_store_testing_tables.specs.steps.FactSteps.{is_delays, IsFound}
 use Rattle.office_store_testing_tables.proofs.FactMoves.{drops_no_delays, drops_delays}
 use Rattle.office_store_testing_tables.proofs.fact_changes.drop_delays.Goals as goal
 

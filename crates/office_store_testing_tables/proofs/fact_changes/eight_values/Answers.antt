@@ -1,6 +1,6 @@
 use Rattle.std.proofs.Common.{◌∷◌, [], map, sym, ap, subst, ◌∙◌}
 use Rattle.std.specs.List.{AllByRecursion}
-use Rattle.office_store_testing_tables.specs.FactSteps.{fact_parameters, FitsFact}
+use Rattle.office_store_testing_tables.specs.steps.FactSteps.{fact_parameters, FitsFact}
 use Rattle.office_store_testing_tables.proofs.Eights.{eight_are}
 use Rattle.office_store_testing_tables.proofs.fact_changes.eight_values.Goals as goal
 

@@ -2,8 +2,8 @@ use Rattle.std.proofs.Common.{List, map, filter}
 use Rattle.std.specs.List.Sorted.{IsPermutation}
 use Rattle.sqlite.specs.Order.{Row}
 use Rattle.sqlite.specs.Held.{state}
-use Rattle.office_store_testing_tables.specs.Texts.{fact_ids_text}
-use Rattle.office_store_testing_tables.specs.FactSteps.{id_columns, is_fact}
+use Rattle.office_store_testing_tables.specs.steps.Texts.{fact_ids_text}
+use Rattle.office_store_testing_tables.specs.steps.FactSteps.{id_columns, is_fact}
 use Rattle.office_store_testing_tables.proofs.FactShows.{fact_ids_plain, shows_fact_ids, fact_params}
 use Rattle.office_store_testing_tables.proofs.InsideLemmas.{AskedInside, inside_same, inside_rows}
 use Rattle.office_store_testing_tables.proofs.StateLemmas.{lasts_survived}

@@ -4,8 +4,8 @@ use Rattle.sqlite.specs.Order.{Row}
 use Rattle.sqlite.specs.Tree.{Trees}
 use Rattle.sqlite.specs.Effect.{Database}
 use Rattle.sqlite.specs.Held.{state}
-use Rattle.office_store_testing_tables.specs.Texts.{facts_text}
-use Rattle.office_store_testing_tables.specs.FactSteps.{fact_columns}
+use Rattle.office_store_testing_tables.specs.steps.Texts.{facts_text}
+use Rattle.office_store_testing_tables.specs.steps.FactSteps.{fact_columns}
 use Rattle.office_store_testing_tables.proofs.StateLemmas.{Asked, asked_before, asked_same, asked_rows, lasts_survived}
 use Rattle.office_store_testing_tables.proofs.FactShows.{shows_facts, facts_plain}
 use Rattle.office_store_testing_tables.proofs.ReadingLemmas.{asked_read}

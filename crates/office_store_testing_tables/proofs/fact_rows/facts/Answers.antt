@@ -5,9 +5,10 @@ use Rattle.sqlite.specs.Order.{Row}
 use Rattle.sqlite.specs.Effect.{Database}
 use Rattle.sqlite.specs.Held.{state}
 use Rattle.office_store_keeper.specs.FactSet.{rows_in}
-use Rattle.office_store_testing_tables.specs.TableContent.{ReadsEach, release_place}
+use Rattle.office_store_testing_tables.specs.TableContent.{release_place}
+use Rattle.office_store_testing_tables.specs.steps.TableContent.{ReadsEach}
 use Rattle.office_store_testing_tables.specs.FactTables.{fact_in}
-use Rattle.office_store_testing_tables.specs.FactSteps.{fact_columns, IsOnlyDelays}
+use Rattle.office_store_testing_tables.specs.steps.FactSteps.{fact_columns, IsOnlyDelays}
 use Rattle.office_store_testing_tables.proofs.FactReads.{facts_read, facts_are, read_back, delays_shown_one}
 use Rattle.office_store_testing_tables.proofs.Passed.{passed}
 use Rattle.office_store_testing_tables.proofs.ReadingLemmas.{kept_read, failed_read, then_read}

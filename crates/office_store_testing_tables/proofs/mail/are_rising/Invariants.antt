@@ -1,5 +1,5 @@
 use Rattle.std.proofs.Common.{◌≡◌, drop}
-use Rattle.office_store_testing_tables.specs.TableSteps.{rises_from}
+use Rattle.office_store_testing_tables.specs.steps.TableSteps.{rises_from}
 use Rattle.office_store_testing_tables.proofs.mail.are_rising.Given as goal
 
 -- whether the letters that are left rise from there on, is whether all do

@@ -1,7 +1,7 @@
 use Rattle.std.proofs.Common.{◌≡◌, true, false, sym, ap, ◌∙◌, rules}
 use Rattle.std.proofs.lemmas.List.Sorted.{IsNonDecreasingBy-from_sort, answers_always}
 use Rattle.office_store_keeper.specs.declared.values.Letter.{Letter}
-use Rattle.office_store_testing_tables.specs.TableSteps.{rises_from}
+use Rattle.office_store_testing_tables.specs.steps.TableSteps.{rises_from}
 use Rattle.office_store_testing_tables.proofs.LoadLemmas.{sorted_rises}
 use Rattle.office_store_testing_tables.proofs.mail.by_number.Goals as goal
 

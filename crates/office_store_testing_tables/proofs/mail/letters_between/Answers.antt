@@ -5,8 +5,8 @@ use Rattle.sqlite.specs.Tree.{Trees}
 use Rattle.sqlite.specs.Effect.{Database}
 use Rattle.sqlite.specs.declared.types.Value.TheVariants.{Int}
 use Rattle.sqlite.specs.Held.{state}
-use Rattle.office_store_testing_tables.specs.Texts.{load_text}
-use Rattle.office_store_testing_tables.specs.TableSteps.{is_between, letter_columns}
+use Rattle.office_store_testing_tables.specs.steps.Texts.{load_text}
+use Rattle.office_store_testing_tables.specs.steps.TableSteps.{is_between, letter_columns}
 use Rattle.office_store_testing_tables.proofs.StateLemmas.{Asked, asked_before, asked_same, asked_rows, lasts_survived}
 use Rattle.office_store_testing_tables.proofs.LoadLemmas.{load_plain, shows_between}
 use Rattle.office_store_testing_tables.proofs.ReadingLemmas.{asked_read}

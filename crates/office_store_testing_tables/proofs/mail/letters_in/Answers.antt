@@ -1,6 +1,6 @@
 use Rattle.std.proofs.Common.{[], ◌∷◌, map, sym, ap, ◌∙◌}
 use Rattle.std.proofs.lemmas.List.{map-append}
-use Rattle.office_store_testing_tables.specs.TableSteps.{shown_letter, letter_entry}
+use Rattle.office_store_testing_tables.specs.steps.TableSteps.{shown_letter, letter_entry}
 use Rattle.office_store_testing_tables.proofs.EntryLists.{read_more}
 use Rattle.office_store_testing_tables.proofs.LoadFacts.{letter_says}
 use Rattle.office_store_testing_tables.proofs.Passed.{passed}

@@ -1,5 +1,5 @@
 use Rattle.std.proofs.Common.{◌≡◌, map, take, Some}
-use Rattle.office_store_testing_tables.specs.TableSteps.{shown_letter, letter_entry}
+use Rattle.office_store_testing_tables.specs.steps.TableSteps.{shown_letter, letter_entry}
 use Rattle.office_store_testing_tables.proofs.mail.letters_in.Given as goal
 
 -- the rows so far show the letters so far

@@ -1,6 +1,6 @@
 use Rattle.std.proofs.Common.{sym, subst, arith}
 use Rattle.sqlite.specs.Held.{state}
-use Rattle.office_store_testing_tables.specs.TableSteps.{ShowsLetters}
+use Rattle.office_store_testing_tables.specs.steps.TableSteps.{ShowsLetters}
 use Rattle.office_store_testing_tables.proofs.LoadFacts.{loaded_on}
 use Rattle.office_store_testing_tables.proofs.LoadLemmas.{shows_letters, few_letters}
 use Rattle.office_store_testing_tables.proofs.Passed.{passed}

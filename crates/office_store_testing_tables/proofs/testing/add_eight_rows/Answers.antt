@@ -3,8 +3,8 @@ use Rattle.std.specs.List.{flat_map}
 use Rattle.sqlite.specs.Values.{bound}
 use Rattle.sqlite.specs.Held.{state}
 use Rattle.testing_rules_model.specs.declared.suite.RowIn.{RowIn}
-use Rattle.office_store_testing_tables.specs.Texts.{add_eight_rows_text}
-use Rattle.office_store_testing_tables.specs.EntrySteps.{row_parameters, AddsRows}
+use Rattle.office_store_testing_tables.specs.steps.Texts.{add_eight_rows_text}
+use Rattle.office_store_testing_tables.specs.steps.EntrySteps.{row_parameters, AddsRows}
 use Rattle.office_store_testing_tables.proofs.Eights.{flattened}
 use Rattle.office_store_testing_tables.proofs.StateLemmas.{lasts_survived}
 use Rattle.office_store_testing_tables.proofs.StepLemmas.{Stepped, step_gives}

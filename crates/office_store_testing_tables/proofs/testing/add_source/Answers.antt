@@ -1,8 +1,8 @@
 use Rattle.std.proofs.Common.{arith, ◌∷◌, [], pos}
 use Rattle.sqlite.specs.declared.types.Value.TheVariants.{Int, Text}
 use Rattle.sqlite.specs.Held.{state}
-use Rattle.office_store_testing_tables.specs.Texts.{add_source_text}
-use Rattle.office_store_testing_tables.specs.EntrySteps.{AddsSource}
+use Rattle.office_store_testing_tables.specs.steps.Texts.{add_source_text}
+use Rattle.office_store_testing_tables.specs.steps.EntrySteps.{AddsSource}
 use Rattle.office_store_testing_tables.proofs.StateLemmas.{lasts_survived}
 use Rattle.office_store_testing_tables.proofs.StepLemmas.{Stepped, step_gives}
 use Rattle.office_store_testing_tables.proofs.WithinLemmas.{stepped_within}

@@ -4,8 +4,8 @@ use Rattle.std.proofs.lemmas.Option.{slice_get_read, slice_get_within}
 use Rattle.deb_control.specs.declared.binary.Binary.{Binary}
 use Rattle.sqlite.specs.Held.{state}
 use Rattle.office_store_testing_tables.specs.Entries.{entry_in}
-use Rattle.office_store_testing_tables.specs.EntrySteps.{row_entry}
-use Rattle.office_store_testing_tables.specs.Differences.{Agrees}
+use Rattle.office_store_testing_tables.specs.steps.EntrySteps.{row_entry}
+use Rattle.office_store_testing_tables.specs.steps.Differences.{Agrees}
 use Rattle.office_store_testing_tables.proofs.DifferenceLemmas.{rows_stay, row_leaves, row_comes}
 use Rattle.office_store_testing_tables.proofs.WithinLemmas.{none_within}
 use Rattle.office_store_testing_tables.proofs.testing.change_row.Goals as goal

@@ -1,7 +1,7 @@
 use Rattle.std.proofs.Common.{List, take, drop, ◌+◌, ◌-◌, ap, subst}
 use Rattle.sqlite.specs.Held.{state}
 use Rattle.testing_rules_model.specs.declared.suite.RowIn.{RowIn}
-use Rattle.office_store_testing_tables.specs.Differences.{RowsCompared}
+use Rattle.office_store_testing_tables.specs.steps.Differences.{RowsCompared}
 use Rattle.office_store_testing_tables.proofs.Eights.{eight_on}
 use Rattle.office_store_testing_tables.proofs.DifferenceLemmas.{are_from, rows_come}
 use Rattle.office_store_testing_tables.proofs.testing.change_row_or_more.Goals as goal

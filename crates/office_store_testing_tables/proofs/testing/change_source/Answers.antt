@@ -3,8 +3,8 @@ use Rattle.std.proofs.lemmas.Result.{IfOk-from_err}
 use Rattle.std.proofs.lemmas.Option.{slice_get_read, slice_get_within}
 use Rattle.sqlite.specs.Held.{state}
 use Rattle.office_store_testing_tables.specs.Entries.{source_in}
-use Rattle.office_store_testing_tables.specs.EntrySteps.{source_entry}
-use Rattle.office_store_testing_tables.specs.Differences.{Agrees}
+use Rattle.office_store_testing_tables.specs.steps.EntrySteps.{source_entry}
+use Rattle.office_store_testing_tables.specs.steps.Differences.{Agrees}
 use Rattle.office_store_testing_tables.proofs.DifferenceLemmas.{sources_stay, source_leaves, source_comes}
 use Rattle.office_store_testing_tables.proofs.WithinLemmas.{none_within}
 use Rattle.office_store_testing_tables.proofs.testing.change_source.Goals as goal

@@ -1,7 +1,7 @@
 use Rattle.std.proofs.Common.{◌≤◌, ◌+◌, ◌-◌, length}
 use Rattle.sqlite.specs.Held.{state}
 use Rattle.office_store_testing_tables.specs.Tables.{IsTrusted}
-use Rattle.office_store_testing_tables.specs.Differences.{SourcesCompared}
+use Rattle.office_store_testing_tables.specs.steps.Differences.{SourcesCompared}
 use Rattle.office_store_testing_tables.proofs.WithinLemmas.{WentWithin}
 use Rattle.office_store_testing_tables.proofs.testing.change_sources.Given as goal
 

@@ -1,7 +1,7 @@
 use Rattle.std.proofs.Common.{◌∷◌, [], map, ap, subst, ◌∙◌}
 use Rattle.std.specs.List.{AllByRecursion}
 use Rattle.testing_rules_model.specs.declared.suite.RowIn.{RowIn}
-use Rattle.office_store_testing_tables.specs.EntrySteps.{row_parameters, FitsRow}
+use Rattle.office_store_testing_tables.specs.steps.EntrySteps.{row_parameters, FitsRow}
 use Rattle.office_store_testing_tables.proofs.Eights.{eight_items}
 use Rattle.office_store_testing_tables.proofs.testing.eight_row_values.Goals as goal
 

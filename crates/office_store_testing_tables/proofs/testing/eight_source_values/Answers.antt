@@ -1,7 +1,7 @@
 use Rattle.std.proofs.Common.{◌∷◌, [], map, ap, subst, ◌∙◌}
 use Rattle.std.specs.List.{AllByRecursion}
 use Rattle.testing_rules_model.specs.declared.suite.SourceIn.{SourceIn}
-use Rattle.office_store_testing_tables.specs.EntrySteps.{source_parameters, FitsSource}
+use Rattle.office_store_testing_tables.specs.steps.EntrySteps.{source_parameters, FitsSource}
 use Rattle.office_store_testing_tables.proofs.Eights.{eight_items}
 use Rattle.office_store_testing_tables.proofs.testing.eight_source_values.Goals as goal
 

@@ -2,8 +2,8 @@ use Rattle.std.proofs.Common.{List, [], map}
 use Rattle.std.specs.List.Sorted.{IsPermutation}
 use Rattle.sqlite.specs.Order.{Row}
 use Rattle.sqlite.specs.Held.{state}
-use Rattle.office_store_testing_tables.specs.Texts.{rows_text}
-use Rattle.office_store_testing_tables.specs.EntrySteps.{entry_columns}
+use Rattle.office_store_testing_tables.specs.steps.Texts.{rows_text}
+use Rattle.office_store_testing_tables.specs.steps.EntrySteps.{entry_columns}
 use Rattle.office_store_testing_tables.proofs.EntryShows.{rows_plain, shows_rows}
 use Rattle.office_store_testing_tables.proofs.InsideLemmas.{AskedInside, inside_same, inside_rows}
 use Rattle.office_store_testing_tables.proofs.StateLemmas.{lasts_survived}

@@ -5,7 +5,7 @@ use Rattle.std.proofs.lemmas.List.Sorted.{IsPermutation-trans}
 use Rattle.sqlite.specs.Effect.{Database}
 use Rattle.sqlite.specs.Tree.{Trees}
 use Rattle.sqlite.specs.Held.{state}
-use Rattle.office_store_testing_tables.specs.EntrySteps.{entry_columns}
+use Rattle.office_store_testing_tables.specs.steps.EntrySteps.{entry_columns}
 use Rattle.office_store_testing_tables.proofs.WithinLemmas.{failed_within, then_within}
 use Rattle.office_store_testing_tables.proofs.testing.set_rows.Goals as goal
 

@@ -1,8 +1,8 @@
 use Rattle.std.proofs.Common.{◌∷◌, [], SFits, w64, rules, to_z-of_z}
 use Rattle.sqlite.specs.declared.types.Value.TheVariants.{Int}
 use Rattle.sqlite.specs.Held.{state}
-use Rattle.office_store_testing_tables.specs.Texts.{take_row_text}
-use Rattle.office_store_testing_tables.specs.EntrySteps.{TakesRow}
+use Rattle.office_store_testing_tables.specs.steps.Texts.{take_row_text}
+use Rattle.office_store_testing_tables.specs.steps.EntrySteps.{TakesRow}
 use Rattle.office_store_testing_tables.proofs.StateLemmas.{lasts_survived}
 use Rattle.office_store_testing_tables.proofs.StepLemmas.{Stepped, step_counts}
 use Rattle.office_store_testing_tables.proofs.WithinLemmas.{stepped_within}

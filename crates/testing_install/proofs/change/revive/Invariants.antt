@@ -2,7 +2,7 @@ use Rattle.std.proofs.Common.{◌≡◌, ◌+◌, ◌-◌, ◌≤◌, ◌<◌, �
 use Rattle.std.specs.List.{count_by, All}
 use Rattle.testing_install.specs.Closed.{marked}
 use Rattle.testing_install.specs.Rows.{shared}
-use Rattle.testing_install.specs.Settling.{IsReviving}
+use Rattle.testing_install.specs.steps.Settling.{IsReviving}
 use Rattle.testing_install.proofs.change.revive.Given as goal
 
 abbrev pub invariant-revivals : goal.invariant-revivals

@@ -1,7 +1,7 @@
 use Rattle.std.proofs.Common.{◌≡◌, ◌+◌, length}
 use Rattle.std.specs.List.{count_by}
 use Rattle.testing_install.specs.Closed.{marked}
-use Rattle.testing_install.specs.Settling.{IsRevived}
+use Rattle.testing_install.specs.steps.Settling.{IsRevived}
 use Rattle.testing_install.proofs.change.revive_among.Given as goal
 
 abbrev pub invariant-loop-place : goal.invariant-loop-place

@@ -3,7 +3,7 @@ use Rattle.std.specs.List.{All}
 use Rattle.testing_install.proofs.Needing.{to_first, to_next, to_all}
 use Rattle.testing_install.proofs.Reviving.{revived_both}
 use Rattle.testing_install.specs.Closed.{marked}
-use Rattle.testing_install.specs.Settling.{IsRevived}
+use Rattle.testing_install.specs.steps.Settling.{IsRevived}
 use Rattle.testing_install.proofs.change.revive_needers.Goals as goal
 
 pub revive_among-requires-clause-places : goal.revive_among-requires-clause-places

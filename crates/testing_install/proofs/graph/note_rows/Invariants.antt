@@ -1,7 +1,7 @@
 use Rattle.std.proofs.Common.{◌≡◌, ◌++◌, List, length}
 use Rattle.deb_control.specs.declared.binary.Binary.{Binary}
 use Rattle.testing_install.proofs.Sharing.{IsGraphTo}
-use Rattle.testing_install.specs.Needers.{IsGraph}
+use Rattle.testing_install.specs.steps.Needers.{IsGraph}
 use Rattle.testing_install.specs.Rows.{shared}
 use Rattle.testing_install.proofs.graph.note_rows.Given as goal
 

@@ -4,7 +4,7 @@ use Rattle.std.specs.declared.rc.Rc.{Rc}
 use Rattle.std.specs.declared.alloc.Global.{Global}
 use Rattle.deb_control.specs.declared.binary.Binary.{Binary}
 use Rattle.testing_install.proofs.Sharing.{length-shared, graph_same}
-use Rattle.testing_install.specs.Needers.{IsGraph}
+use Rattle.testing_install.specs.steps.Needers.{IsGraph}
 use Rattle.testing_install.specs.Rows.{shared}
 use Rattle.testing_install.proofs.graph.with_rows.Goals as goal
 

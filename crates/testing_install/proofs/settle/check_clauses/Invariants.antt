@@ -2,7 +2,7 @@ use Rattle.std.proofs.Common.{◌≡◌, ◌+◌, ◌++◌, ℕ, Bool, List, len
 use Rattle.std.specs.List.{count_by}
 use Rattle.std.specs.Option.{option_copied}
 use Rattle.testing_install.specs.Rows.{shared}
-use Rattle.testing_install.specs.Settling.{IsSized, IsSettling}
+use Rattle.testing_install.specs.steps.Settling.{IsSized, IsSettling}
 use Rattle.testing_install.proofs.settle.check_clauses.Given as goal
 
 abbrev pub invariant-loop-place : goal.invariant-loop-place

@@ -2,7 +2,7 @@ use Rattle.std.proofs.Common.{◌≡◌, true}
 use Rattle.std.specs.List.{AllWithin}
 use Rattle.std.specs.Option.{option_copied}
 use Rattle.testing_install.specs.Closed.{IsMet, marked}
-use Rattle.testing_install.specs.Settling.{suspects}
+use Rattle.testing_install.specs.steps.Settling.{suspects}
 use Rattle.testing_install.specs.Rows.{shared}
 use Rattle.testing_install.proofs.settle.is_upheld.Given as goal
 

@@ -3,7 +3,7 @@ use Rattle.testing_install.proofs.Finding.{within_places}
 use Rattle.testing_install.proofs.Needing.{places_from, from_first, from_next, from_none}
 use Rattle.testing_install.proofs.Sharing.{length-shared}
 use Rattle.testing_install.specs.Rows.{shared}
-use Rattle.testing_install.specs.Settling.{IsSettling}
+use Rattle.testing_install.specs.steps.Settling.{IsSettling}
 use Rattle.testing_install.proofs.settle.look_at_needers.Goals as goal
 
 pub check_clauses-requires-clause-places : goal.check_clauses-requires-clause-places

@@ -1,9 +1,9 @@
 use Rattle.std.proofs.Common.{◌≡◌, ◌+◌, ℕ, Bool, List, length, Some}
 use Rattle.std.specs.List.{count_by}
 use Rattle.testing_install.proofs.Needing.{places_from}
-use Rattle.testing_install.specs.Needers.{places_for}
+use Rattle.testing_install.specs.steps.Needers.{places_for}
 use Rattle.testing_install.specs.Rows.{shared}
-use Rattle.testing_install.specs.Settling.{IsSized, IsSettling}
+use Rattle.testing_install.specs.steps.Settling.{IsSized, IsSettling}
 use Rattle.testing_install.proofs.settle.look_at_needers.Given as goal
 
 abbrev pub invariant-loop-provision : goal.invariant-loop-provision

@@ -1,7 +1,7 @@
 use Rattle.std.proofs.Common.{◌≡◌, ◌+◌, ℕ, Bool, List, [], length, None}
 use Rattle.std.specs.List.{count_by}
 use Rattle.testing_install.specs.Rows.{shared}
-use Rattle.testing_install.specs.Settling.{IsSized, IsSettling}
+use Rattle.testing_install.specs.steps.Settling.{IsSized, IsSettling}
 use Rattle.testing_install.proofs.settle.propagate.Given as goal
 
 abbrev pub invariant-loop-place : goal.invariant-loop-place

@@ -2,7 +2,7 @@ use Rattle.std.proofs.Common.{arith, ap, sym, subst}
 use Rattle.testing_install.proofs.Looking.{work_turned, waiting_places}
 use Rattle.testing_install.proofs.Places.{length-binaries}
 use Rattle.testing_install.specs.Rows.{binaries}
-use Rattle.testing_install.specs.Progress.{IsWork}
+use Rattle.testing_install.specs.steps.Progress.{IsWork}
 use Rattle.testing_install.proofs.work.propagate.Goals as goal
 
 pub next_turn-requires-clause-waiting : goal.next_turn-requires-clause-waiting

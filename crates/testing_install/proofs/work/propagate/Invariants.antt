@@ -1,7 +1,7 @@
 use Rattle.std.proofs.Common.{◌+◌, ◌-◌, ◌^◌, ◌≤◌, [], length, min}
 use Rattle.std.specs.List.{count_by}
 use Rattle.testing_install.specs.Rows.{binaries}
-use Rattle.testing_install.specs.Progress.{IsWork}
+use Rattle.testing_install.specs.steps.Progress.{IsWork}
 use Rattle.testing_install.proofs.work.propagate.Given as goal
 
 abbrev pub invariant-loop-lost : goal.invariant-loop-lost

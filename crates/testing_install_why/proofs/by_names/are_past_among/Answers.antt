@@ -2,7 +2,7 @@ use Rattle.std.proofs.Common.{get_or, refl}
 use Rattle.std.proofs.lemmas.List.{get_or_default}
 use Rattle.testing_install.specs.Rows.{binaries}
 use Rattle.testing_install.proofs.Places.{read_more}
-use Rattle.testing_install_why.specs.Checking.{IsPast}
+use Rattle.testing_install_why.specs.steps.Checking.{IsPast}
 use Rattle.testing_install_why.proofs.by_names.are_past_among.Goals as goal
 
 pub loop-number-preserved : goal.loop-number-preserved

@@ -1,6 +1,6 @@
 use Rattle.std.specs.List.{AllWithin}
 use Rattle.testing_install.specs.Rows.{binaries}
-use Rattle.testing_install_why.specs.Checking.{IsPast}
+use Rattle.testing_install_why.specs.steps.Checking.{IsPast}
 use Rattle.testing_install_why.proofs.by_names.are_past_among.Given as goal
 
 -- those so far

@@ -2,7 +2,7 @@ use Rattle.std.proofs.Common.{◌∙◌, ap, subst}
 use Rattle.std.specs.List.{All}
 use Rattle.testing_install.specs.Index.{places_at}
 use Rattle.testing_install.specs.Rows.{binaries}
-use Rattle.testing_install_why.specs.Checking.{IsPast}
+use Rattle.testing_install_why.specs.steps.Checking.{IsPast}
 use Rattle.testing_install_why.proofs.CheckedByNames.{past_by_names}
 use Rattle.testing_install_why.proofs.by_names.are_past_by.Goals as goal
 

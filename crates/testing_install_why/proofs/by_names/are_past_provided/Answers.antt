@@ -4,7 +4,7 @@ use Rattle.deb_control.specs.declared.relation.Provision.{Provision}
 use Rattle.testing_install.specs.Index.{places_at}
 use Rattle.testing_install.specs.Rows.{binaries}
 use Rattle.testing_install.proofs.Places.{read_more}
-use Rattle.testing_install_why.specs.Checking.{IsPast}
+use Rattle.testing_install_why.specs.steps.Checking.{IsPast}
 use Rattle.testing_install_why.proofs.by_names.are_past_provided.Goals as goal
 
 pub loop-provision-preserved : goal.loop-provision-preserved

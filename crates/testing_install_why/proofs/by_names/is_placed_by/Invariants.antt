@@ -1,5 +1,5 @@
 use Rattle.testing_install.specs.Rows.{binaries}
-use Rattle.testing_install_why.specs.Checking.{IsPlaced}
+use Rattle.testing_install_why.specs.steps.Checking.{IsPlaced}
 use Rattle.testing_install_why.proofs.by_names.is_placed_by.Given as goal
 
 abbrev pub invariant-loop-place : goal.invariant-loop-place

@@ -1,4 +1,4 @@
-use Rattle.testing_install_why.specs.Bearers.{IsLeast}
+use Rattle.testing_install_why.specs.steps.Bearers.{IsLeast}
 use Rattle.testing_install_why.proofs.MarkedSteps.{IsNamedTo}
 use Rattle.testing_install_why.proofs.chain.first_bearer.Given as goal
 

@@ -1,4 +1,4 @@
-use Rattle.testing_install_why.specs.Needed.{IsMarkedWhere}
+use Rattle.testing_install_why.specs.steps.Needed.{IsMarkedWhere}
 use Rattle.testing_install_why.proofs.MarkedSteps.{IsAmongFirst}
 use Rattle.testing_install_why.proofs.needed.mark_among.Given as goal
 

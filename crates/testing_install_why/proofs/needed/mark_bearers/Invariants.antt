@@ -1,4 +1,4 @@
-use Rattle.testing_install_why.specs.Needed.{IsMarkedWhere}
+use Rattle.testing_install_why.specs.steps.Needed.{IsMarkedWhere}
 use Rattle.testing_install_why.proofs.MarkedSteps.{IsNamedTo}
 use Rattle.testing_install_why.proofs.needed.mark_bearers.Given as goal
 

@@ -1,6 +1,6 @@
 use Rattle.std.proofs.Common.{◌≡◌, ◌+◌, ◌-◌, get_or, sym, subst, arith}
 use Rattle.std.proofs.lemmas.List.{with_items_is}
-use Rattle.testing_install_why.specs.Needed.{IsNeeded}
+use Rattle.testing_install_why.specs.steps.Needed.{IsNeeded}
 use Rattle.testing_install_why.proofs.Picking.{need_more, need_out}
 use Rattle.testing_install_why.proofs.needed.needed_by.Goals as goal
 

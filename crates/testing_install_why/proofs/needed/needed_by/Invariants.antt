@@ -1,5 +1,5 @@
 use Rattle.std.proofs.Common.{◌≤◌, ◌+◌}
-use Rattle.testing_install_why.specs.Needed.{IsNeeded}
+use Rattle.testing_install_why.specs.steps.Needed.{IsNeeded}
 use Rattle.testing_install_why.proofs.needed.needed_by.Given as goal
 
 abbrev pub invariant-loop-number : goal.invariant-loop-number

@@ -1,6 +1,6 @@
 use Rattle.std.proofs.Common.{List}
 use Rattle.deb_control.specs.declared.binary.Binary.{Binary}
-use Rattle.testing_install_why.specs.Needed.{IsNeeded}
+use Rattle.testing_install_why.specs.steps.Needed.{IsNeeded}
 use Rattle.testing_install_why.proofs.Picking.{IsPicked}
 use Rattle.testing_install_why.proofs.needed.picked.Given as goal
 

@@ -2,7 +2,7 @@ use Rattle.std.proofs.Common.{◌<◌, length, subst, ◌∙◌, arith}
 use Rattle.std.specs.List.{All}
 use Rattle.std.proofs.lemmas.List.{length-set}
 use Rattle.testing_install.specs.Closed.{marked}
-use Rattle.testing_install_why.specs.Taking.{IsLooked}
+use Rattle.testing_install_why.specs.steps.Taking.{IsLooked}
 use Rattle.testing_install_why.proofs.Looked.{fails_by, held_in, looked_all, looked_held, looked_past, within_front, within_last}
 use Rattle.testing_install_why.proofs.order.next_out.Goals as goal
 

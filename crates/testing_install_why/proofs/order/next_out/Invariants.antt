@@ -1,6 +1,6 @@
 use Rattle.std.proofs.Common.{◌≡◌, ◌<◌, ℕ, List, length}
 use Rattle.std.specs.List.{All}
-use Rattle.testing_install_why.specs.Taking.{IsLooked}
+use Rattle.testing_install_why.specs.steps.Taking.{IsLooked}
 use Rattle.testing_install_why.proofs.order.next_out.Given as goal
 
 abbrev pub invariant-loop-place : goal.invariant-loop-place

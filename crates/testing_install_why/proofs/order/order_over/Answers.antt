@@ -3,7 +3,7 @@ use Rattle.testing_install.specs.Closed.{marked}
 use Rattle.testing_install_why.proofs.Finding.{all_refuted}
 use Rattle.testing_install_why.proofs.Reading.{are_steps}
 use Rattle.testing_install_why.proofs.Taking.{order_none}
-use Rattle.testing_install_why.specs.Taking.{IsOrder}
+use Rattle.testing_install_why.specs.steps.Taking.{IsOrder}
 use Rattle.testing_install_why.proofs.order.order_over.Goals as goal
 
 -- the order at the end

@@ -1,6 +1,6 @@
 use Rattle.std.proofs.Common.{ℕ, Bool}
 use Rattle.std.specs.List.{count_by}
-use Rattle.testing_install_why.specs.Taking.{IsLooked, IsOrder}
+use Rattle.testing_install_why.specs.steps.Taking.{IsLooked, IsOrder}
 use Rattle.testing_install_why.proofs.order.take_out.Given as goal
 
 abbrev pub invariant-loop-held : goal.invariant-loop-held

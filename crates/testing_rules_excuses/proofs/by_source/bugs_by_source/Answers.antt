@@ -4,7 +4,7 @@ use Rattle.std.specs.Str.{bytes_eq}
 use Rattle.testing_rules_model.specs.Boxed.{unboxed}
 use Rattle.testing_rules_model.specs.declared.facts.BugIn.{BugIn}
 use Rattle.testing_rules_model.proofs.Unboxed.{unboxed-at, unboxed-length}
-use Rattle.testing_rules_excuses.specs.BySource.{slot_at, joined_by, is_among}
+use Rattle.testing_rules_excuses.specs.steps.BySource.{slot_at, joined_by, is_among}
 use Rattle.testing_rules_excuses.proofs.NewsGroups.{joined, group_of}
 use Rattle.testing_rules_excuses.proofs.by_source.bugs_by_source.Goals as goal
 

@@ -2,7 +2,7 @@ use Rattle.std.proofs.Common.{◌≡◌, Some, None, cond, take, filter}
 use Rattle.std.specs.Str.{bytes_eq}
 use Rattle.testing_rules_model.specs.Boxed.{unboxed}
 use Rattle.testing_rules_items.specs.Words.{Text}
-use Rattle.testing_rules_excuses.specs.BySource.{slot_at, is_among}
+use Rattle.testing_rules_excuses.specs.steps.BySource.{slot_at, is_among}
 use Rattle.testing_rules_excuses.proofs.by_source.bugs_by_source.Given as goal
 
 -- those so far

@@ -1,6 +1,6 @@
 use Rattle.std.proofs.Common.{◌≡◌, Some, None, [], cond, take}
 use Rattle.testing_rules_items.specs.Words.{Text}
-use Rattle.testing_rules_excuses.specs.BySource.{slot_at, is_among}
+use Rattle.testing_rules_excuses.specs.steps.BySource.{slot_at, is_among}
 use Rattle.testing_rules_excuses.proofs.by_source.groups_for.Given as goal
 
 -- those so far

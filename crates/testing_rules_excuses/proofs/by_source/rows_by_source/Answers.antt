@@ -3,7 +3,7 @@ use Rattle.std.proofs.lemmas.List.{take_all}
 use Rattle.std.specs.Str.{bytes_eq}
 use Rattle.testing_rules_model.specs.declared.suite.LentRow.{LentRow}
 use Rattle.testing_rules_model.specs.declared.suite.RowIn.{RowIn}
-use Rattle.testing_rules_excuses.specs.BySource.{slot_at, joined_by, is_among}
+use Rattle.testing_rules_excuses.specs.steps.BySource.{slot_at, joined_by, is_among}
 use Rattle.testing_rules_model.specs.JudgedRows.{lent}
 use Rattle.testing_rules_model.proofs.Lending.{passing-lent}
 use Rattle.testing_rules_excuses.proofs.NewsGroups.{joined, group_of}

@@ -1,7 +1,7 @@
 use Rattle.std.proofs.Common.{◌≡◌, Some, None, cond, take, filter}
 use Rattle.std.specs.Str.{bytes_eq}
 use Rattle.testing_rules_items.specs.Words.{Text}
-use Rattle.testing_rules_excuses.specs.BySource.{slot_at, is_among}
+use Rattle.testing_rules_excuses.specs.steps.BySource.{slot_at, is_among}
 use Rattle.testing_rules_excuses.proofs.by_source.rows_by_source.Given as goal
 
 -- those so far

@@ -2,8 +2,8 @@ use Rattle.std.proofs.Common.{arith, ◌∙◌, ap, ◌≤◌, length, take, fil
 use Rattle.std.proofs.lemmas.List.{take_all}
 use Rattle.std.specs.Str.{bytes_eq}
 use Rattle.testing_rules_model.specs.declared.facts.UploadIn.{UploadIn}
-use Rattle.testing_rules_excuses.specs.BySource.{slot_at, joined_by, is_among}
-use Rattle.testing_rules_excuses.specs.LentUploads.{uploads_lent}
+use Rattle.testing_rules_excuses.specs.steps.BySource.{slot_at, joined_by, is_among}
+use Rattle.testing_rules_excuses.specs.steps.LentUploads.{uploads_lent}
 use Rattle.testing_rules_excuses.proofs.NewsGroups.{joined}
 use Rattle.testing_rules_excuses.proofs.LentGroups.{start_lent, joined_lent, group_lent}
 use Rattle.testing_rules_excuses.proofs.by_source.uploads_by_source.Goals as goal

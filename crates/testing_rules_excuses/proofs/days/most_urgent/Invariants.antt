@@ -1,7 +1,7 @@
 use Rattle.std.proofs.Common.{◌≡◌, take}
 use Rattle.std.specs.Option.{option_copied}
 use Rattle.testing_rules_model.specs.Excuses.{most_urgent}
-use Rattle.testing_rules_excuses.specs.LentUploads.{uploads_lent}
+use Rattle.testing_rules_excuses.specs.steps.LentUploads.{uploads_lent}
 use Rattle.testing_rules_excuses.proofs.days.most_urgent.Given as goal
 
 -- the most urgent so far

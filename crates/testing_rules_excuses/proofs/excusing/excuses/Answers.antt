@@ -1,8 +1,8 @@
 use Rattle.std.proofs.Common.{ap, ◌∙◌, sym, subst, map, IsTrue}
 use Rattle.testing_rules_model.specs.Boxed.{unboxed}
 use Rattle.testing_rules_model.specs.Unstable.{place_numbers}
-use Rattle.testing_rules_model.specs.Excuses.{excuses_on}
-use Rattle.testing_rules_excuses.specs.BySource.{excuses_by, ground_at, ground_from, is_among, told_of}
+use Rattle.testing_rules_model.specs.steps.Grounds.{excuses_on}
+use Rattle.testing_rules_excuses.specs.steps.BySource.{excuses_by, ground_at, ground_from, is_among, told_of}
 use Rattle.testing_rules_excuses.proofs.OwnPart.{excuses-by_parts}
 use Rattle.testing_rules_excuses.proofs.Grounds.{same-excuses}
 use Rattle.testing_rules_excuses.proofs.excusing.excuses.Goals as goal

@@ -1,6 +1,6 @@
 use Rattle.std.proofs.Common.{◌≡◌, map, take}
 use Rattle.testing_rules_model.specs.Unstable.{place_numbers}
-use Rattle.testing_rules_excuses.specs.BySource.{excuses_by, ground_at, told_of}
+use Rattle.testing_rules_excuses.specs.steps.BySource.{excuses_by, ground_at, told_of}
 use Rattle.testing_rules_excuses.proofs.excusing.excuses_on.Given as goal
 
 -- those so far

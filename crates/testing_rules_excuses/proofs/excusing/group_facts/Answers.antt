@@ -3,12 +3,12 @@ use Rattle.std.specs.Str.{bytes_eq}
 use Rattle.testing_rules_model.specs.declared.facts.BugIn.{BugIn}
 use Rattle.testing_rules_model.specs.declared.facts.UploadIn.{UploadIn}
 use Rattle.testing_rules_model.specs.declared.suite.RowIn.{RowIn}
-use Rattle.testing_rules_excuses.specs.BySource.{ground_from}
-use Rattle.testing_rules_excuses.specs.OwnHints.{own_hints}
+use Rattle.testing_rules_excuses.specs.steps.BySource.{ground_from}
+use Rattle.testing_rules_excuses.specs.steps.OwnHints.{own_hints}
 use Rattle.testing_rules_model.specs.JudgedRows.{lent}
 use Rattle.testing_rules_model.specs.Unstable.{built_rows, is_in_force}
 use Rattle.testing_rules_model.specs.Excuses.{delays_in_force}
-use Rattle.testing_rules_facts.specs.SourceFilter.{passing_builds}
+use Rattle.testing_rules_facts.specs.steps.SourceFilter.{passing_builds}
 use Rattle.testing_rules_excuses.proofs.OwnPart.{part-is}
 use Rattle.testing_rules_excuses.proofs.Wanting.{own_passing}
 use Rattle.testing_rules_excuses.proofs.excusing.group_facts.Goals as goal

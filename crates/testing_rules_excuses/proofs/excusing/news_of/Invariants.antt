@@ -1,6 +1,6 @@
 use Rattle.std.proofs.Common.{◌≡◌, map, take}
 use Rattle.testing_rules_model.specs.Boxed.{unboxed}
-use Rattle.testing_rules_excuses.specs.BySource.{news_of, told_of}
+use Rattle.testing_rules_excuses.specs.steps.BySource.{news_of, told_of}
 use Rattle.testing_rules_excuses.proofs.excusing.news_of.Given as goal
 
 -- those so far

@@ -1,5 +1,6 @@
 use Rattle.std.proofs.Common.{◌≡◌, ◌++◌, take, map}
-use Rattle.testing_rules_excuses.specs.Origins.{origin_of, from_blocks}
+use Rattle.testing_rules_excuses.specs.Origins.{from_blocks}
+use Rattle.testing_rules_excuses.specs.steps.Origins.{origin_of}
 use Rattle.testing_rules_excuses.proofs.messages.push_blocks.Given as goal
 
 -- those so far

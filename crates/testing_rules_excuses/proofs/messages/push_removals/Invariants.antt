@@ -1,6 +1,7 @@
 use Rattle.std.proofs.Common.{◌≡◌, ◌++◌, take, map}
 use Rattle.std.specs.Option.{option_copied}
-use Rattle.testing_rules_excuses.specs.Origins.{origin_of, from_removals}
+use Rattle.testing_rules_excuses.specs.Origins.{from_removals}
+use Rattle.testing_rules_excuses.specs.steps.Origins.{origin_of}
 use Rattle.testing_rules_excuses.proofs.messages.push_removals.Given as goal
 
 -- those so far

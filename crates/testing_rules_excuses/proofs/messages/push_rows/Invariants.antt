@@ -1,6 +1,7 @@
 use Rattle.std.proofs.Common.{◌≡◌, ◌++◌, take, map}
 use Rattle.testing_rules_model.specs.JudgedRows.{lent}
-use Rattle.testing_rules_excuses.specs.Origins.{origin_of, from_rows}
+use Rattle.testing_rules_excuses.specs.Origins.{from_rows}
+use Rattle.testing_rules_excuses.specs.steps.Origins.{origin_of}
 use Rattle.testing_rules_excuses.proofs.messages.push_rows.Given as goal
 
 -- those so far

@@ -1,8 +1,8 @@
 use Rattle.std.proofs.Common.{arith, ◌∙◌, ◌||◌, sym, ap, Some, None, cond, take}
 use Rattle.std.specs.Str.{bytes_eq}
 use Rattle.testing_rules_excuses.specs.declared.by_source.News.{News}
-use Rattle.testing_rules_excuses.specs.BySource.{slot_at, is_among}
-use Rattle.testing_rules_excuses.specs.OwnHints.{started}
+use Rattle.testing_rules_excuses.specs.steps.BySource.{slot_at, is_among}
+use Rattle.testing_rules_excuses.specs.steps.OwnHints.{started}
 use Rattle.testing_rules_excuses.proofs.NewsGroups.{opened, among-more}
 use Rattle.testing_rules_excuses.proofs.own_hints.begun_for.Goals as goal
 

@@ -1,7 +1,7 @@
 use Rattle.std.proofs.Common.{◌≡◌, Some, None, cond, take}
 use Rattle.testing_rules_items.specs.Words.{Text}
-use Rattle.testing_rules_excuses.specs.BySource.{slot_at, is_among}
-use Rattle.testing_rules_excuses.specs.OwnHints.{started}
+use Rattle.testing_rules_excuses.specs.steps.BySource.{slot_at, is_among}
+use Rattle.testing_rules_excuses.specs.steps.OwnHints.{started}
 use Rattle.testing_rules_excuses.proofs.own_hints.begun_for.Given as goal
 
 -- those so far

@@ -2,8 +2,8 @@ use Rattle.std.proofs.Common.{arith, ◌∙◌, ap, ◌++◌, ◌≤◌, Some, N
 use Rattle.std.proofs.lemmas.List.{take_all}
 use Rattle.std.specs.List.{flat_map, list_any}
 use Rattle.testing_rules_model.specs.declared.facts.HintIn.{HintIn}
-use Rattle.testing_rules_excuses.specs.BySource.{slot_at, is_among}
-use Rattle.testing_rules_excuses.specs.OwnHints.{is_for_all, started, parts_of, joined_with}
+use Rattle.testing_rules_excuses.specs.steps.BySource.{slot_at, is_among}
+use Rattle.testing_rules_excuses.specs.steps.OwnHints.{is_for_all, started, parts_of, joined_with}
 use Rattle.testing_rules_excuses.proofs.NewsGroups.{group_of}
 use Rattle.testing_rules_excuses.proofs.HintGroups.{hint-more, joined-start}
 use Rattle.testing_rules_excuses.proofs.own_hints.hints_by_source.Goals as goal

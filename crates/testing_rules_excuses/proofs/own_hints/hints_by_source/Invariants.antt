@@ -1,8 +1,8 @@
 use Rattle.std.proofs.Common.{◌≡◌, ◌++◌, Some, None, cond, take}
 use Rattle.std.specs.List.{flat_map, list_any}
 use Rattle.testing_rules_items.specs.Words.{Text}
-use Rattle.testing_rules_excuses.specs.BySource.{slot_at, is_among}
-use Rattle.testing_rules_excuses.specs.OwnHints.{is_for_all, started, parts_of}
+use Rattle.testing_rules_excuses.specs.steps.BySource.{slot_at, is_among}
+use Rattle.testing_rules_excuses.specs.steps.OwnHints.{is_for_all, started, parts_of}
 use Rattle.testing_rules_excuses.proofs.own_hints.hints_by_source.Given as goal
 
 -- those so far

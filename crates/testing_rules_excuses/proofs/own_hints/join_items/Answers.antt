@@ -2,8 +2,8 @@ use Rattle.std.proofs.Common.{arith, ◌∙◌, ap, ◌≤◌, length}
 use Rattle.std.proofs.lemmas.List.{take_all}
 use Rattle.std.specs.Str.{bytes_eq}
 use Rattle.testing_rules_items.specs.declared.item.HintItem.{HintItem}
-use Rattle.testing_rules_excuses.specs.BySource.{slot_at, joined_by}
-use Rattle.testing_rules_excuses.specs.OwnHints.{item_part, item_parts, joined_with}
+use Rattle.testing_rules_excuses.specs.steps.BySource.{slot_at, joined_by}
+use Rattle.testing_rules_excuses.specs.steps.OwnHints.{item_part, item_parts, joined_with}
 use Rattle.testing_rules_excuses.proofs.HintGroups.{parts-more, joined-nothing}
 use Rattle.testing_rules_excuses.proofs.own_hints.join_items.Goals as goal
 

@@ -1,7 +1,7 @@
 use Rattle.std.proofs.Common.{◌≡◌, take}
 use Rattle.testing_rules_items.specs.Words.{Text}
-use Rattle.testing_rules_excuses.specs.BySource.{slot_at}
-use Rattle.testing_rules_excuses.specs.OwnHints.{item_parts, joined_with}
+use Rattle.testing_rules_excuses.specs.steps.BySource.{slot_at}
+use Rattle.testing_rules_excuses.specs.steps.OwnHints.{item_parts, joined_with}
 use Rattle.testing_rules_excuses.proofs.own_hints.join_items.Given as goal
 
 -- those so far

@@ -2,8 +2,8 @@ use Rattle.std.proofs.Common.{arith, ◌∙◌, ap, ◌≤◌, length}
 use Rattle.std.proofs.lemmas.List.{take_all}
 use Rattle.std.specs.Str.{bytes_eq}
 use Rattle.testing_rules_items.specs.Words.{Text}
-use Rattle.testing_rules_excuses.specs.BySource.{slot_at, joined_by}
-use Rattle.testing_rules_excuses.specs.OwnHints.{named_part, named_parts, joined_with}
+use Rattle.testing_rules_excuses.specs.steps.BySource.{slot_at, joined_by}
+use Rattle.testing_rules_excuses.specs.steps.OwnHints.{named_part, named_parts, joined_with}
 use Rattle.testing_rules_excuses.proofs.HintGroups.{parts-more, joined-nothing}
 use Rattle.testing_rules_excuses.proofs.own_hints.join_names.Goals as goal
 

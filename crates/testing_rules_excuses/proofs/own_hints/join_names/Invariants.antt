@@ -1,7 +1,7 @@
 use Rattle.std.proofs.Common.{◌≡◌, take}
 use Rattle.testing_rules_items.specs.Words.{Text}
-use Rattle.testing_rules_excuses.specs.BySource.{slot_at}
-use Rattle.testing_rules_excuses.specs.OwnHints.{named_parts, joined_with}
+use Rattle.testing_rules_excuses.specs.steps.BySource.{slot_at}
+use Rattle.testing_rules_excuses.specs.steps.OwnHints.{named_parts, joined_with}
 use Rattle.testing_rules_excuses.proofs.own_hints.join_names.Given as goal
 
 -- those so far

@@ -1,5 +1,5 @@
 use Rattle.std.proofs.Common.{◌≡◌, take}
-use Rattle.testing_rules_excuses.specs.SourceFilter.{newer_hashes}
+use Rattle.testing_rules_excuses.specs.steps.SourceFilter.{newer_hashes}
 use Rattle.testing_rules_excuses.proofs.source_filter.hashes_of_news.Given as goal
 
 -- those so far

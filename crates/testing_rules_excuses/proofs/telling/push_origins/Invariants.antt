@@ -1,7 +1,7 @@
 use Rattle.std.proofs.Common.{◌≡◌, ◌++◌, map, string_bytes, take}
 use Rattle.std.specs.List.{flat_map}
 use Rattle.testing_rules_excuses.specs.Lines.{origin_line}
-use Rattle.testing_rules_excuses.specs.Origins.{origin_of}
+use Rattle.testing_rules_excuses.specs.steps.Origins.{origin_of}
 use Rattle.testing_rules_excuses.proofs.telling.push_origins.Given as goal
 
 -- the text so far

@@ -1,6 +1,6 @@
 use Rattle.std.proofs.Common.{◌≡◌, ◌++◌, string_bytes, take}
 use Rattle.std.specs.List.{flat_map}
-use Rattle.testing_rules_excuses.specs.Telling.{reason_told}
+use Rattle.testing_rules_excuses.specs.steps.Telling.{reason_told}
 use Rattle.testing_rules_excuses.proofs.telling.push_reasons.Given as goal
 
 -- the text so far

@@ -2,7 +2,7 @@ use Rattle.std.proofs.Common.{sym, ap, ◌∙◌, arith, ◌+◌, ◌∷◌, [],
 use Rattle.std.specs.Vec.Iter.{into_iter_items}
 use Rattle.std.proofs.lemmas.List.{append_assoc, append-nil, nil_from_length}
 use Rattle.testing_rules_model.specs.Covered.{placed_from}
-use Rattle.testing_rules_fact_order.specs.Entries.{placed_at}
+use Rattle.testing_rules_fact_order.specs.steps.Entries.{placed_at}
 use Rattle.testing_rules_fact_order.proofs.entry.placed.Goals as goal
 
 pub binaries-init : goal.binaries-init

@@ -1,7 +1,7 @@
 use Rattle.std.proofs.Common.{◌≡◌, ◌+◌, ◌==◌, arith, find, option_map, slice_get, sym, ap, ◌∙◌}
 use Rattle.deb_control.specs.declared.binary.Binary.{Binary}
 use Rattle.testing_rules_model.specs.Covered.{placed_from}
-use Rattle.testing_rules_fact_order.specs.Entries.{placed_at}
+use Rattle.testing_rules_fact_order.specs.steps.Entries.{placed_at}
 use Rattle.testing_rules_fact_order.proofs.PlacedAt.{none_before, found_at, lent_at}
 use Rattle.testing_rules_fact_order.proofs.restoring.binary_at.Goals as goal
 

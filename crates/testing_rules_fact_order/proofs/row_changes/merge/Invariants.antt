@@ -1,5 +1,5 @@
 use Rattle.std.proofs.Common.{length, ◌-◌, ◌+◌}
-use Rattle.testing_rules_fact_order.specs.Net.{IsNet}
+use Rattle.testing_rules_fact_order.specs.steps.Net.{IsNet}
 use Rattle.testing_rules_fact_order.proofs.row_changes.merge.Given as goal
 
 abbrev pub invariant-turns : goal.invariant-turns

@@ -1,7 +1,7 @@
 use Rattle.std.proofs.Common.{◌≡◌, ◌+◌, ◌-◌, ◌≤◌, ◌++◌, not, filter, length, map, take, vec_len, vec_capacity}
 use Rattle.testing_rules_model.specs.FactRows.{upload_row}
 use Rattle.testing_rules_model.specs.KeptFacts.{counts_beside}
-use Rattle.testing_rules_fact_order.specs.Trimming.{with_sources}
+use Rattle.testing_rules_fact_order.specs.steps.Trimming.{with_sources}
 use Rattle.testing_rules_fact_order.proofs.trimming.note_uncounted.Given as goal
 
 abbrev pub invariant-uploads : goal.invariant-uploads

@@ -1,7 +1,7 @@
 use Rattle.std.proofs.Common.{rules, of_calls}
 use Rattle.std.proofs.lemmas.Fn.{filter_same}
 use Rattle.testing_rules_model.specs.KeptFacts.{counts_beside}
-use Rattle.testing_rules_fact_order.specs.Trimming.{with_sources}
+use Rattle.testing_rules_fact_order.specs.steps.Trimming.{with_sources}
 use Rattle.testing_rules_fact_order.proofs.trimming.trim_uploads.Goals as goal
 
 pub returns-clause-uploads : goal.returns-clause-uploads

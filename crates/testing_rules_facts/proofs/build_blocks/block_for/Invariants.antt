@@ -1,5 +1,5 @@
 use Rattle.std.proofs.Common.{◌≡◌, ◌<◌, ◌≤◌, ◌-◌, [], length, get_or, true, false}
-use Rattle.testing_rules_facts.specs.Blocks.{begins_above}
+use Rattle.testing_rules_facts.specs.steps.Blocks.{begins_above}
 use Rattle.testing_rules_facts.proofs.build_blocks.block_for.Given as goal
 
 -- the block stands from the low place on and before the high one

@@ -1,9 +1,10 @@
 use Rattle.std.proofs.Common.{sym, ap, subst, ◌∙◌, arith, cond, ◌++◌}
 use Rattle.testing_rules_model.specs.Boxed.{unboxed}
 use Rattle.testing_rules_facts.specs.Blocks.{joined}
-use Rattle.testing_rules_facts.specs.ElementShifts.{shift_builds}
+use Rattle.testing_rules_facts.specs.steps.ElementShifts.{shift_builds}
 use Rattle.testing_rules_model.specs.FactOrder.{AreByPair}
-use Rattle.testing_rules_model.specs.WithMessage.{with_build, with_builds, stands_beside}
+use Rattle.testing_rules_model.specs.WithMessage.{with_build, with_builds}
+use Rattle.testing_rules_model.specs.steps.WithMessage.{stands_beside}
 use Rattle.testing_rules_model.proofs.BuildLists.{builds-last}
 use Rattle.testing_rules_facts.proofs.KeySlots.{by_pair-build}
 use Rattle.testing_rules_facts.proofs.ShiftLists.{came-next, left-next, came-passed, left-passed}

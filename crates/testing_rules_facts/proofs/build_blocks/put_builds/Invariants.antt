@@ -1,10 +1,12 @@
 use Rattle.std.proofs.Common.{◌≡◌, ◌+◌, ◌++◌, ◌≤◌, ◌<◌, vec_len}
 use Rattle.std.specs.Prelude.{vec_capacity}
 use Rattle.testing_rules_model.specs.Boxed.{unboxed}
-use Rattle.testing_rules_facts.specs.Blocks.{joined, AreBlocks}
-use Rattle.testing_rules_facts.specs.ElementShifts.{shift_builds}
+use Rattle.testing_rules_facts.specs.Blocks.{joined}
+use Rattle.testing_rules_facts.specs.steps.Blocks.{AreBlocks}
+use Rattle.testing_rules_facts.specs.steps.ElementShifts.{shift_builds}
 use Rattle.testing_rules_model.specs.FactOrder.{AreByPair}
-use Rattle.testing_rules_model.specs.WithMessage.{with_builds, stands_beside}
+use Rattle.testing_rules_model.specs.WithMessage.{with_builds}
+use Rattle.testing_rules_model.specs.steps.WithMessage.{stands_beside}
 use Rattle.testing_rules_facts.proofs.build_blocks.put_builds.Given as goal
 
 -- those left are still to join, there is room for them, and the rows are in order

@@ -1,10 +1,11 @@
 use Rattle.std.proofs.Common.{◌≡◌, ◌∙◌, sym, ap, subst, [], ◌+◌, ◌<◌, List, length, map, set, arith}
 use Rattle.std.specs.List.{insert}
 use Rattle.std.proofs.lemmas.List.{get_or_default, length-set}
-use Rattle.testing_rules_facts.specs.Blocks.{joined, AreBlocks, IsBlockFor}
-use Rattle.testing_rules_facts.specs.ElementShifts.{way_given, come_in}
+use Rattle.testing_rules_facts.specs.Blocks.{joined}
+use Rattle.testing_rules_facts.specs.steps.Blocks.{AreBlocks, IsBlockFor}
+use Rattle.testing_rules_facts.specs.steps.ElementShifts.{way_given, come_in}
 use Rattle.testing_rules_model.specs.FactOrder.{AreByPair}
-use Rattle.testing_rules_model.specs.FactRows.{build_row}
+use Rattle.testing_rules_model.specs.steps.FactRows.{build_row}
 use Rattle.testing_rules_model.specs.WithMessage.{with_build}
 use Rattle.testing_rules_model.specs.Unstable.{pair_of, pair_order, build_order}
 use Rattle.testing_rules_items.specs.Words.{Text}

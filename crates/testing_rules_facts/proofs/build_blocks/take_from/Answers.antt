@@ -1,8 +1,9 @@
 use Rattle.std.proofs.Common.{◌≡◌, ◌∙◌, sym, ap, subst, [], ◌<◌, ◌==◌, List, length, map, filter, not, arith}
 use Rattle.std.proofs.lemmas.List.{get_or_default, get_or-set_same}
-use Rattle.testing_rules_facts.specs.Blocks.{joined, AreBlocks, IsBlockFor}
+use Rattle.testing_rules_facts.specs.Blocks.{joined}
+use Rattle.testing_rules_facts.specs.steps.Blocks.{AreBlocks, IsBlockFor}
 use Rattle.testing_rules_model.specs.FactOrder.{AreByPair}
-use Rattle.testing_rules_model.specs.FactRows.{build_row}
+use Rattle.testing_rules_model.specs.steps.FactRows.{build_row}
 use Rattle.testing_rules_model.specs.WithMessage.{with_drop, outlives}
 use Rattle.testing_rules_model.specs.Unstable.{drop_pair}
 use Rattle.testing_rules_items.specs.Words.{Text}

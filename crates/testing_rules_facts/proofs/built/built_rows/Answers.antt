@@ -3,7 +3,7 @@ use Rattle.testing_rules_model.specs.FactOrder.{AreByPair}
 use Rattle.testing_rules_model.specs.InOrder.{AreByKey}
 use Rattle.testing_rules_model.specs.JudgedRows.{lent}
 use Rattle.testing_rules_model.specs.Unstable.{built_rows}
-use Rattle.testing_rules_facts.specs.SourceFilter.{passing_builds}
+use Rattle.testing_rules_facts.specs.steps.SourceFilter.{passing_builds}
 use Rattle.testing_rules_facts.specs.declared.source_filter.SourceFilter.TheVariants.{Every}
 use Rattle.testing_rules_items.proofs.Weaker.{if_ok_weaker}
 use Rattle.testing_rules_facts.proofs.EveryPassing.{every_passing}

@@ -1,7 +1,7 @@
 use Rattle.std.proofs.Common.{◌≡◌, ◌++◌, take}
 use Rattle.testing_rules_model.specs.JudgedRows.{lent}
-use Rattle.testing_rules_model.specs.Unstable.{built_on}
-use Rattle.testing_rules_facts.specs.SourceFilter.{passing_builds}
+use Rattle.testing_rules_model.specs.steps.Unstable.{built_on}
+use Rattle.testing_rules_facts.specs.steps.SourceFilter.{passing_builds}
 use Rattle.testing_rules_facts.proofs.built.push_built.Given as goal
 
 -- those so far

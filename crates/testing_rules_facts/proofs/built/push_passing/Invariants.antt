@@ -1,7 +1,7 @@
 use Rattle.std.proofs.Common.{◌≡◌, ◌++◌, take, map}
 use Rattle.testing_rules_model.specs.JudgedRows.{lent}
 use Rattle.testing_rules_model.specs.Unstable.{row_at}
-use Rattle.testing_rules_facts.specs.SourceFilter.{passing_builds}
+use Rattle.testing_rules_facts.specs.steps.SourceFilter.{passing_builds}
 use Rattle.testing_rules_facts.proofs.built.push_passing.Given as goal
 
 -- those so far

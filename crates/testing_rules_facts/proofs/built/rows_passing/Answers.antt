@@ -2,8 +2,8 @@ use Rattle.std.proofs.Common.{sym, ap, ◌∙◌, subst, ◌++◌, arith, ◌<�
 use Rattle.std.specs.List.{enumerate_from, flat_map}
 use Rattle.testing_rules_model.specs.InOrder.{AreByKey}
 use Rattle.testing_rules_model.specs.JudgedRows.{lent}
-use Rattle.testing_rules_model.specs.Unstable.{built_on}
-use Rattle.testing_rules_facts.specs.SourceFilter.{passing_builds}
+use Rattle.testing_rules_model.specs.steps.Unstable.{built_on}
+use Rattle.testing_rules_facts.specs.steps.SourceFilter.{passing_builds}
 use Rattle.testing_rules_items.specs.Words.{Text}
 use Rattle.testing_rules_model.proofs.BuiltOrder.{built-by_key}
 use Rattle.testing_rules_model.proofs.BuiltRows.{built-more, built-last}

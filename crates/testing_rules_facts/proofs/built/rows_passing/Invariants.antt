@@ -1,8 +1,8 @@
 use Rattle.std.proofs.Common.{◌≡◌, take}
 use Rattle.std.specs.List.{enumerate_from, flat_map}
 use Rattle.testing_rules_model.specs.JudgedRows.{lent}
-use Rattle.testing_rules_model.specs.Unstable.{built_on}
-use Rattle.testing_rules_facts.specs.SourceFilter.{passing_builds}
+use Rattle.testing_rules_model.specs.steps.Unstable.{built_on}
+use Rattle.testing_rules_facts.specs.steps.SourceFilter.{passing_builds}
 use Rattle.testing_rules_facts.proofs.built.rows_passing.Given as goal
 
 -- those of the architectures so far

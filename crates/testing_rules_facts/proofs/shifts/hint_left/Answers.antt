@@ -1,5 +1,5 @@
 use Rattle.std.proofs.Common.{◌∙◌, sym, ap, ◌∷◌, [], map}
-use Rattle.testing_rules_model.specs.FactRows.{hint_row}
+use Rattle.testing_rules_model.specs.steps.FactRows.{hint_row}
 use Rattle.testing_rules_model.proofs.Orders.{hint_total}
 use Rattle.testing_rules_facts.proofs.PutSlots.{put-tied, put-untied}
 use Rattle.testing_rules_facts.proofs.shifts.hint_left.Goals as goal

@@ -1,5 +1,5 @@
 use Rattle.std.proofs.Common.{◌∙◌, sym, ap, ◌∷◌, [], map}
-use Rattle.testing_rules_model.specs.FactRows.{unhint_row}
+use Rattle.testing_rules_model.specs.steps.FactRows.{unhint_row}
 use Rattle.testing_rules_model.proofs.Orders.{unhint_total}
 use Rattle.testing_rules_facts.proofs.PutSlots.{put-tied, put-untied}
 use Rattle.testing_rules_facts.proofs.shifts.unhint_left.Goals as goal

@@ -1,5 +1,5 @@
 use Rattle.std.proofs.Common.{◌≡◌, take}
-use Rattle.testing_rules_model.specs.SourceFilter.{excused}
+use Rattle.testing_rules_model.specs.steps.SourceFilter.{excused}
 use Rattle.testing_rules_facts.proofs.source_filter.hashes_of_excused.Given as goal
 
 -- those so far

@@ -1,6 +1,6 @@
 use Rattle.std.proofs.Common.{◌≡◌, drop}
 use Rattle.std.specs.List.{list_all}
-use Rattle.testing_rules_model.specs.SourceFilter.{hash_passes}
+use Rattle.testing_rules_model.specs.steps.SourceFilter.{hash_passes}
 use Rattle.testing_rules_facts.proofs.source_filter.hashes_pass.Given as goal
 
 -- the rest decides

@@ -1,6 +1,6 @@
 use Rattle.std.proofs.Common.{◌≡◌, take}
 use Rattle.testing_rules_model.specs.JudgedRows.{lent}
-use Rattle.testing_rules_model.specs.SourceFilter.{passing_rows}
+use Rattle.testing_rules_model.specs.steps.SourceFilter.{passing_rows}
 use Rattle.testing_rules_facts.proofs.source_filter.passing_rows.Given as goal
 
 -- those so far

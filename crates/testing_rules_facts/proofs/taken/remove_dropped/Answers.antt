@@ -1,7 +1,7 @@
 use Rattle.std.proofs.Common.{◌≡◌, ◌∙◌, sym, ap, cond, ◌∷◌, [], ◌<◌, length, get_or, map, true, false}
 use Rattle.std.specs.List.{remove}
 use Rattle.std.specs.declared.cmp.Ordering.TheVariants.{Equal}
-use Rattle.testing_rules_model.specs.FactRows.{build_row}
+use Rattle.testing_rules_model.specs.steps.FactRows.{build_row}
 use Rattle.testing_rules_model.specs.WithMessage.{outlives}
 use Rattle.testing_rules_model.specs.Unstable.{pair_order, pair_of, drop_pair}
 use Rattle.testing_rules_model.proofs.MoreMail.{pair_total}

@@ -4,7 +4,7 @@ use Rattle.std.specs.declared.cmp.Ordering.TheVariants.{Equal}
 use Rattle.testing_rules_model.specs.Boxed.{unboxed}
 use Rattle.std.specs.Ordering.{nat_cmp}
 use Rattle.std.proofs.lemmas.Cmp.{nat_cmp_total}
-use Rattle.testing_rules_model.specs.FactRows.{bug_row}
+use Rattle.testing_rules_model.specs.steps.FactRows.{bug_row}
 use Rattle.testing_rules_model.specs.Unstable.{bug_order}
 use Rattle.testing_rules_model.specs.declared.facts.BugIn.{BugIn}
 use Rattle.testing_rules_model.proofs.Unboxed.{unboxed-at, unboxed-length}

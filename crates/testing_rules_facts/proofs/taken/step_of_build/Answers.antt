@@ -3,7 +3,7 @@ use Rattle.std.specs.List.Sorted.{IsPartitionPoint}
 use Rattle.std.specs.Ordering.{is_lt}
 use Rattle.std.specs.declared.cmp.Ordering.TheVariants.{Less, Equal, Greater}
 use Rattle.deb_control.specs.declared.binary.Binary.{Binary}
-use Rattle.testing_rules_model.specs.FactRows.{build_row}
+use Rattle.testing_rules_model.specs.steps.FactRows.{build_row}
 use Rattle.testing_rules_model.specs.Unstable.{pair_order, pair_of, build_order}
 use Rattle.testing_rules_model.specs.declared.facts.BuildIn.{BuildIn}
 use Rattle.testing_rules_model.proofs.MoreMail.{pair_total}

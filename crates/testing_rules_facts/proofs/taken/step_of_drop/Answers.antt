@@ -3,7 +3,7 @@ use Rattle.std.specs.List.Sorted.{IsPartitionPoint}
 use Rattle.std.specs.Ordering.{is_lt}
 use Rattle.std.specs.declared.cmp.Ordering.TheVariants.{Less, Equal, Greater}
 use Rattle.testing_rules_model.specs.Boxed.{unboxed}
-use Rattle.testing_rules_model.specs.FactRows.{drop_row}
+use Rattle.testing_rules_model.specs.steps.FactRows.{drop_row}
 use Rattle.testing_rules_model.specs.Unstable.{pair_order, drop_pair, drop_order}
 use Rattle.testing_rules_model.specs.declared.facts.DropIn.{DropIn}
 use Rattle.testing_rules_model.proofs.MoreMail.{pair_total}

@@ -4,7 +4,7 @@ use Rattle.std.specs.Ordering.{is_lt}
 use Rattle.std.specs.declared.cmp.Ordering.TheVariants.{Less, Equal, Greater}
 use Rattle.testing_rules_model.specs.Boxed.{unboxed}
 use Rattle.testing_rules_items.specs.Words.{byte_cmp}
-use Rattle.testing_rules_model.specs.FactRows.{source_row}
+use Rattle.testing_rules_model.specs.steps.FactRows.{source_row}
 use Rattle.testing_rules_model.specs.Unstable.{upload_order}
 use Rattle.testing_rules_model.specs.declared.facts.UploadIn.{UploadIn}
 use Rattle.testing_rules_model.proofs.Orders.{text_order}

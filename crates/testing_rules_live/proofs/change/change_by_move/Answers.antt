@@ -1,7 +1,7 @@
 use Rattle.std.proofs.Common.{◌∙◌, sym, ap, subst, ◌<◌, ◌++◌, length}
 use Rattle.std.specs.List.{All}
 use Rattle.testing_rules_model.specs.Boxed.{unboxed}
-use Rattle.testing_rules_suites.specs.Changes.{gives_way_to, AreThose, IsMoveOf}
+use Rattle.testing_rules_suites.specs.steps.Changes.{gives_way_to, AreThose, IsMoveOf}
 use Rattle.testing_rules_model.specs.Moves.{group_sources}
 use Rattle.testing_rules_suites.proofs.Changing.{coming_within, all_that_leave}
 use Rattle.testing_rules_suites.proofs.Suites.{move_within}

@@ -2,7 +2,7 @@ use Rattle.std.proofs.Common.{arith, ◌∙◌, sym, ap, subst, ℕ, ◌+◌, �
 use Rattle.std.specs.Option.{option_copied}
 use Rattle.testing_rules_model.specs.Boxed.{unboxed}
 use Rattle.testing_rules_model.specs.declared.facts.UploadIn.{UploadIn}
-use Rattle.testing_rules_suites.specs.Changes.{comes_at, AreThose}
+use Rattle.testing_rules_suites.specs.steps.Changes.{comes_at, AreThose}
 use Rattle.testing_rules_model.specs.Moves.{source_in, group_sources}
 use Rattle.testing_rules_suites.proofs.Changing.{those_more, coming_among}
 use Rattle.testing_rules_items.proofs.Grouping.{group-none, group-some}

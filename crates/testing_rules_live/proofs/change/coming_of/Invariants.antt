@@ -1,6 +1,6 @@
 use Rattle.std.proofs.Common.{take}
 use Rattle.testing_rules_model.specs.Boxed.{unboxed}
-use Rattle.testing_rules_suites.specs.Changes.{comes_at, AreThose}
+use Rattle.testing_rules_suites.specs.steps.Changes.{comes_at, AreThose}
 use Rattle.testing_rules_model.specs.Moves.{group_sources}
 use Rattle.testing_rules_live.proofs.change.coming_of.Given as goal
 

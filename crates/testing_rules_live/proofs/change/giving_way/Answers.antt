@@ -4,7 +4,7 @@ use Rattle.std.specs.Option.{option_map_or}
 use Rattle.std.proofs.lemmas.List.{take_more, take_all}
 use Rattle.deb_control.specs.declared.binary.Binary.{Binary}
 use Rattle.testing_rules_model.specs.declared.suite.RowIn.{RowIn}
-use Rattle.testing_rules_suites.specs.Changes.{gives_way_to, stands_for, AreThose}
+use Rattle.testing_rules_suites.specs.steps.Changes.{gives_way_to, stands_for, AreThose}
 use Rattle.testing_rules_model.specs.JudgedRows.{row_of}
 use Rattle.testing_rules_suites.proofs.Changing.{those_more, giving_way_among}
 use Rattle.testing_rules_live.proofs.Unmet.{bears_own}

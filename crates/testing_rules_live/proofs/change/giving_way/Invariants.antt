@@ -1,5 +1,5 @@
 use Rattle.std.proofs.Common.{take}
-use Rattle.testing_rules_suites.specs.Changes.{gives_way_to, AreThose}
+use Rattle.testing_rules_suites.specs.steps.Changes.{gives_way_to, AreThose}
 use Rattle.testing_rules_live.proofs.change.giving_way.Given as goal
 
 -- those so far

@@ -1,5 +1,5 @@
 use Rattle.std.proofs.Common.{◌≡◌, ◌++◌, take, filter}
-use Rattle.testing_rules_suites.specs.Changes.{comes_at}
+use Rattle.testing_rules_suites.specs.steps.Changes.{comes_at}
 use Rattle.testing_rules_live.proofs.change.push_coming.Given as goal
 
 -- those so far

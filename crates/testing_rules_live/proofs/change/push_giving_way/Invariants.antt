@@ -1,5 +1,5 @@
 use Rattle.std.proofs.Common.{◌≡◌, ◌++◌, take, filter}
-use Rattle.testing_rules_suites.specs.Changes.{stands_for}
+use Rattle.testing_rules_suites.specs.steps.Changes.{stands_for}
 use Rattle.testing_rules_model.specs.JudgedRows.{row_of}
 use Rattle.testing_rules_live.proofs.change.push_giving_way.Given as goal
 

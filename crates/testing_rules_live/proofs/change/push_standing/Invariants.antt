@@ -1,5 +1,5 @@
 use Rattle.std.proofs.Common.{◌≡◌, ◌++◌, take, filter}
-use Rattle.testing_rules_suites.specs.Changes.{stands_of}
+use Rattle.testing_rules_suites.specs.steps.Changes.{stands_of}
 use Rattle.testing_rules_live.proofs.change.push_standing.Given as goal
 
 -- those so far

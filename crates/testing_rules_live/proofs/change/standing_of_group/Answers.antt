@@ -1,6 +1,6 @@
 use Rattle.std.proofs.Common.{arith, ◌≡◌, ◌∙◌, sym, ap, subst, ℕ, ◌+◌, ◌<◌, true, Bool, [], ◌∷◌, ◌++◌, length, take, filter, Contains, ◌≤◌}
 use Rattle.std.proofs.lemmas.List.{take_more, take_all}
-use Rattle.testing_rules_suites.specs.Changes.{stands_of, AreThose}
+use Rattle.testing_rules_suites.specs.steps.Changes.{stands_of, AreThose}
 use Rattle.testing_rules_items.specs.Words.{Text}
 use Rattle.testing_rules_suites.proofs.Changing.{those_more, standing_among}
 use Rattle.testing_rules_live.proofs.change.standing_of_group.Goals as goal

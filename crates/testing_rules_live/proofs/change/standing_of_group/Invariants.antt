@@ -1,5 +1,5 @@
 use Rattle.std.proofs.Common.{take}
-use Rattle.testing_rules_suites.specs.Changes.{stands_of, AreThose}
+use Rattle.testing_rules_suites.specs.steps.Changes.{stands_of, AreThose}
 use Rattle.testing_rules_live.proofs.change.standing_of_group.Given as goal
 
 -- those so far

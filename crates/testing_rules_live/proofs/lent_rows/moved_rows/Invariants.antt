@@ -1,7 +1,7 @@
 use Rattle.std.proofs.Common.{◌≡◌, take, filter, not}
 use Rattle.std.specs.List.{flat_map}
 use Rattle.testing_rules_model.specs.Boxed.{unboxed}
-use Rattle.testing_rules_suites.specs.AfterMoves.{with_rows}
+use Rattle.testing_rules_suites.specs.steps.AfterMoves.{with_rows}
 use Rattle.testing_rules_model.specs.InOrder.{AreByKey}
 use Rattle.testing_rules_model.specs.JudgedRows.{lent}
 use Rattle.testing_rules_model.specs.Moves.{group_sources, is_row_of}

@@ -1,5 +1,5 @@
 use Rattle.std.proofs.Common.{◌≡◌, take, filter}
-use Rattle.testing_rules_suites.specs.AfterMoves.{with_rows}
+use Rattle.testing_rules_suites.specs.steps.AfterMoves.{with_rows}
 use Rattle.testing_rules_model.specs.InOrder.{AreByKey}
 use Rattle.testing_rules_model.specs.JudgedRows.{lent}
 use Rattle.testing_rules_model.specs.Unstable.{is_current}

@@ -6,7 +6,7 @@ use Rattle.testing_rules_items.specs.Words.{Text}
 use Rattle.testing_rules_model.specs.declared.suite.RowIn.{RowIn}
 use Rattle.testing_rules_model.specs.JudgedRows.{lent}
 use Rattle.testing_rules_model.specs.Moves.{is_row_of}
-use Rattle.testing_rules_suites.specs.AfterMoves.{rows_without}
+use Rattle.testing_rules_suites.specs.steps.AfterMoves.{rows_without}
 use Rattle.testing_rules_live.proofs.lent_rows.rows_without.Goals as goal
 
 or_false : (b : Bool) → (b || false) ≡ b

@@ -2,7 +2,7 @@ use Rattle.std.proofs.Common.{◌≡◌, ◌∙◌, ap, subst}
 use Rattle.std.specs.Prelude.{IfOk, List}
 use Rattle.testing_rules_model.specs.declared.suite.RowIn.{RowIn}
 use Rattle.testing_rules_model.specs.JudgedRows.{lent}
-use Rattle.testing_rules_suites.specs.AfterMoves.{rows_without}
+use Rattle.testing_rules_suites.specs.steps.AfterMoves.{rows_without}
 use Rattle.testing_rules_live.proofs.live_rows.list_without.Goals as goal
 
 pub returns : goal.returns

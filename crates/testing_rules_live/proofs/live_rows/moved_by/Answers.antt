@@ -2,11 +2,11 @@ use Rattle.std.proofs.Common.{◌∙◌, sym, ap, subst, []}
 use Rattle.testing_rules_model.specs.Boxed.{unboxed}
 use Rattle.testing_rules_model.specs.JudgedRows.{lent}
 use Rattle.testing_rules_model.specs.Suite.{Suite}
-use Rattle.testing_rules_suites.specs.AfterMoves.{moved_rows}
-use Rattle.testing_rules_suites.specs.PresentSteps.{IsLive, present_rows}
+use Rattle.testing_rules_suites.specs.steps.AfterMoves.{moved_rows}
+use Rattle.testing_rules_suites.specs.steps.PresentSteps.{IsLive, present_rows}
 use Rattle.testing_rules_suites.proofs.Alive.{move_live, move_stands}
 use Rattle.testing_rules_suites.proofs.Showing.{present_rows-by_key}
-use Rattle.testing_rules_live.specs.Held.{held, AreLive, IsPoolMove, IsChangeBy}
+use Rattle.testing_rules_live.specs.steps.Held.{held, AreLive, IsPoolMove, IsChangeBy}
 use Rattle.testing_rules_live.proofs.live_rows.moved_by.Goals as goal
 
 pub returns-in_ok-suites-in-Pooled-clause-rows : goal.returns-in_ok-suites-in-Pooled-clause-rows

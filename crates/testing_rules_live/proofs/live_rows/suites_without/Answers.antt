@@ -1,8 +1,8 @@
 use Rattle.std.proofs.Common.{◌≡◌, ◌∙◌, sym, ap, subst, List, []}
 use Rattle.testing_install.specs.Among.{after_change}
 use Rattle.testing_rules_model.specs.declared.suite.RowIn.{RowIn}
-use Rattle.testing_rules_suites.specs.AfterMoves.{rows_without}
-use Rattle.testing_rules_suites.specs.PresentSteps.{IsLive, PoolState, present_rows}
+use Rattle.testing_rules_suites.specs.steps.AfterMoves.{rows_without}
+use Rattle.testing_rules_suites.specs.steps.PresentSteps.{IsLive, PoolState, present_rows}
 use Rattle.testing_rules_model.specs.Suite.{Suite}
 use Rattle.testing_rules_items.specs.Words.{Text}
 use Rattle.testing_rules_suites.proofs.Alive.{removal_live, removal_stands}

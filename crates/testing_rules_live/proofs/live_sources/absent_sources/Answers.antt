@@ -1,7 +1,7 @@
 use Rattle.std.proofs.Common.{◌≡◌, sym, ap, ◌∙◌, ◌++◌, ◌∷◌, [], List, map, take, get_or, Box}
 use Rattle.std.proofs.lemmas.List.{take_more, map-append}
 use Rattle.std.proofs.lemmas.List.Elements.{filter_map-append}
-use Rattle.testing_rules_live.specs.LiveSources.{name_of, source_of, sources_of}
+use Rattle.testing_rules_live.specs.steps.LiveSources.{name_of, source_of, sources_of}
 use Rattle.testing_rules_live.specs.declared.live_sources.Slot.TheVariants.{Absent}
 use Rattle.testing_rules_items.specs.Words.{Text}
 use Rattle.testing_rules_model.specs.Boxed.{unboxed}

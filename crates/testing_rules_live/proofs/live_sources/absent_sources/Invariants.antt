@@ -1,7 +1,7 @@
 use Rattle.std.proofs.Common.{◌≡◌, take, map, []}
 use Rattle.testing_rules_model.specs.Boxed.{unboxed}
 use Rattle.testing_rules_model.specs.declared.facts.UploadIn.{UploadIn}
-use Rattle.testing_rules_live.specs.LiveSources.{name_of, sources_of}
+use Rattle.testing_rules_live.specs.steps.LiveSources.{name_of, sources_of}
 use Rattle.testing_rules_live.proofs.live_sources.absent_sources.Given as goal
 
 -- those so far

@@ -1,6 +1,6 @@
 use Rattle.std.proofs.Common.{sym, ap, ◌∙◌, ◌++◌, ◌∷◌, [], List}
 use Rattle.std.specs.Option.{option_copied}
-use Rattle.testing_rules_live.specs.LiveSources.{source_of}
+use Rattle.testing_rules_live.specs.steps.LiveSources.{source_of}
 use Rattle.testing_rules_items.proofs.Grouping.{group-some, group-none}
 use Rattle.testing_rules_model.specs.declared.suite.SourceIn.{SourceIn}
 use Rattle.testing_rules_live.proofs.live_sources.copy_sources.Goals as goal

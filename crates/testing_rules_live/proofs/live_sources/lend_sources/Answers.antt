@@ -1,5 +1,5 @@
 use Rattle.std.proofs.Common.{refl, ap, ◌∙◌, take}
-use Rattle.testing_rules_live.specs.LiveSources.{sources_of}
+use Rattle.testing_rules_live.specs.steps.LiveSources.{sources_of}
 use Rattle.testing_rules_live.proofs.LiveSlots.{sources-put, sources-next}
 use Rattle.testing_rules_model.specs.Moves.{put_source}
 use Rattle.testing_rules_live.proofs.live_sources.lend_sources.Goals as goal

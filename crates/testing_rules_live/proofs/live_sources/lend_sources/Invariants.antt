@@ -1,5 +1,5 @@
 use Rattle.std.proofs.Common.{◌≡◌, take}
-use Rattle.testing_rules_live.specs.LiveSources.{sources_of, AreSlots}
+use Rattle.testing_rules_live.specs.steps.LiveSources.{sources_of, AreSlots}
 use Rattle.testing_rules_live.proofs.live_sources.lend_sources.Given as goal
 
 -- those so far

@@ -1,7 +1,7 @@
 use Rattle.std.proofs.Common.{arith, refl, ◌∙◌, sym, ap, subst, ◌<◌, length, List, fold, ◌≤◌}
 use Rattle.std.specs.Option.{option_copied}
 use Rattle.testing_rules_model.specs.Boxed.{unboxed}
-use Rattle.testing_rules_live.specs.LiveSources.{sources_of, AreSlots}
+use Rattle.testing_rules_live.specs.steps.LiveSources.{sources_of, AreSlots}
 use Rattle.testing_rules_live.proofs.LiveSlots.{sources-put}
 use Rattle.testing_rules_model.specs.Moves.{source_in, put_source, as_source}
 use Rattle.testing_rules_model.specs.declared.facts.UploadIn.{UploadIn}

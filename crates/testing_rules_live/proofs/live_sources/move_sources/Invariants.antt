@@ -1,7 +1,7 @@
 use Rattle.std.proofs.Common.{◌≡◌, take}
 use Rattle.testing_rules_model.specs.Boxed.{unboxed}
-use Rattle.testing_rules_suites.specs.AfterMoves.{sources_after}
-use Rattle.testing_rules_live.specs.LiveSources.{sources_of, AreSlots}
+use Rattle.testing_rules_suites.specs.steps.AfterMoves.{sources_after}
+use Rattle.testing_rules_live.specs.steps.LiveSources.{sources_of, AreSlots}
 use Rattle.testing_rules_live.proofs.live_sources.move_sources.Given as goal
 
 -- those so far

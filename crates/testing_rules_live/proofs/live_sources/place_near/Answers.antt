@@ -1,6 +1,6 @@
 use Rattle.std.proofs.Common.{rules, of_calls}
 use Rattle.std.proofs.lemmas.Fn.{always_returns_same}
-use Rattle.testing_rules_live.specs.LiveSources.{name_of}
+use Rattle.testing_rules_live.specs.steps.LiveSources.{name_of}
 use Rattle.testing_rules_items.specs.Words.{byte_cmp}
 use Rattle.testing_rules_live.specs.declared.live_sources.Slot.{Slot}
 use Rattle.testing_rules_live.proofs.live_sources.place_near.Goals as goal

@@ -1,5 +1,5 @@
 use Rattle.std.proofs.Common.{sym, ◌∙◌, subst}
-use Rattle.testing_rules_live.specs.LiveSources.{AreSlots}
+use Rattle.testing_rules_live.specs.steps.LiveSources.{AreSlots}
 use Rattle.testing_rules_live.proofs.LiveSlots.{put-over, put-before, slots-put}
 use Rattle.testing_rules_live.proofs.live_sources.put_slot.Goals as goal
 

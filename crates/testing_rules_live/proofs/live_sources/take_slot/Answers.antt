@@ -4,7 +4,7 @@ use Rattle.std.specs.List.{remove}
 use Rattle.std.specs.Ordering.{is_eq}
 use Rattle.std.specs.Str.{bytes_eq}
 use Rattle.std.proofs.lemmas.Map.Text.{is_eq-slice_cmp}
-use Rattle.testing_rules_live.specs.LiveSources.{name_of, AreSlots}
+use Rattle.testing_rules_live.specs.steps.LiveSources.{name_of, AreSlots}
 use Rattle.testing_rules_live.specs.declared.live_sources.Slot.{Slot}
 use Rattle.testing_rules_live.proofs.LiveSlots.{slots-left}
 use Rattle.testing_rules_model.proofs.KeyOrder.{searchable}

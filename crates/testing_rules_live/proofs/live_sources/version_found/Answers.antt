@@ -3,7 +3,7 @@ use Rattle.std.specs.List.Sorted.{IsBinarySearchResult, IsSearchInRange}
 use Rattle.std.specs.Option.{option_copied}
 use Rattle.testing_rules_items.specs.Words.{byte_cmp}
 use Rattle.testing_rules_model.specs.declared.suite.SourceIn.{SourceIn}
-use Rattle.testing_rules_live.specs.LiveSources.{name_of, source_of}
+use Rattle.testing_rules_live.specs.steps.LiveSources.{name_of, source_of}
 use Rattle.testing_rules_live.proofs.LiveSlots.{source-found, source-missing}
 use Rattle.testing_rules_live.proofs.live_sources.version_found.Goals as goal
 

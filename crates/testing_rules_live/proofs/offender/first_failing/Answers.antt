@@ -1,9 +1,10 @@
 use Rattle.std.proofs.Common.{arith, ◌∙◌, sym, ap, ◌<◌, length, get_or, Some, true, false}
 use Rattle.std.specs.Option.{option_copied}
 use Rattle.deb_control.specs.declared.binary.Binary.{Binary}
-use Rattle.testing_rules_items.specs.Words.{byte_cmp, first_of_two}
+use Rattle.testing_rules_items.specs.Words.{byte_cmp}
+use Rattle.testing_rules_items.specs.steps.Words.{first_of_two}
 use Rattle.testing_rules_model.specs.Moves.{fails_on}
-use Rattle.testing_rules_suites.specs.JudgedRows.{answer, answers}
+use Rattle.testing_rules_suites.specs.steps.JudgedRows.{answer, answers}
 use Rattle.testing_rules_suites.proofs.Failing.{first_failing-more}
 use Rattle.testing_rules_live.proofs.offender.first_failing.Goals as goal
 use Rattle.testing_rules_live.proofs.offender.first_failing.Goals.{then-fails_on, else-fails_on}

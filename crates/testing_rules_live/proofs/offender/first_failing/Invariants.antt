@@ -1,7 +1,7 @@
 use Rattle.std.proofs.Common.{◌≡◌, take}
 use Rattle.std.specs.Option.{option_copied}
 use Rattle.testing_rules_model.specs.Moves as moves
-use Rattle.testing_rules_suites.specs.JudgedRows.{answers}
+use Rattle.testing_rules_suites.specs.steps.JudgedRows.{answers}
 use Rattle.testing_rules_live.proofs.offender.first_failing.Given as goal
 
 -- the first so far

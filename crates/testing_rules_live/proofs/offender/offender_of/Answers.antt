@@ -4,7 +4,7 @@ use Rattle.std.specs.Option.{option_copied}
 use Rattle.testing_rules_model.specs.Moves.{offender_on}
 use Rattle.testing_rules_items.specs.Words.{Text}
 use Rattle.testing_rules_model.specs.declared.update.Offender.{Offender}
-use Rattle.testing_rules_suites.specs.JudgedRows.{answers}
+use Rattle.testing_rules_suites.specs.steps.JudgedRows.{answers}
 use Rattle.testing_rules_model.specs.JudgedRows.{lent}
 use Rattle.testing_rules_suites.proofs.Failing.{first_of-next, first_of-found, offender_on-none, offender_on-some}
 use Rattle.testing_rules_live.proofs.offender.offender_of.Goals as goal

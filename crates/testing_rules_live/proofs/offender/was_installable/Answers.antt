@@ -1,7 +1,7 @@
 use Rattle.std.proofs.Common.{arith, ◌≡◌, ◌∙◌, sym, ap, ◌&&◌, true, Bool, ◌<◌, length}
 use Rattle.std.proofs.lemmas.List.Folds.{list_any_at}
 use Rattle.testing_rules_model.specs.Moves.{is_same_key, RowAnswer as Answer}
-use Rattle.testing_rules_suites.specs.JudgedRows.{answer}
+use Rattle.testing_rules_suites.specs.steps.JudgedRows.{answer}
 use Rattle.testing_rules_model.specs.JudgedRows.{row_of}
 use Rattle.testing_rules_suites.specs.declared.offender.RowAnswer.{RowAnswer}
 use Rattle.testing_rules_items.proofs.Tests.{list_any-map, both_true}

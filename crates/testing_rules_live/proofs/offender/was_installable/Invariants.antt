@@ -1,6 +1,6 @@
 use Rattle.std.proofs.Common.{◌≡◌, take, false}
 use Rattle.testing_rules_model.specs.Moves.{was_installable}
-use Rattle.testing_rules_suites.specs.JudgedRows.{answers}
+use Rattle.testing_rules_suites.specs.steps.JudgedRows.{answers}
 use Rattle.testing_rules_model.specs.JudgedRows.{row_of}
 use Rattle.testing_rules_live.proofs.offender.was_installable.Given as goal
 

@@ -1,6 +1,6 @@
 use Rattle.std.proofs.Common.{◌≡◌, ◌++◌, drop}
 use Rattle.testing_rules_model.specs.Moves as moves
-use Rattle.testing_rules_suites.specs.JudgedRows.{answers}
+use Rattle.testing_rules_suites.specs.steps.JudgedRows.{answers}
 use Rattle.testing_rules_model.specs.JudgedRows.{lent}
 use Rattle.testing_rules_live.proofs.offender.with_answers.Given as goal
 

@@ -1,5 +1,5 @@
 use Rattle.std.proofs.Common.{◌∙◌, ap}
-use Rattle.testing_rules_moves.specs.Runs.{broken_by_move}
+use Rattle.testing_rules_moves.specs.steps.Runs.{broken_by_move}
 use Rattle.testing_rules_moves.proofs.beside.group_breaks.Goals as goal
 
 pub returns-clause-offender : goal.returns-clause-offender

@@ -3,9 +3,9 @@ use Rattle.testing_rules_model.specs.Boxed.{unboxed}
 use Rattle.testing_rules_model.specs.JudgedRows.{lent}
 use Rattle.testing_rules_model.specs.declared.update.Offender.{Offender}
 use Rattle.testing_rules_model.specs.Moves.{move_group, offender_of}
-use Rattle.testing_rules_suites.specs.PresentSteps.{present_rows}
+use Rattle.testing_rules_suites.specs.steps.PresentSteps.{present_rows}
 use Rattle.testing_rules_model.specs.Suite.{Suite}
-use Rattle.testing_rules_suites.specs.Tried.{first_told}
+use Rattle.testing_rules_suites.specs.steps.Tried.{first_told}
 use Rattle.testing_rules_suites.proofs.Alive.{failing, move_told}
 use Rattle.testing_rules_items.proofs.Weaker.{if_ok_weaker}
 use Rattle.testing_rules_moves.proofs.breaking.broken_by_change.Goals as goal

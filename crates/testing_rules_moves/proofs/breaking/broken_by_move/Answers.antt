@@ -1,6 +1,6 @@
 use Rattle.std.proofs.Common.{sym, subst, IfOk, IfSome}
 use Rattle.testing_rules_model.specs.Boxed.{unboxed}
-use Rattle.testing_rules_live.specs.Held.{IsChangeBy}
+use Rattle.testing_rules_live.specs.steps.Held.{IsChangeBy}
 use Rattle.testing_rules_moves.proofs.breaking.broken_by_move.Goals as goal
 
 pub returns-in-Pooled-clause-change : goal.returns-in-Pooled-clause-change

@@ -1,9 +1,9 @@
 use Rattle.std.proofs.Common.{◌≡◌, ◌∙◌, sym, ap, subst, [], Option}
 use Rattle.testing_rules_model.specs.declared.update.Offender.{Offender}
 use Rattle.testing_rules_model.specs.Moves.{remove_source, offender_of}
-use Rattle.testing_rules_suites.specs.PresentSteps.{present_rows}
+use Rattle.testing_rules_suites.specs.steps.PresentSteps.{present_rows}
 use Rattle.testing_rules_model.specs.Suite.{Suite}
-use Rattle.testing_rules_suites.specs.Tried.{first_told, IsWithin, Tells}
+use Rattle.testing_rules_suites.specs.steps.Tried.{first_told, IsWithin, Tells}
 use Rattle.testing_rules_suites.proofs.Alive.{failing, removal_told}
 use Rattle.testing_rules_items.proofs.Weaker.{if_ok_weaker}
 use Rattle.testing_rules_moves.proofs.breaking.broken_in_suites_by_removal.Goals as goal

@@ -3,7 +3,7 @@ use Rattle.testing_rules_items.proofs.Weaker.{if_ok_weaker}
 use Rattle.testing_rules_live.proofs.Unmet.{if_some_weaker}
 use Rattle.testing_rules_model.specs.Boxed.{unboxed}
 use Rattle.testing_rules_model.specs.JudgedRows.{lent}
-use Rattle.testing_rules_suites.specs.PresentSteps.{present_rows}
+use Rattle.testing_rules_suites.specs.steps.PresentSteps.{present_rows}
 use Rattle.testing_rules_moves.proofs.Lacking.{lack_told}
 use Rattle.testing_rules_moves.proofs.breaking.lack_told.Goals as goal
 

@@ -3,8 +3,8 @@ use Rattle.std.proofs.lemmas.List.{take_all}
 use Rattle.std.specs.List.{slice_get}
 use Rattle.testing_rules_items.proofs.Grouping.{group-some}
 use Rattle.testing_rules_model.specs.JudgedRows.{row_of}
-use Rattle.testing_rules_suites.specs.AfterMoves.{rows_at}
-use Rattle.testing_rules_moves.specs.Refusals.{AreWoken, woken_by}
+use Rattle.testing_rules_suites.specs.steps.AfterMoves.{rows_at}
+use Rattle.testing_rules_moves.specs.steps.Refusals.{AreWoken, woken_by}
 use Rattle.testing_rules_moves.proofs.Remembering.{woken_none, woken_more}
 use Rattle.testing_rules_moves.proofs.breaking.wake_among.Goals as goal
 

@@ -1,6 +1,6 @@
 use Rattle.std.proofs.Common.{take}
-use Rattle.testing_rules_suites.specs.AfterMoves.{rows_at}
-use Rattle.testing_rules_moves.specs.Refusals.{AreWoken}
+use Rattle.testing_rules_suites.specs.steps.AfterMoves.{rows_at}
+use Rattle.testing_rules_moves.specs.steps.Refusals.{AreWoken}
 use Rattle.testing_rules_moves.proofs.breaking.wake_among.Given as goal
 
 -- those so far

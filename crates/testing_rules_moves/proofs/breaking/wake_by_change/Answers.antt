@@ -1,9 +1,9 @@
 use Rattle.std.proofs.Common.{subst, IfSome}
-use Rattle.testing_rules_live.specs.Held.{AreLive, IsPoolMove, IsChangeBy}
-use Rattle.testing_rules_suites.specs.AfterMoves.{rows_at}
-use Rattle.testing_rules_suites.specs.PresentSteps.{IsLive, present_rows}
-use Rattle.testing_rules_suites.specs.Tried.{IsWithin}
-use Rattle.testing_rules_moves.specs.Refusals.{IsWithinRows}
+use Rattle.testing_rules_live.specs.steps.Held.{AreLive, IsPoolMove, IsChangeBy}
+use Rattle.testing_rules_suites.specs.steps.AfterMoves.{rows_at}
+use Rattle.testing_rules_suites.specs.steps.PresentSteps.{IsLive, present_rows}
+use Rattle.testing_rules_suites.specs.steps.Tried.{IsWithin}
+use Rattle.testing_rules_moves.specs.steps.Refusals.{IsWithinRows}
 use Rattle.testing_rules_moves.proofs.Lacking.{rows_came}
 use Rattle.testing_rules_moves.proofs.Remembering.{woken_all, woken_of_part}
 use Rattle.testing_rules_moves.proofs.breaking.wake_by_change.Goals as goal

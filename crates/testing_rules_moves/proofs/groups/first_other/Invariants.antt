@@ -1,7 +1,7 @@
 use Rattle.std.proofs.Common.{◌≡◌, drop, not}
 use Rattle.std.specs.Prelude.{find}
 use Rattle.testing_rules_model.specs.Updates.{is_candidate}
-use Rattle.testing_rules_moves.specs.LentItems.{items_of}
+use Rattle.testing_rules_moves.specs.steps.LentItems.{items_of}
 use Rattle.testing_rules_moves.proofs.groups.first_other.Given as goal
 
 -- none so far

@@ -1,6 +1,6 @@
 use Rattle.std.proofs.Common.{◌≡◌, take, filter, not}
 use Rattle.testing_rules_model.specs.Updates.{is_in_testing}
-use Rattle.testing_rules_moves.specs.LentItems.{items_of}
+use Rattle.testing_rules_moves.specs.steps.LentItems.{items_of}
 use Rattle.testing_rules_moves.proofs.groups.items_left.Given as goal
 
 -- those so far

@@ -2,7 +2,7 @@ use Rattle.std.proofs.Common.{arith, ◌∙◌, sym, ap, ◌<◌, length, [], �
 use Rattle.std.specs.Option.{option_copied}
 use Rattle.testing_rules_model.specs.Boxed.{unboxed}
 use Rattle.testing_rules_model.specs.Moves.{source_in}
-use Rattle.testing_rules_model.specs.LentItems.{as_moved}
+use Rattle.testing_rules_model.specs.steps.LentItems.{as_moved}
 use Rattle.testing_rules_items.proofs.Grouping.{group-none, map-more}
 use Rattle.std.proofs.lemmas.List.{take_all}
 use Rattle.testing_rules_moves.proofs.groups.moved_items.Goals as goal

@@ -1,7 +1,7 @@
 use Rattle.std.proofs.Common.{◌≡◌, take, map}
 use Rattle.testing_rules_model.specs.Boxed.{unboxed}
 use Rattle.testing_rules_model.specs.Moves.{group_sources}
-use Rattle.testing_rules_model.specs.LentItems.{as_moved}
+use Rattle.testing_rules_model.specs.steps.LentItems.{as_moved}
 use Rattle.testing_rules_moves.proofs.groups.moved_items.Given as goal
 
 -- those so far

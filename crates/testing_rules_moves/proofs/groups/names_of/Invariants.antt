@@ -1,5 +1,5 @@
 use Rattle.std.proofs.Common.{◌≡◌, take, map}
-use Rattle.testing_rules_moves.specs.LentItems.{items_of}
+use Rattle.testing_rules_moves.specs.steps.LentItems.{items_of}
 use Rattle.testing_rules_moves.proofs.groups.names_of.Given as goal
 
 -- those so far

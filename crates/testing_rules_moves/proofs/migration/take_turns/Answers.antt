@@ -1,8 +1,9 @@
 use Rattle.std.proofs.Common.{◌∙◌, ap, filter, List}
 use Rattle.testing_rules_model.specs.declared.facts.UnhintIn.{UnhintIn}
-use Rattle.testing_rules_moves.specs.Runs.{Run, after_turns, go_on}
+use Rattle.testing_rules_moves.specs.steps.Runs.{Run, after_turns, go_on}
 use Rattle.testing_rules_model.specs.Unstable.{is_in_force}
-use Rattle.testing_rules_model.specs.Updates.{in_turn, move_easy, move_singles, wait_all}
+use Rattle.testing_rules_model.specs.Updates.{in_turn, move_easy, move_singles}
+use Rattle.testing_rules_model.specs.steps.Updates.{wait_all}
 use Rattle.testing_rules_moves.proofs.migration.take_turns.Goals as goal
 
 pub returns : goal.returns

@@ -1,7 +1,7 @@
 use Rattle.std.proofs.Common.{◌∙◌, refl, ap, ap₂, List, []}
 use Rattle.std.proofs.lemmas.Result.{IfOk-from_err}
 use Rattle.testing_rules_model.specs.declared.update.Decision.{Decision}
-use Rattle.testing_rules_moves.specs.Runs.{Moment, Run, after_turns}
+use Rattle.testing_rules_moves.specs.steps.Runs.{Moment, Run, after_turns}
 use Rattle.testing_rules_model.specs.Suite.{Suite}
 use Rattle.testing_rules_model.specs.Updates.{Outcome}
 use Rattle.testing_rules_model.proofs.Migrating.{all_steps-are}

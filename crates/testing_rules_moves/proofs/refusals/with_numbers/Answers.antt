@@ -1,6 +1,6 @@
 use Rattle.std.proofs.Common.{arith, ◌∙◌, sym, ap, subst, ◌<◌, length}
-use Rattle.testing_rules_moves.specs.LentItems.{lent_excuses}
-use Rattle.testing_rules_moves.specs.Refusals.{excuses_of, AreNumbered}
+use Rattle.testing_rules_moves.specs.steps.LentItems.{lent_excuses}
+use Rattle.testing_rules_moves.specs.steps.Refusals.{excuses_of, AreNumbered}
 use Rattle.testing_rules_moves.proofs.Remembering.{excuses_more, numbers_more}
 use Rattle.testing_rules_moves.proofs.refusals.with_numbers.Goals as goal
 

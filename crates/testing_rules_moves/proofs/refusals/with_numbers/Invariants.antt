@@ -1,6 +1,6 @@
 use Rattle.std.proofs.Common.{◌≡◌, take}
-use Rattle.testing_rules_moves.specs.LentItems.{lent_excuses}
-use Rattle.testing_rules_moves.specs.Refusals.{excuses_of, AreNumbered}
+use Rattle.testing_rules_moves.specs.steps.LentItems.{lent_excuses}
+use Rattle.testing_rules_moves.specs.steps.Refusals.{excuses_of, AreNumbered}
 use Rattle.testing_rules_moves.proofs.refusals.with_numbers.Given as goal
 
 -- those so far

@@ -1,5 +1,5 @@
 use Rattle.std.proofs.Common.{◌≡◌, take, filter}
-use Rattle.testing_rules_moves.specs.LentItems.{lent_excuses}
+use Rattle.testing_rules_moves.specs.steps.LentItems.{lent_excuses}
 use Rattle.testing_rules_model.specs.Updates.{is_remaining}
 use Rattle.testing_rules_moves.proofs.singles.remaining.Given as goal
 

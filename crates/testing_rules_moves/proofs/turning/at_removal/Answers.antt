@@ -3,7 +3,7 @@ use Rattle.std.specs.Prelude.{IfOk}
 use Rattle.testing_rules_items.specs.declared.item.HintItem.{HintItem}
 use Rattle.testing_rules_model.specs.declared.facts.HintIn.{HintIn}
 use Rattle.testing_rules_model.specs.Updates.{in_turn, remove_item}
-use Rattle.testing_rules_moves.specs.Turns.{after_removals, hints_before}
+use Rattle.testing_rules_moves.specs.steps.Turns.{after_removals, hints_before}
 use Rattle.testing_rules_moves.proofs.turning.at_removal.Goals as goal
 
 pub returns : goal.returns

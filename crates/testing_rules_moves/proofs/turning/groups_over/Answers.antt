@@ -1,5 +1,5 @@
 use Rattle.std.proofs.Common.{◌∙◌, ap, []}
-use Rattle.testing_rules_moves.specs.Runs.{Moment, Run, run_after_groups}
+use Rattle.testing_rules_moves.specs.steps.Runs.{Moment, Run, run_after_groups}
 use Rattle.testing_rules_moves.proofs.Behind.{groups_are}
 use Rattle.testing_rules_moves.proofs.turning.groups_over.Goals as goal
 

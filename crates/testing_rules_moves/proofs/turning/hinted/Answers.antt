@@ -4,7 +4,7 @@ use Rattle.testing_rules_model.specs.declared.facts.HintIn.{HintIn}
 use Rattle.testing_rules_model.specs.declared.suite.RowIn.{RowIn}
 use Rattle.testing_rules_model.specs.JudgedRows.{lent}
 use Rattle.testing_rules_model.specs.Unstable.{built_rows}
-use Rattle.testing_rules_moves.specs.Turns.{after_groups, after_removals}
+use Rattle.testing_rules_moves.specs.steps.Turns.{after_groups, after_removals}
 use Rattle.testing_rules_moves.proofs.turning.hinted.Goals as goal
 
 pub returns : goal.returns

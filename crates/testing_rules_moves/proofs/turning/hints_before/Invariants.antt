@@ -1,5 +1,5 @@
 use Rattle.std.proofs.Common.{◌≡◌, take}
-use Rattle.testing_rules_moves.specs.Turns.{hints_before}
+use Rattle.testing_rules_moves.specs.steps.Turns.{hints_before}
 use Rattle.testing_rules_moves.proofs.turning.hints_before.Given as goal
 
 -- those so far

@@ -2,8 +2,8 @@ use Rattle.std.proofs.Common.{◌∙◌, ap, map, List, []}
 use Rattle.testing_rules_items.specs.declared.item.HintItem.{HintItem}
 use Rattle.testing_rules_model.specs.declared.facts.UnhintIn.{UnhintIn}
 use Rattle.testing_rules_model.specs.Updates.{in_turn, remove_item}
-use Rattle.testing_rules_moves.specs.Runs.{Moment, Run, run_after_removals}
-use Rattle.testing_rules_moves.specs.Turns.{after_removals}
+use Rattle.testing_rules_moves.specs.steps.Runs.{Moment, Run, run_after_removals}
+use Rattle.testing_rules_moves.specs.steps.Turns.{after_removals}
 use Rattle.testing_rules_moves.proofs.Behind.{none_by_key}
 use Rattle.testing_rules_moves.proofs.turning.removals_over.Goals as goal
 

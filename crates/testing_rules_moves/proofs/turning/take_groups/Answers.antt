@@ -1,6 +1,6 @@
 use Rattle.std.proofs.Common.{◌∙◌, ap, filter, List}
 use Rattle.testing_rules_model.specs.declared.facts.UnhintIn.{UnhintIn}
-use Rattle.testing_rules_moves.specs.Runs.{Run, run_after_groups, go_on}
+use Rattle.testing_rules_moves.specs.steps.Runs.{Run, run_after_groups, go_on}
 use Rattle.testing_rules_model.specs.Unstable.{is_in_force}
 use Rattle.testing_rules_model.specs.Updates.{in_turn, move_easy}
 use Rattle.testing_rules_moves.proofs.turning.take_groups.Goals as goal

@@ -1,7 +1,7 @@
 use Rattle.std.proofs.Common.{◌∙◌, ap, map, List}
 use Rattle.testing_rules_model.specs.declared.facts.UnhintIn.{UnhintIn}
 use Rattle.testing_rules_items.specs.declared.item.HintItem.{HintItem}
-use Rattle.testing_rules_moves.specs.Runs.{Run, run_after_removals, go_on}
+use Rattle.testing_rules_moves.specs.steps.Runs.{Run, run_after_removals, go_on}
 use Rattle.testing_rules_model.specs.Updates.{in_turn, remove_item}
 use Rattle.testing_rules_moves.proofs.turning.take_removals.Goals as goal
 

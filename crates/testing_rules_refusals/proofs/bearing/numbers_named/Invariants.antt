@@ -1,5 +1,5 @@
 use Rattle.std.proofs.Common.{◌≡◌, take}
-use Rattle.testing_rules_refusals.specs.LineNumbers.{numbers_named}
+use Rattle.testing_rules_refusals.specs.steps.LineNumbers.{numbers_named}
 use Rattle.testing_rules_refusals.proofs.bearing.numbers_named.Given as goal
 
 -- those so far

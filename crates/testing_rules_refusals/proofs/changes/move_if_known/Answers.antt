@@ -7,7 +7,7 @@ use Rattle.testing_rules_model.specs.Moves.{offender_of}
 use Rattle.testing_rules_model.specs.declared.suite.RowIn.{RowIn}
 use Rattle.testing_rules_refusals.specs.Texts.{known_of}
 use Rattle.testing_rules_refusals.specs.ToldChange.{IsToldChange}
-use Rattle.testing_rules_suites.specs.AfterMoves.{moved_rows}
+use Rattle.testing_rules_suites.specs.steps.AfterMoves.{moved_rows}
 use Rattle.testing_rules_refusals.proofs.changes.move_if_known.Goals as goal
 
 pub refusal_of_move-requires-clause-order : goal.refusal_of_move-requires-clause-order

@@ -2,7 +2,7 @@ use Rattle.std.proofs.Common.{◌≡◌, ◌∙◌, Some, sym, ap, subst}
 use Rattle.std.specs.Prelude.{IfSome}
 use Rattle.testing_rules_model.specs.JudgedRows.{lent}
 use Rattle.testing_rules_model.specs.Moves.{offender_of}
-use Rattle.testing_rules_refusals.specs.Shown.{IsShownOf}
+use Rattle.testing_rules_refusals.specs.steps.Shown.{IsShownOf}
 use Rattle.testing_rules_refusals.proofs.Sole.{shown_row}
 use Rattle.testing_rules_refusals.proofs.changes.refusal_of.Goals as goal
 

@@ -5,7 +5,7 @@ use Rattle.testing_rules_model.specs.Moves.{offender_of}
 use Rattle.testing_rules_model.specs.declared.suite.RowIn.{RowIn}
 use Rattle.testing_rules_refusals.specs.Texts.{known_of}
 use Rattle.testing_rules_refusals.specs.ToldChange.{IsToldChange}
-use Rattle.testing_rules_suites.specs.AfterMoves.{rows_without}
+use Rattle.testing_rules_suites.specs.steps.AfterMoves.{rows_without}
 use Rattle.testing_rules_refusals.proofs.changes.removal_if_known.Goals as goal
 
 pub refusal_without-requires-clause-breaks : goal.refusal_without-requires-clause-breaks

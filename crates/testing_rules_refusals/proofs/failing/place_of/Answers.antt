@@ -1,6 +1,6 @@
 use Rattle.std.proofs.Common.{arith, ◌∙◌, sym, ◌<◌, ◌≤◌, length}
 use Rattle.std.proofs.lemmas.List.{length-map}
-use Rattle.testing_rules_suites.specs.JudgedRows.{answer, answers}
+use Rattle.testing_rules_suites.specs.steps.JudgedRows.{answer, answers}
 use Rattle.testing_rules_refusals.proofs.Failings.{none_more, none_at_all}
 use Rattle.testing_rules_refusals.proofs.Failings.{answer_at}
 use Rattle.testing_rules_refusals.proofs.failing.place_of.Goals as goal

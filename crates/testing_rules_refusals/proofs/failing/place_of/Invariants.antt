@@ -1,4 +1,4 @@
-use Rattle.testing_rules_suites.specs.JudgedRows.{answers}
+use Rattle.testing_rules_suites.specs.steps.JudgedRows.{answers}
 use Rattle.testing_rules_refusals.proofs.Failings.{NoneFailing}
 use Rattle.testing_rules_refusals.proofs.failing.place_of.Given as goal
 

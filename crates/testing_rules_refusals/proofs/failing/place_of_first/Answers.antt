@@ -1,8 +1,8 @@
 use Rattle.std.proofs.Common.{◌≡◌, ◌∙◌, sym, ap, Some, None}
 use Rattle.std.specs.Option.{option_copied}
 use Rattle.testing_rules_model.specs.Moves.{first_failing}
-use Rattle.testing_rules_suites.specs.JudgedRows.{answers}
-use Rattle.testing_rules_refusals.specs.Refusals.{HasFailing}
+use Rattle.testing_rules_suites.specs.steps.JudgedRows.{answers}
+use Rattle.testing_rules_refusals.specs.steps.Refusals.{HasFailing}
 use Rattle.testing_rules_refusals.proofs.Failings.{failing_there, none_then}
 use Rattle.testing_rules_refusals.proofs.failing.place_of_first.Goals as goal
 

@@ -9,7 +9,7 @@ use Rattle.testing_rules_model.specs.declared.suite.RowIn.{RowIn}
 use Rattle.testing_rules_model.specs.JudgedRows.{lent, row_of}
 use Rattle.testing_install_why.specs.Certificate.{IsShownBy}
 use Rattle.testing_rules_refusals.specs.Needs.{packages}
-use Rattle.testing_rules_refusals.specs.Refusals.{AreAllThere}
+use Rattle.testing_rules_refusals.specs.steps.Refusals.{AreAllThere}
 use Rattle.testing_rules_refusals.proofs.Refusing.{found_now, row_at, stands, isnt_unshown, shown_row}
 use Rattle.testing_rules_refusals.proofs.refusal.refusal_on.Goals as goal
 

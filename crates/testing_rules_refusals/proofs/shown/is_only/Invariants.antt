@@ -1,5 +1,5 @@
 use Rattle.testing_rules_model.specs.JudgedRows.{lent}
-use Rattle.testing_rules_refusals.specs.Shown.{AreOnlyAt}
+use Rattle.testing_rules_refusals.specs.steps.Shown.{AreOnlyAt}
 use Rattle.testing_rules_refusals.proofs.shown.is_only.Given as goal
 
 abbrev pub invariant-loop-place : goal.invariant-loop-place

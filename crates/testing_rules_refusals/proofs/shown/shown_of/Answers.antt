@@ -2,7 +2,7 @@ use Rattle.std.proofs.Common.{refl, subst}
 use Rattle.std.specs.Prelude.{IfSome}
 use Rattle.testing_rules_model.specs.JudgedRows.{lent}
 use Rattle.testing_rules_refusals.specs.Needs.{packages, all_there}
-use Rattle.testing_rules_refusals.specs.Shown.{IsOnlyOf}
+use Rattle.testing_rules_refusals.specs.steps.Shown.{IsOnlyOf}
 use Rattle.testing_install_why.specs.Certificate.{IsShownBy}
 use Rattle.testing_rules_refusals.proofs.shown.shown_of.Goals as goal
 

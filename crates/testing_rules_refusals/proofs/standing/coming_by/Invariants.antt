@@ -1,7 +1,7 @@
 use Rattle.std.proofs.Common.{◌≡◌, take, filter}
 use Rattle.testing_rules_model.specs.Boxed.{unboxed}
 use Rattle.testing_rules_model.specs.JudgedRows.{lent}
-use Rattle.testing_rules_refusals.specs.Standing.{comes_by}
+use Rattle.testing_rules_refusals.specs.steps.Standing.{comes_by}
 use Rattle.testing_rules_refusals.proofs.standing.coming_by.Given as goal
 
 -- those so far

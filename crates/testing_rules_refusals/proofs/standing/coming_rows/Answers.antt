@@ -2,7 +2,7 @@ use Rattle.std.proofs.Common.{◌≡◌, ◌∙◌, filter}
 use Rattle.std.proofs.lemmas.Result.{IfOk-weaker}
 use Rattle.testing_rules_model.specs.Boxed.{unboxed}
 use Rattle.testing_rules_model.specs.JudgedRows.{lent}
-use Rattle.testing_rules_refusals.specs.Standing.{comes_by}
+use Rattle.testing_rules_refusals.specs.steps.Standing.{comes_by}
 use Rattle.testing_rules_refusals.specs.Stuck.{coming_rows}
 use Rattle.testing_rules_refusals.proofs.Blocks.{coming_alike}
 use Rattle.testing_rules_refusals.proofs.standing.coming_rows.Goals as goal

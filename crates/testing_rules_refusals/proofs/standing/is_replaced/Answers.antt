@@ -1,7 +1,7 @@
 use Rattle.std.proofs.Common.{◌∙◌, sym, ap}
 use Rattle.deb_control.specs.declared.binary.Binary.{Binary}
 use Rattle.testing_rules_model.specs.JudgedRows.{lent, row_of}
-use Rattle.testing_rules_reports.specs.LentLines.{has_line}
+use Rattle.testing_rules_reports.specs.steps.LentLines.{has_line}
 use Rattle.testing_rules_refusals.proofs.Leaving.{unnamed}
 use Rattle.testing_rules_refusals.proofs.standing.is_replaced.Goals as goal
 

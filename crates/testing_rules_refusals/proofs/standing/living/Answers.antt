@@ -1,7 +1,7 @@
 use Rattle.std.proofs.Common.{◌≡◌, ◌∙◌, map, filter}
 use Rattle.std.proofs.lemmas.Result.{IfOk-weaker}
 use Rattle.testing_rules_model.specs.declared.excuse.Excuse.{Excuse}
-use Rattle.testing_rules_refusals.specs.Standing.{lives_beside}
+use Rattle.testing_rules_refusals.specs.steps.Standing.{lives_beside}
 use Rattle.testing_rules_refusals.specs.Stuck.{living}
 use Rattle.testing_rules_refusals.proofs.Blocks.{living_alike}
 use Rattle.testing_rules_refusals.proofs.standing.living.Goals as goal

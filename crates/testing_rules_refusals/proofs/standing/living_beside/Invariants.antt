@@ -1,6 +1,6 @@
 use Rattle.std.proofs.Common.{◌≡◌, take, map, filter}
 use Rattle.testing_rules_model.specs.declared.excuse.Excuse.{Excuse}
-use Rattle.testing_rules_refusals.specs.Standing.{lives_beside}
+use Rattle.testing_rules_refusals.specs.steps.Standing.{lives_beside}
 use Rattle.testing_rules_refusals.proofs.standing.living_beside.Given as goal
 
 -- those so far

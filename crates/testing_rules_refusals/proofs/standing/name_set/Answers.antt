@@ -2,7 +2,7 @@ use Rattle.std.proofs.Common.{◌≡◌, ◌∙◌, ℕ, List, ap}
 use Rattle.std.specs.List.{list_any}
 use Rattle.std.specs.Str.{bytes_eq}
 use Rattle.std.proofs.lemmas.Result.{IfOk-weaker}
-use Rattle.testing_rules_reports.specs.LentLines.{has_line, lent_lines}
+use Rattle.testing_rules_reports.specs.steps.LentLines.{has_line, lent_lines}
 use Rattle.testing_rules_refusals.proofs.standing.name_set.Goals as goal
 
 pub returns : goal.returns

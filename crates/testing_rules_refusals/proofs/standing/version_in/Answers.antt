@@ -1,6 +1,6 @@
 use Rattle.std.proofs.Common.{◌∙◌, List, sym, ap, option_map}
 use Rattle.testing_rules_model.specs.declared.suite.SourceIn.{SourceIn}
-use Rattle.testing_rules_model.specs.Excuses.{entry_of}
+use Rattle.testing_rules_model.specs.steps.Excuses.{entry_of}
 use Rattle.testing_rules_model.proofs.Orders.{text_order}
 use Rattle.testing_rules_model.proofs.KeyOrder.{searchable, find-at, find-none}
 use Rattle.testing_rules_refusals.proofs.standing.version_in.Goals as goal

@@ -4,8 +4,8 @@ use Rattle.testing_rules_items.specs.Words.{Text}
 use Rattle.testing_rules_model.specs.Boxed.{unboxed}
 use Rattle.testing_rules_model.specs.JudgedRows.{lent}
 use Rattle.testing_rules_model.specs.Moves.{judged_on}
-use Rattle.testing_rules_suites.specs.JudgedRows.{answers}
-use Rattle.testing_rules_refusals.specs.Standing.{IsOwnAt, IsStayingAt}
+use Rattle.testing_rules_suites.specs.steps.JudgedRows.{answers}
+use Rattle.testing_rules_refusals.specs.steps.Standing.{IsOwnAt, IsStayingAt}
 use Rattle.testing_rules_refusals.proofs.Blocks.{own_due, staying_due}
 use Rattle.testing_rules_refusals.proofs.stuck.due_place.Goals as goal
 

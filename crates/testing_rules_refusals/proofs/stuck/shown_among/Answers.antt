@@ -4,7 +4,7 @@ use Rattle.testing_rules_model.specs.Boxed.{unboxed}
 use Rattle.testing_rules_model.specs.JudgedRows.{lent}
 use Rattle.testing_install_why.specs.Certificate.{IsShownBy}
 use Rattle.testing_rules_refusals.specs.Needs.{packages, all_there}
-use Rattle.testing_rules_refusals.specs.Standing.{IsDueAt}
+use Rattle.testing_rules_refusals.specs.steps.Standing.{IsDueAt}
 use Rattle.testing_rules_refusals.proofs.Blocks.{block_found}
 use Rattle.testing_rules_refusals.proofs.Leaving.{stand_on}
 use Rattle.testing_rules_refusals.proofs.stuck.shown_among.Goals as goal

@@ -3,7 +3,7 @@ use Rattle.std.specs.Prelude.{IfSome}
 use Rattle.testing_rules_items.specs.Words.{Text}
 use Rattle.testing_rules_model.specs.Boxed.{unboxed}
 use Rattle.testing_rules_model.specs.JudgedRows.{lent}
-use Rattle.testing_rules_refusals.specs.Standing.{AreToldBlocks, begins_with}
+use Rattle.testing_rules_refusals.specs.steps.Standing.{AreToldBlocks, begins_with}
 use Rattle.testing_rules_refusals.proofs.Blocks.{shows_stuck}
 use Rattle.testing_rules_refusals.proofs.stuck.text_over.Goals as goal
 

@@ -4,7 +4,7 @@ use Rattle.testing_rules_items.specs.Words.{Text}
 use Rattle.testing_rules_model.specs.Boxed.{unboxed}
 use Rattle.testing_rules_model.specs.JudgedRows.{lent}
 use Rattle.testing_rules_model.specs.Moves.{rows_on}
-use Rattle.testing_rules_refusals.specs.Standing.{IsBlockOf}
+use Rattle.testing_rules_refusals.specs.steps.Standing.{IsBlockOf}
 use Rattle.testing_rules_refusals.specs.Stuck.{stuck_line}
 use Rattle.testing_rules_refusals.specs.Texts.{refusal_text}
 use Rattle.testing_rules_refusals.specs.Told.{lines_of}

@@ -1,6 +1,6 @@
 use Rattle.testing_rules_model.specs.Boxed.{unboxed}
 use Rattle.testing_rules_model.specs.JudgedRows.{lent}
-use Rattle.testing_rules_refusals.specs.Standing.{AreToldBlocks}
+use Rattle.testing_rules_refusals.specs.steps.Standing.{AreToldBlocks}
 use Rattle.testing_rules_refusals.proofs.stuck.told_blocks.Given as goal
 
 -- those so far

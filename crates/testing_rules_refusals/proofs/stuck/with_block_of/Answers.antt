@@ -3,7 +3,7 @@ use Rattle.std.specs.Prelude.{IfSome}
 use Rattle.testing_rules_items.specs.Words.{Text}
 use Rattle.testing_rules_model.specs.Boxed.{unboxed}
 use Rattle.testing_rules_model.specs.JudgedRows.{lent}
-use Rattle.testing_rules_refusals.specs.Standing.{IsToldBlock}
+use Rattle.testing_rules_refusals.specs.steps.Standing.{IsToldBlock}
 use Rattle.testing_rules_refusals.proofs.Blocks.{more_blocks_told}
 use Rattle.testing_rules_refusals.proofs.stuck.with_block_of.Goals as goal
 

@@ -1,7 +1,7 @@
 use Rattle.std.proofs.Common.{◌&&◌, true, sym, ◌∙◌}
 use Rattle.testing_rules_model.specs.JudgedRows.{row_of}
 use Rattle.testing_rules_model.specs.Moves.{is_watched_on, was_installable}
-use Rattle.testing_rules_suites.specs.JudgedRows.{answers}
+use Rattle.testing_rules_suites.specs.steps.JudgedRows.{answers}
 use Rattle.testing_rules_refusals.proofs.Failings.{second_of_both}
 use Rattle.testing_rules_refusals.proofs.stuck.worked.Goals as goal
 

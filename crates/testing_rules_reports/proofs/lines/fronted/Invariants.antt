@@ -1,7 +1,7 @@
 use Rattle.std.proofs.Common.{◌≡◌, ◌++◌, [], drop}
 use Rattle.std.specs.Str.{IsUtf8}
 use Rattle.testing_rules_reports.specs.Changes.{fronted}
-use Rattle.testing_rules_reports.specs.LentLines.{lent_lines}
+use Rattle.testing_rules_reports.specs.steps.LentLines.{lent_lines}
 use Rattle.testing_rules_reports.proofs.lines.fronted.Given as goal
 
 -- those so far, and what is left

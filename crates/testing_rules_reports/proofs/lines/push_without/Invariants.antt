@@ -1,7 +1,7 @@
 use Rattle.std.proofs.Common.{◌≡◌, ◌++◌, filter, not, string_bytes, take}
 use Rattle.std.specs.List.{flat_map}
 use Rattle.testing_rules_reports.specs.Changes.{behind}
-use Rattle.testing_rules_reports.specs.LentLines.{has_line, lent_lines}
+use Rattle.testing_rules_reports.specs.steps.LentLines.{has_line, lent_lines}
 use Rattle.testing_rules_reports.proofs.lines.push_without.Given as goal
 
 -- the text so far

@@ -1,6 +1,6 @@
 use Rattle.std.proofs.Common.{◌≡◌, false, nat_eq, take}
 use Rattle.std.specs.List.{list_any, starts_with}
-use Rattle.testing_rules_reports.specs.LentLines.{lent_lines}
+use Rattle.testing_rules_reports.specs.steps.LentLines.{lent_lines}
 use Rattle.testing_rules_reports.proofs.sources.one_begins.Given as goal
 
 -- none so far

@@ -1,7 +1,7 @@
 use Rattle.std.proofs.Common.{◌≡◌, ◌++◌, [], filter, string_bytes, take}
 use Rattle.std.specs.List.{flat_map}
 use Rattle.testing_rules_reports.specs.Changes.{behind}
-use Rattle.testing_rules_reports.specs.LentLines.{lent_lines}
+use Rattle.testing_rules_reports.specs.steps.LentLines.{lent_lines}
 use Rattle.testing_rules_reports.specs.Sources.{names}
 use Rattle.testing_rules_reports.proofs.sources.push_named.Given as goal
 

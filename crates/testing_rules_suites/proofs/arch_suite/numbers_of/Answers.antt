@@ -2,7 +2,7 @@ use Rattle.std.proofs.Common.{◌≡◌, ◌∙◌, sym, ap, subst, ℕ, ◌+◌
 use Rattle.std.proofs.lemmas.Result.{IfOk-from_err}
 use Rattle.std.specs.Prelude.{Option}
 use Rattle.std.proofs.lemmas.List.{take_more, take_all}
-use Rattle.testing_rules_suites.specs.ArchRows.{AreNumbers, IsNumberOf}
+use Rattle.testing_rules_suites.specs.steps.ArchRows.{AreNumbers, IsNumberOf}
 use Rattle.testing_rules_suites.proofs.Numbers.{numbers_none, numbers_more, numbers_same}
 use Rattle.testing_rules_suites.proofs.arch_suite.numbers_of.Goals as goal
 use Rattle.testing_rules_suites.proofs.arch_suite.numbers_of.Goals.{in-Some+in_ok-push, in_default}

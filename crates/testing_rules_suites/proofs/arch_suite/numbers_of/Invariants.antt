@@ -1,5 +1,5 @@
 use Rattle.std.proofs.Common.{take}
-use Rattle.testing_rules_suites.specs.ArchRows.{AreNumbers}
+use Rattle.testing_rules_suites.specs.steps.ArchRows.{AreNumbers}
 use Rattle.testing_rules_suites.proofs.arch_suite.numbers_of.Given as goal
 
 -- those so far

@@ -7,7 +7,7 @@ use Rattle.deb_control.specs.declared.binary.Binary.{Binary}
 use Rattle.testing_install.specs.Rows.{shared}
 use Rattle.testing_install.proofs.Counting.{slice_get_some}
 use Rattle.testing_rules_model.specs.declared.suite.RowIn.{RowIn}
-use Rattle.testing_rules_suites.specs.ArchRows.{package_at}
+use Rattle.testing_rules_suites.specs.steps.ArchRows.{package_at}
 use Rattle.testing_rules_suites.proofs.arch_suite.packages_at.Goals as goal
 
 pub loop-place-preserved : goal.loop-place-preserved

@@ -1,6 +1,6 @@
 use Rattle.std.proofs.Common.{◌≡◌, map, take, Some}
 use Rattle.testing_install.specs.Rows.{shared}
-use Rattle.testing_rules_suites.specs.ArchRows.{package_at}
+use Rattle.testing_rules_suites.specs.steps.ArchRows.{package_at}
 use Rattle.testing_rules_suites.proofs.arch_suite.packages_at.Given as goal
 
 -- those so far

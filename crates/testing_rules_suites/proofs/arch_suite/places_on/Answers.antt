@@ -1,7 +1,7 @@
 use Rattle.std.proofs.Common.{◌≡◌, ◌∙◌, sym, ap, ◌+◌, ◌-◌, ◌++◌, ◌∷◌, [], cond, filter, append-nil, arith, List, ℕ}
 use Rattle.std.specs.List.{range_with_len}
 use Rattle.std.proofs.lemmas.List.Elements.{filter-append}
-use Rattle.testing_rules_suites.specs.Trials.{is_place_on}
+use Rattle.testing_rules_suites.specs.steps.Trials.{is_place_on}
 use Rattle.testing_rules_suites.proofs.Parts.{range_behind}
 use Rattle.testing_rules_suites.proofs.arch_suite.places_on.Goals as goal
 use Rattle.testing_rules_suites.proofs.arch_suite.places_on.Goals.{then-is_place_on+in_ok-push, else-is_place_on}

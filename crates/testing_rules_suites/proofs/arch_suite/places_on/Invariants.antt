@@ -1,6 +1,6 @@
 use Rattle.std.proofs.Common.{◌≡◌, ◌≤◌, ◌-◌, filter}
 use Rattle.std.specs.List.{range_with_len}
-use Rattle.testing_rules_suites.specs.Trials.{is_place_on}
+use Rattle.testing_rules_suites.specs.steps.Trials.{is_place_on}
 use Rattle.testing_rules_suites.proofs.arch_suite.places_on.Given as goal
 
 -- those so far

@@ -1,7 +1,7 @@
 use Rattle.std.proofs.Common.{arith, ◌≡◌, ◌∙◌, sym, ap, subst, Some, ◌<◌, length}
 use Rattle.std.specs.List.{slice_get}
 use Rattle.std.proofs.lemmas.Option.{slice_get-get_or}
-use Rattle.testing_rules_suites.specs.ArchRows.{IsAfter}
+use Rattle.testing_rules_suites.specs.steps.ArchRows.{IsAfter}
 use Rattle.testing_rules_suites.proofs.Suites.{changed_none, changed_more, changed_all, suite_after}
 use Rattle.testing_rules_suites.proofs.carried_suites.changed.Goals as goal
 

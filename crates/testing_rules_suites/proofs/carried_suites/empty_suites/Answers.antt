@@ -1,6 +1,6 @@
 use Rattle.std.proofs.Common.{◌∙◌, sym, ap, subst, ◌+◌, length, []}
 use Rattle.std.proofs.lemmas.List.{length_push}
-use Rattle.testing_rules_suites.specs.PresentSteps.{AreSuites, IsSuiteOn}
+use Rattle.testing_rules_suites.specs.steps.PresentSteps.{AreSuites, IsSuiteOn}
 use Rattle.testing_rules_suites.proofs.Extending.{suite_of_none}
 use Rattle.testing_rules_suites.proofs.Suites.{are_none, are_more}
 use Rattle.testing_rules_suites.proofs.carried_suites.empty_suites.Goals as goal

@@ -1,5 +1,5 @@
 use Rattle.std.proofs.Common.{◌≡◌, length, []}
-use Rattle.testing_rules_suites.specs.PresentSteps.{AreSuites}
+use Rattle.testing_rules_suites.specs.steps.PresentSteps.{AreSuites}
 use Rattle.testing_rules_suites.proofs.carried_suites.empty_suites.Given as goal
 
 -- those of the first architectures

@@ -1,5 +1,5 @@
 use Rattle.std.proofs.Common.{◌≡◌, take}
-use Rattle.testing_rules_suites.specs.AfterMoves.{rows_at}
+use Rattle.testing_rules_suites.specs.steps.AfterMoves.{rows_at}
 use Rattle.testing_rules_model.specs.InOrder.{AreByKey}
 use Rattle.testing_rules_suites.proofs.lent_rows.copies_by_key.Given as goal
 

@@ -1,5 +1,5 @@
 use Rattle.std.proofs.Common.{◌≡◌, take}
-use Rattle.testing_rules_suites.specs.AfterMoves.{with_rows, rows_at}
+use Rattle.testing_rules_suites.specs.steps.AfterMoves.{with_rows, rows_at}
 use Rattle.testing_rules_model.specs.InOrder.{AreByKey}
 use Rattle.testing_rules_model.specs.JudgedRows.{lent}
 use Rattle.testing_rules_suites.proofs.lent_rows.put_rows.Given as goal

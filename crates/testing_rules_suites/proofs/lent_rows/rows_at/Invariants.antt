@@ -1,5 +1,5 @@
 use Rattle.std.proofs.Common.{◌≡◌, take}
-use Rattle.testing_rules_suites.specs.AfterMoves.{rows_at}
+use Rattle.testing_rules_suites.specs.steps.AfterMoves.{rows_at}
 use Rattle.testing_rules_model.specs.JudgedRows.{lent}
 use Rattle.testing_rules_suites.proofs.lent_rows.rows_at.Given as goal
 

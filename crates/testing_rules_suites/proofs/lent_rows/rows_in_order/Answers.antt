@@ -1,5 +1,5 @@
 use Rattle.std.proofs.Common.{sym, subst}
-use Rattle.testing_rules_suites.specs.AfterMoves.{rows_at}
+use Rattle.testing_rules_suites.specs.steps.AfterMoves.{rows_at}
 use Rattle.testing_rules_model.specs.InOrder.{AreByKey}
 use Rattle.testing_rules_model.specs.JudgedRows.{lent}
 use Rattle.testing_rules_model.specs.SameMessages.{SameElements}

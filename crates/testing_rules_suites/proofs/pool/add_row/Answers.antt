@@ -4,7 +4,7 @@ use Rattle.deb_control.specs.declared.binary.Binary.{Binary}
 use Rattle.testing_install.specs.Index.{IsNoted}
 use Rattle.testing_install.specs.Needers.{IsNotedAt}
 use Rattle.testing_rules_model.specs.JudgedRows.{row_of}
-use Rattle.testing_rules_suites.specs.Pools.{IsPool}
+use Rattle.testing_rules_suites.specs.steps.Pools.{IsPool}
 use Rattle.testing_rules_suites.proofs.Pooling.{pool_behind}
 use Rattle.testing_rules_suites.proofs.pool.add_row.Goals as goal
 

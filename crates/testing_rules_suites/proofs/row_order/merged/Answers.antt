@@ -1,6 +1,6 @@
 use Rattle.std.proofs.Common.{arith, ◌≡◌, ◌∙◌, sym, ap, ap₂, subst, ◌<◌, ◌≤◌, ◌+◌, ◌++◌, ◌∷◌, [], length}
 use Rattle.std.proofs.lemmas.List.{take-append-drop}
-use Rattle.testing_rules_suites.specs.Pools.{HasPlaces}
+use Rattle.testing_rules_suites.specs.steps.Pools.{HasPlaces}
 use Rattle.testing_rules_suites.proofs.Merging.{IsMerged, merged_none, merged_more, merged_all}
 use Rattle.testing_rules_suites.proofs.row_order.merged.Goals as goal
 

@@ -5,7 +5,7 @@ use Rattle.testing_rules_items.proofs.Weaker.{if_ok_weaker}
 use Rattle.testing_rules_model.specs.JudgedRows.{lent}
 use Rattle.testing_rules_model.specs.declared.suite.RowIn.{RowIn}
 use Rattle.testing_rules_suites.specs.Present.{CarriedState, IsShown}
-use Rattle.testing_rules_suites.specs.Standing.{AreWanted}
+use Rattle.testing_rules_suites.specs.steps.Standing.{AreWanted}
 use Rattle.testing_rules_suites.proofs.StandingFacts.{no_flag_set, shown_as, wanted_none, wanted_shown}
 use Rattle.testing_rules_suites.proofs.standing.over_rows.Goals as goal
 

@@ -2,7 +2,7 @@ use Rattle.std.proofs.Common.{◌≡◌, ◌∙◌, sym, ap, ◌+◌, ◌++◌, 
 use Rattle.std.specs.List.{range_with_len}
 use Rattle.std.proofs.lemmas.List.Elements.{filter-append}
 use Rattle.testing_rules_suites.proofs.Parts.{range_more}
-use Rattle.testing_rules_suites.specs.Standing.{is_alone}
+use Rattle.testing_rules_suites.specs.steps.Standing.{is_alone}
 use Rattle.testing_rules_suites.proofs.standing.set_alone.Goals as goal
 use Rattle.testing_rules_suites.proofs.standing.set_alone.Goals.{then-is_alone+in_ok-push, else-is_alone}
 

@@ -1,6 +1,6 @@
 use Rattle.std.proofs.Common.{◌≡◌, filter}
 use Rattle.std.specs.List.{range_with_len}
-use Rattle.testing_rules_suites.specs.Standing.{is_alone}
+use Rattle.testing_rules_suites.specs.steps.Standing.{is_alone}
 use Rattle.testing_rules_suites.proofs.standing.set_alone.Given as goal
 
 -- those so far

@@ -3,7 +3,7 @@ use Rattle.std.specs.List.{slice_get}
 use Rattle.std.proofs.lemmas.List.{map-append}
 use Rattle.testing_rules_model.specs.JudgedRows.{lent, row_of}
 use Rattle.testing_rules_model.specs.declared.suite.RowIn.{RowIn}
-use Rattle.testing_rules_suites.specs.Standing.{AreWanted}
+use Rattle.testing_rules_suites.specs.steps.Standing.{AreWanted}
 use Rattle.testing_rules_suites.proofs.StandingFacts.{wanted_at, wanted_lacking}
 use Rattle.testing_rules_suites.proofs.standing.want.Goals as goal
 

@@ -3,7 +3,7 @@ use Rattle.std.proofs.lemmas.List.{take_all, take_more}
 use Rattle.testing_rules_model.specs.JudgedRows.{lent}
 use Rattle.testing_rules_model.specs.declared.suite.LentRow.{LentRow}
 use Rattle.testing_rules_model.specs.declared.suite.RowIn.{RowIn}
-use Rattle.testing_rules_suites.specs.Standing.{AreWanted}
+use Rattle.testing_rules_suites.specs.steps.Standing.{AreWanted}
 use Rattle.testing_rules_suites.proofs.StandingFacts.{found_within}
 use Rattle.testing_rules_suites.proofs.standing.wanted.Goals as goal
 

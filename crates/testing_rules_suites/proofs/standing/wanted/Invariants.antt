@@ -1,6 +1,6 @@
 use Rattle.std.proofs.Common.{take}
 use Rattle.testing_rules_model.specs.JudgedRows.{lent}
-use Rattle.testing_rules_suites.specs.Standing.{AreWanted}
+use Rattle.testing_rules_suites.specs.steps.Standing.{AreWanted}
 use Rattle.testing_rules_suites.proofs.standing.wanted.Given as goal
 
 -- those so far

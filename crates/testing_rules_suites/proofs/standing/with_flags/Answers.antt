@@ -4,7 +4,7 @@ use Rattle.testing_install.specs.Among.{after_change}
 use Rattle.testing_install.specs.Closed.{marked}
 use Rattle.testing_rules_items.proofs.Weaker.{if_ok_weaker}
 use Rattle.testing_rules_suites.specs.Present.{CarriedState}
-use Rattle.testing_rules_suites.specs.Standing.{is_alone}
+use Rattle.testing_rules_suites.specs.steps.Standing.{is_alone}
 use Rattle.testing_rules_suites.proofs.StandingFacts.{alone_change, alone_flags}
 use Rattle.testing_rules_suites.proofs.standing.with_flags.Goals as goal
 

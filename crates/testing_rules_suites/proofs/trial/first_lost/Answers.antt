@@ -1,8 +1,8 @@
 use Rattle.std.proofs.Common.{◌∙◌, sym, ap, subst, ◌<◌, length}
 use Rattle.std.specs.List.{All}
 use Rattle.std.proofs.lemmas.Option.{slice_get_within}
-use Rattle.testing_rules_suites.specs.ArchRows.{AreLostFrom}
-use Rattle.testing_rules_suites.specs.Trials.{names_at}
+use Rattle.testing_rules_suites.specs.steps.ArchRows.{AreLostFrom}
+use Rattle.testing_rules_suites.specs.steps.Trials.{names_at}
 use Rattle.testing_rules_items.specs.Words.{byte_cmp, least}
 use Rattle.testing_rules_suites.proofs.Carried.{lost_first}
 use Rattle.testing_rules_suites.proofs.Flags.{bounded_members}

@@ -6,8 +6,9 @@ use Rattle.deb_control.specs.declared.binary.Binary.{Binary}
 use Rattle.testing_rules_model.specs.declared.suite.RowIn.{RowIn}
 use Rattle.testing_rules_model.specs.JudgedRows.{row_of}
 use Rattle.testing_rules_model.specs.Moves.{is_watched_on}
-use Rattle.testing_rules_suites.specs.Trials.{names_at}
-use Rattle.testing_rules_items.specs.Words.{Text, byte_cmp, least, first_of_two}
+use Rattle.testing_rules_suites.specs.steps.Trials.{names_at}
+use Rattle.testing_rules_items.specs.Words.{Text, byte_cmp, least}
+use Rattle.testing_rules_items.specs.steps.Words.{first_of_two}
 use Rattle.testing_rules_suites.proofs.Failing.{one_more}
 use Rattle.testing_rules_items.proofs.Grouping.{group-some}
 use Rattle.testing_rules_model.proofs.Orders.{text_order}

@@ -1,6 +1,6 @@
 use Rattle.std.proofs.Common.{◌≡◌, take}
 use Rattle.std.specs.Option.{option_copied}
-use Rattle.testing_rules_suites.specs.Trials.{names_at}
+use Rattle.testing_rules_suites.specs.steps.Trials.{names_at}
 use Rattle.testing_rules_items.specs.Words.{byte_cmp, least}
 use Rattle.testing_rules_suites.proofs.trial.first_watched.Given as goal
 

@@ -4,10 +4,10 @@ use Rattle.std.specs.List.{slice_get}
 use Rattle.std.specs.Option.{option_copied}
 use Rattle.testing_install.specs.Closed.{marked}
 use Rattle.testing_rules_model.specs.declared.update.Offender.{Offender}
-use Rattle.testing_rules_suites.specs.ArchRows.{ArchRows}
-use Rattle.testing_rules_suites.specs.PresentSteps.{IsOn, IsSuiteOn}
-use Rattle.testing_rules_suites.specs.Tried.{told_on}
-use Rattle.testing_rules_suites.specs.Trials.{IsFirstLost}
+use Rattle.testing_rules_suites.specs.steps.ArchRows.{ArchRows}
+use Rattle.testing_rules_suites.specs.steps.PresentSteps.{IsOn, IsSuiteOn}
+use Rattle.testing_rules_suites.specs.steps.Tried.{told_on}
+use Rattle.testing_rules_suites.specs.steps.Trials.{IsFirstLost}
 use Rattle.testing_rules_items.specs.Words.{Text}
 use Rattle.testing_rules_suites.proofs.Failing.{first_of-next, first_of-found}
 use Rattle.testing_rules_suites.proofs.Suites.{told_at}

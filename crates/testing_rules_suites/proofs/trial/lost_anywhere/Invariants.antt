@@ -1,8 +1,8 @@
 use Rattle.std.proofs.Common.{◌≡◌, ℕ, Bool, List, Option, ◌-◌}
 use Rattle.std.specs.List.{filter_map, range_with_len}
 use Rattle.testing_rules_model.specs.Moves.{first_of}
-use Rattle.testing_rules_suites.specs.PresentSteps.{AreSuites}
-use Rattle.testing_rules_suites.specs.Tried.{told_on, first_told, Tells}
+use Rattle.testing_rules_suites.specs.steps.PresentSteps.{AreSuites}
+use Rattle.testing_rules_suites.specs.steps.Tried.{told_on, first_told, Tells}
 use Rattle.testing_rules_items.specs.Words.{Text}
 use Rattle.testing_rules_suites.proofs.trial.lost_anywhere.Given as goal
 

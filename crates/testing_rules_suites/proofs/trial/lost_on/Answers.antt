@@ -4,9 +4,9 @@ use Rattle.std.specs.List.{slice_get}
 use Rattle.std.specs.Option.{option_copied}
 use Rattle.std.proofs.lemmas.Option.{slice_get-get_or, same_Some}
 use Rattle.testing_install.specs.Closed.{marked}
-use Rattle.testing_rules_suites.specs.ArchRows.{ArchRows}
-use Rattle.testing_rules_suites.specs.PresentSteps.{IsOn, IsSuiteOn}
-use Rattle.testing_rules_suites.specs.Trials.{IsFirstLost}
+use Rattle.testing_rules_suites.specs.steps.ArchRows.{ArchRows}
+use Rattle.testing_rules_suites.specs.steps.PresentSteps.{IsOn, IsSuiteOn}
+use Rattle.testing_rules_suites.specs.steps.Trials.{IsFirstLost}
 use Rattle.testing_rules_items.specs.Words.{Text}
 use Rattle.testing_rules_items.proofs.Weaker.{if_ok_weaker}
 use Rattle.testing_rules_suites.proofs.trial.lost_on.Goals as goal

@@ -1,5 +1,5 @@
 use Rattle.std.proofs.Common.{Result, subst}
-use Rattle.deb_control.specs.BinaryAnswers.{Gives}
+use Rattle.deb_control.specs.steps.BinaryAnswers.{Gives}
 use Rattle.deb_control.specs.declared.binary.Binary.{Binary}
 use Rattle.deb_control.specs.declared.fault.BinaryFault.{BinaryFault}
 use Rattle.deb_control.proofs.Alike.{by_needs}

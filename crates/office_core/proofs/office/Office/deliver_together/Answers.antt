@@ -31,4 +31,4 @@ returns-clause-steps g c = λ trusted.
     subst (λ v. IsSound keeper v → IfOk answer (λ replies. IfSome replies (λ rs. Leads (keeper.setup v) (keeper.content v) (deliveries c.args.texts.now rs.items) new))) c.self.view_is (λ sound.
     let old : Content = keeper.content c.self.inside.keeper in
     subst (λ (s : Lists). IfOk answer (λ replies. IfSome replies (λ rs. Leads s old (deliveries c.args.texts.now rs.items) new))) (sym c.self.invariant.0)
-    (together c.self.inside.setup c.args.texts.now answer old new (done.answers trusted) (done.kept trusted) (done.reports trusted) (done.testing trusted sound.0) (done.facts trusted)))
+    (together c.self.inside.setup c.args.texts.now answer old new (done.answers trusted) (done.kept trusted) (done.reports trusted) (done.testing trusted sound.0)))

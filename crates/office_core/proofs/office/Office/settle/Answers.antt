@@ -6,7 +6,7 @@ use Rattle.office_mail.specs.Runs.{IsReadyCount}
 use Rattle.office_store_keeper.specs.Content.{Content}
 use Rattle.office_core_facts.specs.State.{IsOffice, IsSound}
 use Rattle.office_core.specs.History.{Leads, settling}
-use Rattle.office_core.proofs.HistoryFacts.{leads_stand, settled}
+use Rattle.office_core.proofs.HistoryFacts.{follow_stay, settled}
 use Rattle.office_core.proofs.office.Office.settle.Goals as goal
 
 pub returns-in_err-finished-clause-steps : goal.returns-in_err-finished-clause-steps
@@ -38,7 +38,7 @@ returns-clause-steps g c = λ trusted.
     (subst (λ (k : Kept). IsReadyCount c.self.inside.setup k (length new.reports)) (sym (done.kept trusted)) count)))
 
 pub returns-in_err-finished-clause-runs : goal.returns-in_err-finished-clause-runs
-returns-in_err-finished-clause-runs g c = λ trusted sound. leads_stand _ _ _ _ (returns-in_err-finished-clause-steps g c trusted sound)
+returns-in_err-finished-clause-runs g c = λ trusted sound. follow_stay _ _ _ _ (returns-in_err-finished-clause-steps g c trusted sound)
 
 pub returns-clause-runs : goal.returns-clause-runs
-returns-clause-runs g c = λ trusted sound. leads_stand _ _ _ _ (returns-clause-steps g c trusted sound)
+returns-clause-runs g c = λ trusted sound. follow_stay _ _ _ _ (returns-clause-steps g c trusted sound)

@@ -1,6 +1,6 @@
 use Rattle.std.proofs.Common.{◌≡◌, ℕ, ◌+◌, ◌≤◌, List, length, take, drop, ap, sym, refl, subst}
 use Rattle.std.proofs.lemmas.Result.{err_from_is_err_and}
-use Rattle.office_mail.specs.BagReads.{BreaksOff}
+use Rattle.office_mail.specs.steps.BagReads.{BreaksOff}
 use Rattle.office_mail.specs.Reading.{Reading}
 use Rattle.office_mail.specs.declared.bag.BagFault.TheVariants.{NoMemory}
 use Rattle.office_mail.proofs.BagFacts.{waits_before, body_copied, copy_without_memory}

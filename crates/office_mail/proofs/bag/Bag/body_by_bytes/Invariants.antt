@@ -1,5 +1,5 @@
 use Rattle.std.proofs.Common.{◌≡◌}
-use Rattle.office_mail.specs.BagReads.{GoesOn, TakesBody}
+use Rattle.office_mail.specs.steps.BagReads.{GoesOn, TakesBody}
 use Rattle.office_mail.proofs.bag.Bag.body_by_bytes.Given as goal
 
 abbrev pub invariant-loop-i : goal.invariant-loop-i

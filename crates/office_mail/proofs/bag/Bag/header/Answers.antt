@@ -1,6 +1,6 @@
 use Rattle.std.proofs.Common.{refl, arith, rules}
 use Rattle.std.proofs.lemmas.Result.{IfOk-from_err, err_from_is_err_and}
-use Rattle.office_mail.specs.Line.{spelled}
+use Rattle.office_mail.specs.steps.Line.{spelled}
 use Rattle.office_mail.proofs.BagFacts.{goes_on_twice, line_more, bad_line, line_ends, line_fails, line_missing, length-spelled}
 use Rattle.office_mail.proofs.bag.Bag.header.Goals as goal
 

@@ -1,7 +1,7 @@
 use Rattle.std.proofs.Common.{◌≡◌, ◌-◌}
 use Rattle.std.specs.Io.KnownBytes.{Consumes}
-use Rattle.office_mail.specs.Line.{spelled}
-use Rattle.office_mail.specs.BagReads.{GoesOn}
+use Rattle.office_mail.specs.steps.Line.{spelled}
+use Rattle.office_mail.specs.steps.BagReads.{GoesOn}
 use Rattle.office_mail.proofs.bag.Bag.header.Given as goal
 
 abbrev pub invariant-loop-byte : goal.invariant-loop-byte

@@ -1,7 +1,7 @@
 use Rattle.std.proofs.Common.{subst}
 use Rattle.testing_install.proofs.Trying.{falling_exact}
 use Rattle.testing_install.specs.Tracked.{Tracked}
-use Rattle.testing_install.specs.Trials.{IsDifference}
+use Rattle.testing_install.specs.steps.Trials.{IsDifference}
 use Rattle.testing_install.proofs.marks.Marks.falling.Goals as goal
 
 pub returns : goal.returns

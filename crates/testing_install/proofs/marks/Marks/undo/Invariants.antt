@@ -1,5 +1,5 @@
 use Rattle.std.proofs.Common.{◌≡◌, length}
-use Rattle.testing_install.specs.Tracked.{IsTracked}
+use Rattle.testing_install.specs.steps.Tracked.{IsTracked}
 use Rattle.testing_install.proofs.marks.Marks.undo.Given as goal
 
 abbrev pub invariant-loop-place : goal.invariant-loop-place

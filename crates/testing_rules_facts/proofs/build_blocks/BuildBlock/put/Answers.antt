@@ -1,5 +1,5 @@
 use Rattle.std.proofs.Common.{sym, subst}
-use Rattle.testing_rules_facts.specs.Blocks.{HasRows}
+use Rattle.testing_rules_facts.specs.steps.Blocks.{HasRows}
 use Rattle.testing_rules_facts.proofs.Blocking.{some-with}
 use Rattle.testing_rules_facts.proofs.build_blocks.BuildBlock.put.Goals as goal
 

@@ -5,9 +5,9 @@ use Rattle.testing_rules_model.specs.declared.facts.DropIn.{DropIn}
 use Rattle.testing_rules_model.specs.declared.facts.UploadIn.{UploadIn}
 use Rattle.testing_rules_model.specs.Boxed.{unboxed}
 use Rattle.testing_rules_model.specs.FactLists.{FactLists}
-use Rattle.testing_rules_model.specs.FactOrder.{IsFactOrder}
+use Rattle.testing_rules_model.specs.steps.FactOrder.{IsFactOrder}
 use Rattle.testing_rules_fact_order.specs.Uploads.{AreByMessage}
-use Rattle.testing_rules_facts.specs.HintOrder.{AreHintsByNumber, AreUnhintsByNumber}
+use Rattle.testing_rules_facts.specs.steps.HintOrder.{AreHintsByNumber, AreUnhintsByNumber}
 use Rattle.testing_rules_facts.proofs.facts.Facts.copy.Goals as goal
 
 same_order : (ss ss' : List UploadIn) (bs bs' : List BuildIn) (ds ds' : List DropIn) (gs gs' : List BugIn) → ss' ≡ ss → bs' ≡ bs → ds' ≡ ds → gs' ≡ gs → IsFactOrder ss bs ds gs → IsFactOrder ss' bs' ds' gs'

@@ -1,7 +1,7 @@
 use Rattle.std.proofs.Common.{◌∙◌, ap, sym, subst}
 use Rattle.testing_rules_model.specs.Boxed.{unboxed}
 use Rattle.testing_rules_model.specs.WithMessage.{with_bug}
-use Rattle.testing_rules_model.specs.FactOrder.{AreByNumber}
+use Rattle.testing_rules_model.specs.steps.FactOrder.{AreByNumber}
 use Rattle.testing_rules_facts.proofs.KeySlots.{by_number-bug}
 use Rattle.testing_rules_facts.proofs.facts.Facts.restore_bug.Goals as goal
 

@@ -1,7 +1,7 @@
 use Rattle.std.proofs.Common.{◌∙◌, ap, sym, subst}
 use Rattle.testing_rules_model.specs.Boxed.{unboxed}
 use Rattle.testing_rules_model.specs.WithMessage.{with_greatest}
-use Rattle.testing_rules_model.specs.FactOrder.{AreDropsByPair}
+use Rattle.testing_rules_model.specs.steps.FactOrder.{AreDropsByPair}
 use Rattle.testing_rules_facts.proofs.KeySlots.{drops_by_pair-drop}
 use Rattle.testing_rules_facts.proofs.facts.Facts.restore_drop.Goals as goal
 

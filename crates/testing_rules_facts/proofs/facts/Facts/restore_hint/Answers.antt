@@ -1,6 +1,6 @@
 use Rattle.std.proofs.Common.{◌∙◌, ap, sym, subst}
 use Rattle.testing_rules_model.specs.WithMessage.{with_hint}
-use Rattle.testing_rules_facts.specs.HintOrder.{AreHintsByNumber}
+use Rattle.testing_rules_facts.specs.steps.HintOrder.{AreHintsByNumber}
 use Rattle.testing_rules_facts.proofs.Saying.{hints_order}
 use Rattle.testing_rules_facts.proofs.facts.Facts.restore_hint.Goals as goal
 

@@ -1,7 +1,7 @@
 use Rattle.std.proofs.Common.{arith, sym, subst}
 use Rattle.testing_rules_model.specs.Boxed.{unboxed}
 use Rattle.testing_rules_model.specs.FactOrder.{AreByPair}
-use Rattle.testing_rules_model.specs.WithMessage.{stands_beside}
+use Rattle.testing_rules_model.specs.steps.WithMessage.{stands_beside}
 use Rattle.testing_rules_facts.proofs.KeySlots.{by_pair-builds}
 use Rattle.testing_rules_facts.proofs.facts.Facts.take_builds.Goals as goal
 

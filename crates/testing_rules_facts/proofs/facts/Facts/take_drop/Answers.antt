@@ -1,15 +1,16 @@
 use Rattle.std.proofs.Common.{◌++◌, [], ◌∙◌, ap, arith, filter, map, not, option_to_list, sym, subst}
 use Rattle.testing_rules_model.specs.Boxed.{unboxed}
 use Rattle.testing_rules_model.specs.FactLists.{FactLists}
-use Rattle.testing_rules_facts.specs.Entries.{with_entry}
+use Rattle.testing_rules_facts.specs.steps.Entries.{with_entry}
 use Rattle.testing_rules_fact_order.specs.declared.entry.FactUpdate.TheVariants.{Dropped}
 use Rattle.testing_rules_facts.proofs.Shifting.{dropped}
-use Rattle.testing_rules_model.specs.FactOrder.{AreByPair, AreDropsByPair}
-use Rattle.testing_rules_model.specs.FactRows.{build_row, drop_row}
+use Rattle.testing_rules_model.specs.FactOrder.{AreByPair}
+use Rattle.testing_rules_model.specs.steps.FactOrder.{AreDropsByPair}
+use Rattle.testing_rules_model.specs.steps.FactRows.{build_row, drop_row}
 use Rattle.testing_rules_model.specs.WithMessage.{with_drop, with_greatest, outlives}
 use Rattle.testing_rules_model.specs.declared.facts.DropIn.{DropIn}
 use Rattle.testing_rules_model.specs.Unstable.{drop_pair, drop_order, pair_order}
-use Rattle.testing_rules_facts.specs.ElementShifts.{way_given, come_in}
+use Rattle.testing_rules_facts.specs.steps.ElementShifts.{way_given, come_in}
 use Rattle.testing_rules_facts.proofs.KeySlots.{by_pair-drop, drops_by_pair-drop}
 use Rattle.testing_rules_facts.proofs.facts.Facts.take_drop.Goals as goal
 

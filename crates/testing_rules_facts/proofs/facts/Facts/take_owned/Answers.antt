@@ -2,7 +2,7 @@ use Rattle.std.proofs.Common.{◌∷◌, Contains, sym, ap, ◌∙◌, subst}
 use Rattle.testing_rules_model.specs.FactLists.{FactLists}
 use Rattle.testing_rules_model.specs.StandsFor.{StandsFor}
 use Rattle.testing_rules_model.specs.Tells.{Tells}
-use Rattle.testing_rules_facts.specs.Entries.{with_entry}
+use Rattle.testing_rules_facts.specs.steps.Entries.{with_entry}
 use Rattle.testing_rules_model.specs.FactDifference.{IsChangedFrom}
 use Rattle.testing_rules_facts.proofs.Joins.{joins, keeps, is_there}
 use Rattle.testing_rules_facts.proofs.Saying.{says_more}

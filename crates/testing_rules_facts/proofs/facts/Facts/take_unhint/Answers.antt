@@ -1,6 +1,6 @@
 use Rattle.std.proofs.Common.{arith, ◌∙◌, ap, sym, subst}
 use Rattle.testing_rules_model.specs.WithMessage.{with_unhint}
-use Rattle.testing_rules_facts.specs.HintOrder.{AreUnhintsByNumber}
+use Rattle.testing_rules_facts.specs.steps.HintOrder.{AreUnhintsByNumber}
 use Rattle.testing_rules_facts.proofs.Saying.{unhints_order}
 use Rattle.testing_rules_facts.proofs.facts.Facts.take_unhint.Goals as goal
 

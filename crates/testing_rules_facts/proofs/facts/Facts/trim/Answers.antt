@@ -8,7 +8,7 @@ use Rattle.testing_rules_model.specs.FactLists.{FactLists}
 use Rattle.testing_rules_model.specs.FactRows.{upload_row}
 use Rattle.testing_rules_model.specs.KeptFacts.{counts_beside, trimmed}
 use Rattle.testing_rules_model.specs.Suite.{Suite}
-use Rattle.testing_rules_fact_order.specs.Trimming.{with_sources}
+use Rattle.testing_rules_fact_order.specs.steps.Trimming.{with_sources}
 use Rattle.testing_rules_fact_order.specs.Uploads.{AreByMessage}
 use Rattle.testing_rules_facts.proofs.KeptUploads.{by_message-filter}
 use Rattle.testing_rules_facts.proofs.facts.Facts.trim.Goals as goal

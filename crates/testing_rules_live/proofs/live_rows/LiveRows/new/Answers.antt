@@ -1,7 +1,7 @@
 use Rattle.std.proofs.Common.{sym, subst, ◌∙◌}
 use Rattle.testing_rules_model.specs.JudgedRows.{lent}
 use Rattle.testing_rules_suites.specs.CarriedOver.{AreCarriedOver}
-use Rattle.testing_rules_suites.specs.PresentSteps.{IsLive}
+use Rattle.testing_rules_suites.specs.steps.PresentSteps.{IsLive}
 use Rattle.testing_rules_suites.proofs.Alive.{live_before}
 use Rattle.testing_rules_suites.proofs.Showing.{is_present, present_rows-by_key}
 use Rattle.testing_rules_live.proofs.live_rows.LiveRows.new.Goals as goal

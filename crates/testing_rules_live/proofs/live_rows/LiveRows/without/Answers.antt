@@ -1,8 +1,8 @@
 use Rattle.std.proofs.Common.{sym, ap, subst, ◌∙◌, Bool, not}
 use Rattle.std.specs.Str.{bytes_eq}
 use Rattle.testing_rules_model.specs.declared.suite.RowIn.{RowIn}
-use Rattle.testing_rules_suites.specs.AfterMoves.{rows_without}
-use Rattle.testing_rules_live.specs.Held.{held, AreLive}
+use Rattle.testing_rules_suites.specs.steps.AfterMoves.{rows_without}
+use Rattle.testing_rules_live.specs.steps.Held.{held, AreLive}
 use Rattle.testing_rules_model.specs.InOrder.{AreByKey}
 use Rattle.testing_rules_model.proofs.Ordered.{by_key-kept}
 use Rattle.testing_rules_suites.proofs.Showing.{present_rows-by_key}

@@ -2,7 +2,7 @@ use Rattle.std.proofs.Common.{◌≡◌, ap, ◌∙◌}
 use Rattle.std.specs.Prelude.{not, filter}
 use Rattle.std.specs.Str.{bytes_eq}
 use Rattle.testing_rules_model.specs.declared.suite.SourceIn.{SourceIn}
-use Rattle.testing_rules_live.specs.LiveSources.{sources_of}
+use Rattle.testing_rules_live.specs.steps.LiveSources.{sources_of}
 use Rattle.testing_rules_live.proofs.LiveSlots.{by_name, sources-left}
 use Rattle.testing_rules_live.proofs.live_sources.LiveSources.remove.Goals as goal
 

@@ -1,6 +1,6 @@
 use Rattle.std.proofs.Common.{◌≡◌, ◌∙◌, ap, []}
-use Rattle.testing_rules_suites.specs.AfterMoves.{with_rows, rows_at}
-use Rattle.testing_rules_suites.specs.PresentSteps.{PoolState, set_places, present_rows}
+use Rattle.testing_rules_suites.specs.steps.AfterMoves.{with_rows, rows_at}
+use Rattle.testing_rules_suites.specs.steps.PresentSteps.{PoolState, set_places, present_rows}
 use Rattle.testing_rules_suites.proofs.Showing.{standing_at}
 use Rattle.testing_rules_items.proofs.Weaker.{if_ok_weaker}
 use Rattle.testing_rules_live.proofs.pool_suites.PoolSuites.copies.Goals as goal

@@ -1,12 +1,12 @@
 use Rattle.std.proofs.Common.{◌<◌, sym, subst, length, List}
 use Rattle.std.specs.List.{All}
-use Rattle.testing_rules_live.specs.Lacks.{IsLack}
+use Rattle.testing_rules_live.specs.steps.Lacks.{IsLack}
 use Rattle.testing_rules_live.proofs.Unmet.{if_some_weaker}
 use Rattle.testing_rules_model.specs.Boxed.{unboxed}
 use Rattle.testing_rules_model.specs.declared.suite.RowIn.{RowIn}
 use Rattle.testing_rules_model.specs.Moves.{group_sources}
-use Rattle.testing_rules_suites.specs.Changes.{comes_at, AreThose}
-use Rattle.testing_rules_suites.specs.PresentSteps.{PoolState}
+use Rattle.testing_rules_suites.specs.steps.Changes.{comes_at, AreThose}
+use Rattle.testing_rules_suites.specs.steps.PresentSteps.{PoolState}
 use Rattle.testing_rules_suites.proofs.Changing.{coming_within}
 use Rattle.testing_rules_live.proofs.pool_suites.PoolSuites.lack_by_move.Goals as goal
 

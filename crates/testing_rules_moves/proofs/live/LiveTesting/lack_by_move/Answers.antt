@@ -1,12 +1,12 @@
 use Rattle.std.proofs.Common.{◌≡◌, IfOk, IfSome, false, subst}
 use Rattle.std.specs.Option.{is_none}
 use Rattle.testing_rules_items.proofs.Weaker.{if_ok_weaker}
-use Rattle.testing_rules_live.specs.Held.{held}
+use Rattle.testing_rules_live.specs.steps.Held.{held}
 use Rattle.testing_rules_live.proofs.Unmet.{if_some_weaker}
 use Rattle.testing_rules_model.specs.Boxed.{unboxed}
 use Rattle.testing_rules_model.specs.JudgedRows.{lent}
 use Rattle.testing_rules_model.specs.Suite.{Suite}
-use Rattle.testing_rules_moves.specs.Runs.{Moment, IsLacking, broken_by_move}
+use Rattle.testing_rules_moves.specs.steps.Runs.{Moment, IsLacking, broken_by_move}
 use Rattle.testing_rules_moves.proofs.Lacking.{lack_refused}
 use Rattle.testing_rules_moves.proofs.live.LiveTesting.lack_by_move.Goals as goal
 

@@ -1,17 +1,17 @@
 use Rattle.std.proofs.Common.{◌∙◌, sym, ap, ap₂, subst, List, IfSome}
 use Rattle.std.proofs.lemmas.Bool.{false≢true}
-use Rattle.testing_rules_live.specs.Held.{held, AreLive, IsChangeBy}
+use Rattle.testing_rules_live.specs.steps.Held.{held, AreLive, IsChangeBy}
 use Rattle.testing_rules_model.specs.Boxed.{unboxed}
 use Rattle.testing_rules_model.specs.declared.suite.RowIn.{RowIn}
 use Rattle.testing_rules_model.specs.declared.suite.SourceIn.{SourceIn}
 use Rattle.testing_rules_model.specs.InOrder.{AreByKey}
 use Rattle.testing_rules_model.specs.JudgedRows.{lent}
-use Rattle.testing_rules_live.specs.Lacks.{arriving}
+use Rattle.testing_rules_live.specs.steps.Lacks.{arriving}
 use Rattle.testing_rules_live.proofs.Unmet.{if_some_weaker}
-use Rattle.testing_rules_moves.specs.Refusals.{AreWoken, IsWithinRows}
-use Rattle.testing_rules_moves.specs.Runs.{Moment, after_move, broken_by_move}
+use Rattle.testing_rules_moves.specs.steps.Refusals.{AreWoken, IsWithinRows}
+use Rattle.testing_rules_moves.specs.steps.Runs.{Moment, after_move, broken_by_move}
 use Rattle.testing_rules_moves.proofs.Remembering.{within_rows}
-use Rattle.testing_rules_suites.specs.AfterMoves.{moved_rows}
+use Rattle.testing_rules_suites.specs.steps.AfterMoves.{moved_rows}
 use Rattle.testing_rules_suites.proofs.Showing.{by_key-none}
 use Rattle.testing_rules_moves.proofs.live.LiveTesting.move_unless_broken.Goals as goal
 

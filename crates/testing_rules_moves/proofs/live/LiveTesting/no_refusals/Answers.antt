@@ -1,11 +1,11 @@
 use Rattle.std.proofs.Common.{◌∙◌, ap, subst}
 use Rattle.testing_install.specs.Closed.{marked}
 use Rattle.testing_rules_items.proofs.Weaker.{if_ok_weaker}
-use Rattle.testing_rules_live.specs.Held.{held}
+use Rattle.testing_rules_live.specs.steps.Held.{held}
 use Rattle.testing_rules_model.specs.Boxed.{unboxed}
 use Rattle.testing_rules_model.specs.JudgedRows.{lent}
-use Rattle.testing_rules_moves.specs.Refusals.{AreRefused}
-use Rattle.testing_rules_moves.specs.Runs.{Moment}
+use Rattle.testing_rules_moves.specs.steps.Refusals.{AreRefused}
+use Rattle.testing_rules_moves.specs.steps.Runs.{Moment}
 use Rattle.testing_rules_moves.proofs.Remembering.{refused_none, replicate_off}
 use Rattle.testing_rules_moves.proofs.live.LiveTesting.no_refusals.Goals as goal
 

@@ -2,11 +2,11 @@ use Rattle.std.proofs.Common.{sym, ap, ap₂, ◌∙◌, subst, List}
 use Rattle.testing_rules_model.specs.Boxed.{unboxed}
 use Rattle.testing_rules_model.specs.declared.suite.RowIn.{RowIn}
 use Rattle.testing_rules_model.specs.declared.suite.SourceIn.{SourceIn}
-use Rattle.testing_rules_suites.specs.AfterMoves.{rows_without}
-use Rattle.testing_rules_live.specs.Held.{held, AreLive}
+use Rattle.testing_rules_suites.specs.steps.AfterMoves.{rows_without}
+use Rattle.testing_rules_live.specs.steps.Held.{held, AreLive}
 use Rattle.testing_rules_model.specs.InOrder.{AreByKey}
 use Rattle.testing_rules_model.specs.JudgedRows.{lent}
-use Rattle.testing_rules_moves.specs.Runs.{Moment, after_removal}
+use Rattle.testing_rules_moves.specs.steps.Runs.{Moment, after_removal}
 use Rattle.testing_rules_suites.proofs.Showing.{by_key-none}
 use Rattle.testing_rules_moves.proofs.live.LiveTesting.remove.Goals as goal
 

@@ -1,7 +1,7 @@
 use Rattle.std.proofs.Common.{◌≡◌, subst}
 use Rattle.std.specs.Option.{option_copied}
 use Rattle.testing_rules_model.specs.Excuses.{testing_version}
-use Rattle.testing_rules_moves.specs.Runs.{Moment}
+use Rattle.testing_rules_moves.specs.steps.Runs.{Moment}
 use Rattle.testing_rules_moves.proofs.live.LiveTesting.version_of.Goals as goal
 
 pub returns : goal.returns

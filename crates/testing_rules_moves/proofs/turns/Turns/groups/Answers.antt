@@ -2,7 +2,7 @@ use Rattle.std.proofs.Common.{arith, ◌∙◌, sym, ap, ◌+◌, ◌<◌, ◌�
 use Rattle.testing_rules_model.specs.Unstable.{is_in_force}
 use Rattle.testing_rules_model.specs.Suite.{Suite}
 use Rattle.testing_rules_model.specs.declared.facts.HintIn.{HintIn}
-use Rattle.testing_rules_moves.specs.Runs.{Basis, Run, go_on}
+use Rattle.testing_rules_moves.specs.steps.Runs.{Basis, Run, go_on}
 use Rattle.testing_rules_model.specs.Updates.{Outcome, in_turn, move_easy}
 use Rattle.testing_rules_moves.proofs.Runs.{run_passing-next, run_passing-skipped, run_passing-over}
 use Rattle.testing_rules_moves.proofs.turns.Turns.groups.Goals as goal

@@ -1,6 +1,6 @@
 use Rattle.std.proofs.Common.{◌≡◌, drop, filter}
 use Rattle.testing_rules_model.specs.Unstable.{is_in_force}
-use Rattle.testing_rules_moves.specs.Runs.{go_on}
+use Rattle.testing_rules_moves.specs.steps.Runs.{go_on}
 use Rattle.testing_rules_model.specs.Updates.{in_turn, move_easy}
 use Rattle.testing_rules_moves.proofs.turns.Turns.groups.Given as goal
 

@@ -1,7 +1,7 @@
 use Rattle.std.proofs.Common.{refl, ap, List, Ok}
 use Rattle.testing_rules_model.specs.declared.excuse.Excuse.{Excuse}
-use Rattle.testing_rules_moves.specs.Refusals.{IsNumbered, AreRefused, IsTried}
-use Rattle.testing_rules_moves.specs.Runs.{moment_of}
+use Rattle.testing_rules_moves.specs.steps.Refusals.{IsNumbered, AreRefused, IsTried}
+use Rattle.testing_rules_moves.specs.steps.Runs.{moment_of}
 use Rattle.testing_rules_moves.proofs.Trying.{by_answer, known_still, tried_moved, tried_stayed}
 use Rattle.testing_rules_moves.proofs.turns.Turns.look_first.Goals as goal
 

@@ -1,8 +1,8 @@
 use Rattle.std.proofs.Common.{◌∙◌, sym, ap, subst}
-use Rattle.testing_rules_model.specs.Updates.{move_circle}
-use Rattle.testing_rules_moves.specs.LentItems.{lent_excuses}
-use Rattle.testing_rules_moves.specs.Refusals.{excuses_of, AreNumbered}
-use Rattle.testing_rules_moves.specs.Runs.{go_on}
+use Rattle.testing_rules_model.specs.steps.Updates.{move_circle}
+use Rattle.testing_rules_moves.specs.steps.LentItems.{lent_excuses}
+use Rattle.testing_rules_moves.specs.steps.Refusals.{excuses_of, AreNumbered}
+use Rattle.testing_rules_moves.specs.steps.Runs.{go_on}
 use Rattle.testing_rules_moves.proofs.turns.Turns.move_all.Goals as goal
 
 pub moves-init : goal.moves-init

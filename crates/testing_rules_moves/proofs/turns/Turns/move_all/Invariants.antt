@@ -1,9 +1,9 @@
 use Rattle.std.proofs.Common.{◌≡◌}
 use Rattle.std.specs.VecDeque.{deque_len}
-use Rattle.testing_rules_model.specs.Updates.{move_circle}
-use Rattle.testing_rules_moves.specs.LentItems.{lent_excuses}
-use Rattle.testing_rules_moves.specs.Refusals.{excuses_of, AreNumbered, AreRefused}
-use Rattle.testing_rules_moves.specs.Runs.{go_on, moment_of}
+use Rattle.testing_rules_model.specs.steps.Updates.{move_circle}
+use Rattle.testing_rules_moves.specs.steps.LentItems.{lent_excuses}
+use Rattle.testing_rules_moves.specs.steps.Refusals.{excuses_of, AreNumbered, AreRefused}
+use Rattle.testing_rules_moves.specs.steps.Runs.{go_on, moment_of}
 use Rattle.testing_rules_moves.proofs.turns.Turns.move_all.Given as goal
 
 -- the moves so far and those of the circle are all

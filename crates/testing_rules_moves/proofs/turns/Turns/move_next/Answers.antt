@@ -1,7 +1,7 @@
 use Rattle.std.proofs.Common.{arith, ◌≡◌, refl, sym, ◌∙◌, ap, subst, ◌<◌, ◌≤◌, ◌+◌, ◌++◌, false, take, drop, length, get_or}
 use Rattle.std.specs.VecDeque.{deque_len}
-use Rattle.testing_rules_moves.specs.Refusals.{AreRefused, IsNext, IsTried}
-use Rattle.testing_rules_moves.specs.Runs.{moment_of}
+use Rattle.testing_rules_moves.specs.steps.Refusals.{AreRefused, IsNext, IsTried}
+use Rattle.testing_rules_moves.specs.steps.Runs.{moment_of}
 use Rattle.testing_rules_moves.proofs.Trying.{begin, found_none, found_later, found_here, own_number}
 use Rattle.testing_rules_moves.proofs.turns.Turns.move_next.Goals as goal
 

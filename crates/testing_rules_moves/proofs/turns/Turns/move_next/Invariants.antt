@@ -1,7 +1,7 @@
 use Rattle.std.proofs.Common.{◌≡◌, List}
 use Rattle.testing_rules_model.specs.declared.excuse.Excuse.{Excuse}
-use Rattle.testing_rules_moves.specs.Refusals.{excuses_of, AreNumbered, AreRefused}
-use Rattle.testing_rules_moves.specs.Runs.{moment_of}
+use Rattle.testing_rules_moves.specs.steps.Refusals.{excuses_of, AreNumbered, AreRefused}
+use Rattle.testing_rules_moves.specs.steps.Runs.{moment_of}
 use Rattle.testing_rules_moves.proofs.Trying.{IsSearching}
 use Rattle.testing_rules_moves.proofs.turns.Turns.move_next.Given as goal
 

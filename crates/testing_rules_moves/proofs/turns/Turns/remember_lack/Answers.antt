@@ -1,6 +1,6 @@
 use Rattle.std.proofs.Common.{◌≡◌, false, subst, ◌∷◌, []}
 use Rattle.std.specs.Option.{is_none}
-use Rattle.testing_rules_moves.specs.Runs.{Run, moment_of, broken_by_move}
+use Rattle.testing_rules_moves.specs.steps.Runs.{Run, moment_of, broken_by_move}
 use Rattle.testing_rules_moves.proofs.Remembering.{refused_more}
 use Rattle.testing_rules_moves.proofs.turns.Turns.remember_lack.Goals as goal
 

@@ -3,7 +3,7 @@ use Rattle.std.specs.List.{flat_map}
 use Rattle.testing_rules_items.specs.declared.item.HintItem.{HintItem}
 use Rattle.testing_rules_model.specs.Unstable.{is_in_force}
 use Rattle.testing_rules_model.specs.Suite.{Suite}
-use Rattle.testing_rules_moves.specs.Runs.{Basis, Run, go_on}
+use Rattle.testing_rules_moves.specs.steps.Runs.{Basis, Run, go_on}
 use Rattle.testing_rules_model.specs.Updates.{Outcome, in_turn, remove_item, removals_of}
 use Rattle.testing_rules_moves.proofs.Runs.{run_hint-next, run_hint-skipped, run_hints-over}
 use Rattle.testing_rules_moves.proofs.turns.Turns.removals.Goals as goal

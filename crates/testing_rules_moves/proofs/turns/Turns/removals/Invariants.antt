@@ -1,7 +1,7 @@
 use Rattle.std.proofs.Common.{◌≡◌, drop, filter}
 use Rattle.std.specs.List.{flat_map}
 use Rattle.testing_rules_model.specs.Unstable.{is_in_force}
-use Rattle.testing_rules_moves.specs.Runs.{go_on}
+use Rattle.testing_rules_moves.specs.steps.Runs.{go_on}
 use Rattle.testing_rules_model.specs.Updates.{in_turn, remove_item, removals_of}
 use Rattle.testing_rules_moves.proofs.turns.Turns.removals.Given as goal
 

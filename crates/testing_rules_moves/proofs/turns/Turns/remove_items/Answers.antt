@@ -1,7 +1,7 @@
 use Rattle.std.proofs.Common.{arith, ◌∙◌, sym, ap, ℕ, ◌+◌, ◌<◌, ◌≤◌, length, drop, map}
 use Rattle.testing_rules_items.specs.declared.item.HintItem.{HintItem}
 use Rattle.testing_rules_model.specs.Suite.{Suite}
-use Rattle.testing_rules_moves.specs.Runs.{Basis, Run, go_on}
+use Rattle.testing_rules_moves.specs.steps.Runs.{Basis, Run, go_on}
 use Rattle.testing_rules_model.specs.Updates.{Outcome, in_turn, remove_item}
 use Rattle.testing_rules_moves.proofs.Runs.{run-next, run-over}
 use Rattle.testing_rules_moves.proofs.turns.Turns.remove_items.Goals as goal

@@ -1,5 +1,5 @@
 use Rattle.std.proofs.Common.{◌≡◌, drop, map}
-use Rattle.testing_rules_moves.specs.Runs.{go_on}
+use Rattle.testing_rules_moves.specs.steps.Runs.{go_on}
 use Rattle.testing_rules_model.specs.Updates.{in_turn, remove_item}
 use Rattle.testing_rules_moves.proofs.turns.Turns.remove_items.Given as goal
 

@@ -1,5 +1,5 @@
 use Rattle.std.proofs.Common.{◌∙◌, refl, sym}
-use Rattle.testing_rules_moves.specs.Runs.{moment_of}
+use Rattle.testing_rules_moves.specs.steps.Runs.{moment_of}
 use Rattle.testing_rules_moves.proofs.Remembering.{refused_known}
 use Rattle.testing_rules_moves.proofs.Trying.{tried_stayed}
 use Rattle.testing_rules_moves.proofs.turns.Turns.try_alone.Goals as goal

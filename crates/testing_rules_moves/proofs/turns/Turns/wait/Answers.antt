@@ -1,7 +1,8 @@
 use Rattle.std.proofs.Common.{◌≡◌, ◌∙◌, sym, ap, subst}
 use Rattle.std.specs.Prelude.{OnOk}
-use Rattle.testing_rules_model.specs.Updates.{decide, waiting}
-use Rattle.testing_rules_moves.specs.Runs.{Run, go_on}
+use Rattle.testing_rules_model.specs.Updates.{decide}
+use Rattle.testing_rules_model.specs.steps.Updates.{waiting}
+use Rattle.testing_rules_moves.specs.steps.Runs.{Run, go_on}
 use Rattle.testing_rules_moves.proofs.Runs.{told_alone, run_wait-for, run_wait-none}
 use Rattle.testing_rules_moves.proofs.turns.Turns.wait.Goals as goal
 

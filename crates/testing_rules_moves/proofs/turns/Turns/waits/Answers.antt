@@ -1,10 +1,11 @@
 use Rattle.std.proofs.Common.{arith, ◌≡◌, ◌∙◌, sym, ap, ◌+◌, ◌<◌, ◌≤◌, ◌++◌, length, drop, map}
 use Rattle.std.specs.Borrow.{Bor}
 use Rattle.testing_rules_model.specs.declared.excuse.Excuse.{Excuse}
-use Rattle.testing_rules_moves.specs.LentItems.{lent_excuses}
+use Rattle.testing_rules_moves.specs.steps.LentItems.{lent_excuses}
 use Rattle.testing_rules_model.specs.Suite.{Suite}
-use Rattle.testing_rules_moves.specs.Runs.{Basis, Run, go_on}
-use Rattle.testing_rules_model.specs.Updates.{Outcome, in_turn, remaining, wait}
+use Rattle.testing_rules_moves.specs.steps.Runs.{Basis, Run, go_on}
+use Rattle.testing_rules_model.specs.Updates.{Outcome, in_turn, remaining}
+use Rattle.testing_rules_model.specs.steps.Updates.{wait}
 use Rattle.testing_rules_moves.proofs.Runs.{run-next, run-over}
 use Rattle.testing_rules_moves.proofs.Circle.{in_turn-wait}
 use Rattle.testing_rules_moves.proofs.turns.Turns.waits.Goals as goal

@@ -1,7 +1,8 @@
 use Rattle.std.proofs.Common.{◌≡◌, drop}
-use Rattle.testing_rules_moves.specs.LentItems.{lent_excuses}
-use Rattle.testing_rules_moves.specs.Runs.{go_on}
-use Rattle.testing_rules_model.specs.Updates.{in_turn, wait}
+use Rattle.testing_rules_moves.specs.steps.LentItems.{lent_excuses}
+use Rattle.testing_rules_moves.specs.steps.Runs.{go_on}
+use Rattle.testing_rules_model.specs.Updates.{in_turn}
+use Rattle.testing_rules_model.specs.steps.Updates.{wait}
 use Rattle.testing_rules_moves.proofs.turns.Turns.waits.Given as goal
 
 -- those so far and those of the rest are all

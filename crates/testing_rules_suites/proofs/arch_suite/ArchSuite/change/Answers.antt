@@ -1,7 +1,7 @@
 use Rattle.std.proofs.Common.{◌∙◌, sym, ap, subst, length}
 use Rattle.std.proofs.lemmas.Result.{IfOk-from_err, on_err_weaker}
 use Rattle.testing_install.specs.Among.{after_change}
-use Rattle.testing_rules_suites.specs.ArchRows.{AreNumbers, IsAfter}
+use Rattle.testing_rules_suites.specs.steps.ArchRows.{AreNumbers, IsAfter}
 use Rattle.testing_rules_suites.proofs.Numbers.{numbers_within, part_after, after_numbers, on_ok_weaker}
 use Rattle.testing_rules_suites.proofs.arch_suite.ArchSuite.change.Goals as goal
 

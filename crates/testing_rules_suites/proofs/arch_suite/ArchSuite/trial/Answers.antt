@@ -4,7 +4,7 @@ use Rattle.std.specs.List.{All}
 use Rattle.std.proofs.lemmas.Result.{IfOk-from_err}
 use Rattle.testing_install.specs.Among.{IsLost, after_change}
 use Rattle.testing_install.specs.Closed.{marked}
-use Rattle.testing_rules_suites.specs.ArchRows.{AreNumbers, AreLostFrom}
+use Rattle.testing_rules_suites.specs.steps.ArchRows.{AreNumbers, AreLostFrom}
 use Rattle.testing_rules_suites.proofs.Numbers.{numbers_within, lost_within, lost_numbers}
 use Rattle.testing_rules_items.proofs.Weaker.{if_ok_weaker}
 use Rattle.testing_rules_suites.proofs.arch_suite.ArchSuite.trial.Goals as goal

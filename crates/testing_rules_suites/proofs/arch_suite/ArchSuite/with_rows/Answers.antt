@@ -2,8 +2,8 @@ use Rattle.std.proofs.Common.{◌∙◌, sym, ap, subst, ◌<◌, ◌++◌, leng
 use Rattle.std.specs.List.{All}
 use Rattle.testing_install.specs.Rows.{shared}
 use Rattle.testing_install.proofs.Sharing.{length-shared}
-use Rattle.testing_rules_suites.specs.ArchRows.{ArchRows, package_at}
-use Rattle.testing_rules_suites.specs.PresentSteps.{IsOver, IsSuiteOn}
+use Rattle.testing_rules_suites.specs.steps.ArchRows.{ArchRows, package_at}
+use Rattle.testing_rules_suites.specs.steps.PresentSteps.{IsOver, IsSuiteOn}
 use Rattle.testing_rules_suites.proofs.MorePlaces.{places_behind, over_longer, part_longer, suite_longer}
 use Rattle.testing_rules_suites.proofs.arch_suite.ArchSuite.with_rows.Goals as goal
 

@@ -2,7 +2,7 @@ use Rattle.std.proofs.Common.{◌≡◌, ◌∙◌, sym, ap, subst, ◌<◌, len
 use Rattle.std.specs.List.{All}
 use Rattle.testing_install.proofs.Marking.{length-with_all}
 use Rattle.testing_rules_suites.specs.Present.{CarriedState}
-use Rattle.testing_rules_suites.specs.PresentSteps.{AreSuites}
+use Rattle.testing_rules_suites.specs.steps.PresentSteps.{AreSuites}
 use Rattle.testing_rules_suites.proofs.Suites.{length-after, flags_are}
 use Rattle.testing_rules_suites.proofs.carried_suites.CarriedSuites.after.Goals as goal
 

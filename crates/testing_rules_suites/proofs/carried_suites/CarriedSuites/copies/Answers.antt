@@ -1,10 +1,10 @@
 use Rattle.std.proofs.Common.{◌≡◌, ◌∙◌, ap, subst, List, [], IfOk, IfSome}
-use Rattle.testing_rules_suites.specs.AfterMoves.{rows_at}
+use Rattle.testing_rules_suites.specs.steps.AfterMoves.{rows_at}
 use Rattle.testing_rules_model.specs.InOrder.{AreByKey}
 use Rattle.testing_rules_model.specs.SameMessages.{SameElements}
 use Rattle.testing_rules_model.specs.JudgedRows.{lent}
 use Rattle.testing_rules_model.specs.declared.suite.RowIn.{RowIn}
-use Rattle.testing_rules_suites.specs.PresentSteps.{set_places}
+use Rattle.testing_rules_suites.specs.steps.PresentSteps.{set_places}
 use Rattle.testing_rules_suites.proofs.OneSort.{puts-in_order}
 use Rattle.testing_rules_suites.proofs.carried_suites.CarriedSuites.copies.Goals as goal
 

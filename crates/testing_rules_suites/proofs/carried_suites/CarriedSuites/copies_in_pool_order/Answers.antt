@@ -2,11 +2,11 @@ use Rattle.std.proofs.Common.{◌≡◌, ◌∙◌, sym, ap, subst, ◌<◌, len
 use Rattle.std.specs.List.{All, slice_get}
 use Rattle.std.proofs.lemmas.Option.{IfSome_then}
 use Rattle.testing_install.specs.Closed.{marked}
-use Rattle.testing_rules_suites.specs.AfterMoves.{rows_at}
-use Rattle.testing_rules_suites.specs.Pools.{HasPlaces}
+use Rattle.testing_rules_suites.specs.steps.AfterMoves.{rows_at}
+use Rattle.testing_rules_suites.specs.steps.Pools.{HasPlaces}
 use Rattle.testing_rules_model.specs.SameMessages.{SameElements}
 use Rattle.testing_rules_suites.specs.Present.{CarriedState}
-use Rattle.testing_rules_suites.specs.PresentSteps.{set_places}
+use Rattle.testing_rules_suites.specs.steps.PresentSteps.{set_places}
 use Rattle.testing_rules_suites.proofs.Flags.{bounded_filter}
 use Rattle.testing_rules_suites.proofs.Merging.{same_places}
 use Rattle.testing_rules_model.proofs.Sets.{same-given}

@@ -1,9 +1,9 @@
 use Rattle.std.proofs.Common.{◌≡◌, ◌∙◌, sym, ap, subst, ◌<◌, List, length, []}
 use Rattle.std.specs.List.{All}
-use Rattle.testing_rules_suites.specs.AfterMoves.{with_rows, rows_at}
+use Rattle.testing_rules_suites.specs.steps.AfterMoves.{with_rows, rows_at}
 use Rattle.testing_rules_model.specs.JudgedRows.{lent}
 use Rattle.testing_rules_suites.specs.Present.{CarriedState}
-use Rattle.testing_rules_suites.specs.PresentSteps.{set_places}
+use Rattle.testing_rules_suites.specs.steps.PresentSteps.{set_places}
 use Rattle.testing_rules_model.specs.declared.suite.RowIn.{RowIn}
 use Rattle.testing_rules_suites.proofs.Showing.{set_places-within}
 use Rattle.testing_rules_items.proofs.Weaker.{if_ok_weaker}

@@ -2,7 +2,7 @@ use Rattle.std.proofs.Common.{arith, ◌≡◌, ◌∙◌, sym, ap, ap₂, subst
 use Rattle.testing_install.proofs.Marking.{grown_to}
 use Rattle.testing_rules_model.specs.JudgedRows.{lent}
 use Rattle.testing_rules_suites.specs.Present.{CarriedState}
-use Rattle.testing_rules_suites.specs.PresentSteps.{AreOver, AreSuites}
+use Rattle.testing_rules_suites.specs.steps.PresentSteps.{AreOver, AreSuites}
 use Rattle.testing_rules_model.specs.declared.suite.RowIn.{RowIn}
 use Rattle.testing_rules_suites.proofs.Extending.{longer_from, longer_over, longer_flags, longer_kept}
 use Rattle.testing_rules_suites.proofs.carried_suites.CarriedSuites.with_rows.Goals as goal

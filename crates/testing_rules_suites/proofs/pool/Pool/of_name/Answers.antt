@@ -4,7 +4,7 @@ use Rattle.std.specs.List.{slice_get}
 use Rattle.std.proofs.lemmas.Option.{slice_get-map}
 use Rattle.deb_control.specs.declared.binary.Binary.{Binary}
 use Rattle.testing_rules_model.specs.declared.suite.RowIn.{RowIn}
-use Rattle.testing_rules_suites.specs.Pools.{packages_of}
+use Rattle.testing_rules_suites.specs.steps.Pools.{packages_of}
 use Rattle.testing_rules_suites.proofs.pool.Pool.of_name.Goals as goal
 
 pub returns-clause-complete : goal.returns-clause-complete

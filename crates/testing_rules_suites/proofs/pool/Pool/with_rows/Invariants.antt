@@ -1,6 +1,6 @@
 use Rattle.std.proofs.Common.{◌≡◌, ◌++◌, take}
 use Rattle.testing_rules_model.specs.JudgedRows.{lent}
-use Rattle.testing_rules_suites.specs.Pools.{IsPool}
+use Rattle.testing_rules_suites.specs.steps.Pools.{IsPool}
 use Rattle.testing_rules_suites.proofs.pool.Pool.with_rows.Given as goal
 
 -- those so far

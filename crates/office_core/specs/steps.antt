@@ -1,0 +1,4 @@
+-- What serves proofs alone: no contract of a call that users make rests on it.
+pub mod Asked
+pub mod Counting
+pub mod GatherSteps

@@ -1,0 +1,6 @@
+-- What serves proofs alone: no contract of a call that users make rests on it.
+pub mod Counting
+pub mod Outcome
+pub mod Taking
+pub mod Walk
+pub mod Reported

@@ -1,0 +1,73 @@
+-- Hints of which the run does each, and what is told of the sources that were asked for.
+use Rattle.std.specs.Prelude.{◌≡◌, ℕ, ◌+◌, true, false, List, [], ◌∷◌, map, Option, None}
+use Rattle.std.specs.List.{AllZip, list_any}
+use Rattle.jiff_core.specs.declared.civil.date.Date.{Date}
+use Rattle.testing_rules_model.specs.Covered.{Covered}
+use Rattle.testing_rules_model.specs.FactLists.{FactLists}
+use Rattle.testing_rules_model.specs.StandsFor.{StandsFor}
+use Rattle.testing_rules_model.specs.Suite.{Suite}
+use Rattle.testing_rules_model.specs.Unstable.{built_rows}
+use Rattle.testing_rules_model.specs.declared.excuse.Excuse.{Excuse}
+use Rattle.testing_rules_model.specs.declared.update.Decision.{Decision}
+use Rattle.testing_rules_model.specs.declared.update.Decision.TheVariants.{RemoveDone, RemoveRefused, EasyDone, EasyNotCandidate, EasyRefused, Accept, Wait}
+use Rattle.testing_rules_items.specs.Words.{Text}
+use Rattle.office_core_outcome.specs.NoCandidate.{no_candidate_line}
+use Rattle.testing_rules_refusals.specs.Stuck.{IsStuckText}
+use Rattle.office_mail.specs.Lists.{Lists}
+use Rattle.office_mail.specs.Kept.{Kept}
+use Rattle.office_core_facts.specs.Outcome.{testing_after}
+use Rattle.office_core_facts.specs.Seen.{items_within, release}
+use Rattle.office_core_outcome.specs.Hints.{first_refused, hint_letters, with_letters}
+use Rattle.office_core_outcome.specs.Proposal.{AreAnswers, IsAnswer, KeepsMoves, are_done, decisions_by, freed_by, is_moved, tried_decisions}
+use Rattle.office_core_outcome.specs.declared.proposal.Proposal.{Proposal}
+
+-- the names of the sources that the decision moves
+abbrev pub names_in : Decision → List Text
+names_in d = elim d [
+  | RemoveDone hint name v ↦ []
+  | RemoveRefused hint name v offender ↦ []
+  | EasyDone hint items ↦ map (λ m. m.name) items
+  | EasyNotCandidate hint name v ↦ []
+  | EasyRefused hint offender ↦ []
+  | Accept name v ↦ name ∷ []
+  | Wait name v offender ↦ []
+]
+
+-- hints behind a number are taken, and these are the decisions of the run with them, over all that the facts stand for, which does each
+pub record IsSettled (setup : Lists) (date : Date) (number : ℕ) (facts : FactLists) (t : Suite) (hints : List (List ℕ)) (ds : List Decision) : Type 0 where
+  pub taken : first_refused setup number 0 hints ≡ None
+  pub done : are_done number hints ds ≡ true
+  pub decided : (s : Covered) → StandsFor facts s t → ds ≡ decisions_by setup date (with_letters setup (release setup) (hint_letters setup number hints) s) t
+
+-- the decisions move all that the run moves without the hints, over all that the facts stand for
+abbrev pub KeepsRun : Lists → Date → FactLists → Suite → List Decision → Type 0
+KeepsRun setup date facts t ds = (s : Covered) → StandsFor facts s t → KeepsMoves (decisions_by setup date s t) ds
+
+-- by facts, excuses, and testing behind the hints that stand, a text shows that no group frees the source, which these decisions don't move
+abbrev pub IsStuckBehind : List Text → FactLists → List Excuse → Suite → List Decision → Text → Text → Type 0
+IsStuckBehind archs facts excuses behind ds source text =
+    (list_any (is_moved source) ds ≡ false) × IsStuckText archs facts.sources (built_rows archs facts.rows) excuses behind source text
+
+-- this is told of the source: such a text or none, or else the line of one that isn't a candidate
+abbrev pub IsAnswerBehind : List Text → FactLists → List Excuse → Suite → List Decision → Text → Option Text → Type 0
+IsAnswerBehind archs facts excuses behind ds source text =
+    IsAnswer (no_candidate_line archs facts.sources excuses behind source) (IsStuckBehind archs facts excuses behind ds source) text
+
+-- these are told of the sources
+abbrev pub AreAnswersBehind : List Text → FactLists → List Excuse → Suite → List Decision → List Text → List (Option Text) → Type 0
+AreAnswersBehind archs facts excuses behind ds sources texts = AllZip (IsAnswerBehind archs facts excuses behind ds) sources texts
+
+-- the same over all messages that the facts represent
+abbrev pub AreAnswersOver : List Text → Date → FactLists → Suite → List Decision → List Text → List (Option Text) → Type 0
+AreAnswersOver archs date facts t ds sources texts = (s : Covered) → StandsFor facts s t → AreAnswers archs date s t ds sources texts
+
+-- a proposal over these covers, with a given date
+pub record IsProposedOver (setup : Lists) (kept : Kept) (k : ℕ) (date : Date) (covers : ℕ → ℕ) (sources : List Text) (p : Proposal) : Type 0 where
+  pub dated : p.date ≡ date
+  pub run : p.run ≡ k + 1
+  pub first : p.first ≡ covers (release setup) + 1
+  pub taken : first_refused setup (covers (release setup)) 0 p.hints.items ≡ None
+  pub done : are_done (covers (release setup)) p.hints.items (tried_decisions setup kept k date covers p.hints.items) ≡ true
+  pub keeps : KeepsMoves (decisions_by setup date (items_within setup kept covers) (testing_after setup kept k)) (tried_decisions setup kept k date covers p.hints.items)
+  pub freed : p.freed.items ≡ freed_by (tried_decisions setup kept k date covers p.hints.items) sources
+  pub answers : AreAnswers setup.archs date (items_within setup kept covers) (testing_after setup kept k) (tried_decisions setup kept k date covers p.hints.items) sources p.answers.items

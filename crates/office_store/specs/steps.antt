@@ -1,0 +1,5 @@
+-- What serves proofs alone: no contract of a call that users make rests on it.
+pub mod MigratingSteps
+pub mod Opening
+pub mod Conf
+pub mod Store

@@ -1,0 +1,13 @@
+-- What serves proofs alone: no contract of a call that users make rests on it.
+pub mod Texts
+pub mod Nearby
+pub mod Tables
+pub mod TableSteps
+pub mod EntrySteps
+pub mod TableContent
+pub mod ReadingSteps
+pub mod FactSteps
+pub mod Differences
+pub mod Loaded
+pub mod StepsWithin
+pub mod ReadsOnly
