@@ -23,7 +23,7 @@ use Rattle.office_core_facts.specs.Outcome.{covered_items, item_at, testing_afte
 use Rattle.office_core_facts.specs.Seen.{IsSeen}
 use Rattle.office_core_facts.proofs.WalkFacts.{at_place, find_entry}
 use Rattle.office_core_why.specs.UnstableText.{unstable_text}
-use Rattle.office_core_laws.specs.Checked.{HasPackages, IsChecked, IsFromIndex, IsOrdered}
+use Rattle.office_core_laws.specs.Checked.{HasPackages, IsChecked, IsFromIndex, IsOrdered, Marks}
 use Rattle.office_core_laws.specs.FromUnstable.{package_item}
 use Rattle.office_core_laws.specs.Mailed.{IsToldBy, SaysDue}
 use Rattle.office_core_laws.specs.Printed.{items_text}
@@ -33,11 +33,11 @@ use Rattle.office_core_laws.proofs.Moving.{kept_from_unstable}
 use Rattle.office_core_laws.proofs.OrderedRuns.{row_seen}
 use Rattle.office_core_laws.proofs.PrintedItems.{rows_printed}
 
-pub checked_run : (setup : Lists) (kept : Kept) (k : ℕ) (told index dropped : List Item) (gone : ℕ) (due : Due) → IsSetup setup
-    → HasPackages told (unstable_rows setup.archs (covered_items setup kept (k + 1))) → IsChecked told index dropped gone due
-    → IsFromIndex index due (testing_after setup kept k) (testing_after setup kept (k + 1))
-checked_run setup kept k told index dropped gone due is has checked =
-    comes_from_index setup.archs (covered_items setup kept (k + 1)) told index dropped gone due is.archs has checked
+pub checked_run : (setup : Lists) (kept : Kept) (k : ℕ) (marks : Marks) (told index dropped : List Item) (gone : ℕ) (due : Due) → IsSetup setup
+    → HasPackages marks told (unstable_rows setup.archs (covered_items setup kept (k + 1))) → IsChecked told index dropped gone due
+    → IsFromIndex marks index due (testing_after setup kept k) (testing_after setup kept (k + 1))
+checked_run setup kept k marks told index dropped gone due is has checked =
+    comes_from_index setup.archs (covered_items setup kept (k + 1)) marks told index dropped gone due is.archs has checked
     (testing_after setup kept k) (testing_after setup kept (k + 1)) (kept_from_unstable setup kept k)
 
 -- each place of kept mail has one message
@@ -53,11 +53,11 @@ one_covered setup kept k = λ m o cm co sender number.
     same_Some m o (sym e.2 ∙ ap (λ (p : Place). item_at setup (p, e.0.1)) place ∙ ap (λ (t : List ℕ). item_at setup (f.0.0, t)) text ∙ f.2)
 
 -- the next order's run, behind a check of what was seen before
-pub ordered_run : (setup : Lists) (kept late : Kept) (k : ℕ) (seen : Covered) (told index dropped : List Item) (gone : ℕ) (due : Due) → IsSetup setup → IsSeen setup kept seen → IsOrdered setup kept late k
-    → HasPackages told (unstable_rows setup.archs seen) → IsChecked told index dropped gone due
-    → IsFromIndex index due (testing_after setup late k) (testing_after setup late (k + 1))
-ordered_run setup kept late k seen told index dropped gone due is sees ordered has checked =
-    checked_run setup late k told index dropped gone due is
+pub ordered_run : (setup : Lists) (kept late : Kept) (k : ℕ) (seen : Covered) (marks : Marks) (told index dropped : List Item) (gone : ℕ) (due : Due) → IsSetup setup → IsSeen setup kept seen → IsOrdered setup kept late k
+    → HasPackages marks told (unstable_rows setup.archs seen) → IsChecked told index dropped gone due
+    → IsFromIndex marks index due (testing_after setup late k) (testing_after setup late (k + 1))
+ordered_run setup kept late k seen marks told index dropped gone due is sees ordered has checked =
+    checked_run setup late k marks told index dropped gone due is
     (λ r c. has r (row_seen setup kept late k seen sees ordered (one_covered setup late (k + 1)) setup.archs r c)) checked
 
 pub mailed_run : (setup : Lists) (kept : Kept) (k : ℕ) (s sent : Covered) (told index dropped : List Item) (gone : ℕ) (due : Due) → IsSetup setup → SameElements (covered_items setup kept (k + 1)) (s ++ sent)

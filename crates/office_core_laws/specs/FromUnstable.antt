@@ -24,7 +24,7 @@ pub record IsFromUnstable (archs : List Text) (s : Covered) (old new : Suite) : 
 abbrev pub package_item : RowIn → Item
 package_item r = record { architecture = r.binary.architecture; name = r.binary.name; version = r.binary.version }
 
--- sources and their packages as items
+-- sources and packages as items of an archive
 abbrev pub items_of : List SourceIn → List RowIn → List Item
 items_of sources rows = map (λ x. record { architecture = codes "source"; name = x.name; version = x.version }) sources ++ map package_item rows
 

@@ -1,4 +1,4 @@
--- Unstable behind mail of what is due to an office.
+-- Unstable behind mail of what is due to an office in which no package bears a mark.
 use Rattle.std.specs.Prelude.{◌≡◌, true, List, map, Contains}
 use Rattle.archive_plan.specs.declared.items.Item.{Item}
 use Rattle.archive_plan.specs.declared.sync.Due.{Due}
@@ -8,7 +8,7 @@ use Rattle.testing_rules_model.specs.declared.facts.BuildIn.{BuildIn}
 use Rattle.testing_rules_model.specs.declared.facts.DropIn.{DropIn}
 use Rattle.testing_rules_model.specs.Covered.{Covered, builds_in, drops_in}
 use Rattle.testing_rules_model.specs.Unstable.{unstable_rows}
-use Rattle.office_core_laws.specs.Checked.{HasPackages}
+use Rattle.office_core_laws.specs.Checked.{HasPackages, without_marks}
 use Rattle.office_core_laws.specs.FromUnstable.{AreAmong}
 
 -- a build's package, and up to which version a drop drops one
@@ -27,7 +27,7 @@ dropped_items s = map drop_item (drops_in s)
 
 -- the list has each package of unstable as these messages give it; they say each package and each drop that is listed
 pub record IsToldBy (archs : List Text) (s : Covered) (told dropped : List Item) : Type 0 where
-  pub rows : HasPackages told (unstable_rows archs s)
+  pub rows : HasPackages without_marks told (unstable_rows archs s)
   pub built : (x : Item) → Contains told x → is_package x ≡ true → Contains (built_items s) x
   pub drops : AreAmong dropped (dropped_items s)
 

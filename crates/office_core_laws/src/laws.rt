@@ -23,7 +23,7 @@ ghost use Rattle.office_core_facts.specs.Seen.{IsSeen, items_within, release};
 ghost use Rattle.office_core_outcome.specs.Proposal.{IsShownStuck};
 ghost use Rattle.office_core_why.specs.UnstableText.{unstable_text};
 ghost use Rattle.office_core.specs.Unbroken.{AreUnbroken};
-ghost use Rattle.office_core_laws.specs.Checked.{HasPackages, IsChecked, IsFromIndex, IsOrdered};
+ghost use Rattle.office_core_laws.specs.Checked.{HasPackages, IsChecked, IsFromIndex, IsOrdered, Marks};
 ghost use Rattle.office_core_laws.specs.FromUnstable.{AreAmong, IsFromUnstable, package_item, suite_items, told_items};
 ghost use Rattle.office_core_laws.specs.Mailed.{IsToldBy, SaysDue, built_items, dropped_items};
 ghost use Rattle.office_core_laws.specs.OrderTaken.{IsFrom1970, IsTaken};
@@ -43,18 +43,19 @@ pub fn moves_only_what_is_there()
         → AreAmong testing (suite_items (testing_after setup kept (k + 1))) → AreAmong (suite_items (testing_after setup kept k)) suite → lacking (lacking testing suite) index ≡ [] }
 {}
 
-/// What moves behind the check of office-feed is in the index. Each package of unstable is told to `office-sync`, as the
-/// run's covered mail gives it, and nothing is due to be dropped. Then the index has each package that the run brings
-/// into testing, at that version, or a higher version of it that is still due to be told. No mail drops a source, so of a
-/// source this says that such a package was built from its version.
+/// What moves behind the check of office-feed is in the index. `office-sync` is told each package of unstable as the
+/// run's covered mail gives it, once and above all that was dropped of it, at the version of the archive for which it
+/// stands, by any reading of marks; and nothing is due to be dropped. Then the index has what each package stands for
+/// that the run brings into testing, at that version, or a higher version of it that is still due to be told. No mail
+/// drops a source, so of a source this says that such a package was built from its version.
 pub fn checked_index_has_what_moves()
-    ensures run { (setup : Lists) (kept : Kept) (k : ℕ) (told index dropped : List Item) (gone : ℕ) (due : Due) → IsSetup setup
-        → HasPackages told (unstable_rows setup.archs (covered_items setup kept (k + 1))) → IsChecked told index dropped gone due
-        → IsFromIndex index due (testing_after setup kept k) (testing_after setup kept (k + 1)) }
+    ensures run { (setup : Lists) (kept : Kept) (k : ℕ) (marks : Marks) (told index dropped : List Item) (gone : ℕ) (due : Due) → IsSetup setup
+        → HasPackages marks told (unstable_rows setup.archs (covered_items setup kept (k + 1))) → IsChecked told index dropped gone due
+        → IsFromIndex marks index due (testing_after setup kept k) (testing_after setup kept (k + 1)) }
     // The check comes before the order. What it compares is what the office then prints as its unstable, over all mail
     // without a gap, and the run of the next order sees just that, if this order covers it.
-    ensures next { (setup : Lists) (kept late : Kept) (k : ℕ) (seen : Covered) (told index dropped : List Item) (gone : ℕ) (due : Due) → IsSetup setup → IsSeen setup kept seen → IsOrdered setup kept late k
-        → HasPackages told (unstable_rows setup.archs seen) → IsChecked told index dropped gone due → IsFromIndex index due (testing_after setup late k) (testing_after setup late (k + 1)) }
+    ensures next { (setup : Lists) (kept late : Kept) (k : ℕ) (seen : Covered) (marks : Marks) (told index dropped : List Item) (gone : ℕ) (due : Due) → IsSetup setup → IsSeen setup kept seen → IsOrdered setup kept late k
+        → HasPackages marks told (unstable_rows setup.archs seen) → IsChecked told index dropped gone due → IsFromIndex marks index due (testing_after setup late k) (testing_after setup late (k + 1)) }
 {}
 
 /// Mail of what is due brings unstable to the index, before the office is asked again.
