@@ -66,12 +66,19 @@ short_body setup None e = omega (arith, e)
 short_body setup (Some NoMemory) e = omega (arith, e)
 short_body setup (Some Store) e = omega (arith, e)
 
+-- a request to settle delivers no text
+none_delivered : (setup : Lists) (body : List ℕ) (fault : Option StoreFault) → delivered_by setup (Some (Settle, body)) fault ≡ []
+none_delivered setup body None = refl
+none_delivered setup body (Some f) = refl
+
 moves_settled : {K : Type 0} (keeper : Ghosts K) (old new : K) (body : List ℕ) (fault : Option StoreFault) (ready : ℕ) → Moves (state_of keeper old) (state_of keeper new) Settle body fault ready (StoreRefused keeper old new) → IsSound keeper old → IsSound keeper new → fault ≡ None → IsReadyCount (keeper.setup old) (keeper.content old).kept ready
     → Leads (keeper.setup old) (keeper.content old) (coming [] (length (keeper.content new).reports - length (keeper.content old).reports) Settled) (keeper.content new)
 moves_settled keeper old new body fault ready does was is none count =
-    came_settled (keeper.setup old) [] (keeper.content old) (keeper.content new) was.1 (subst (λ (s : Lists). IsOffice s (keeper.content new)) does.setup is.1)
-    (does.kept ∙ sym (kept_from-nil (keeper.setup old) (keeper.content old).kept)) does.grows
-    (subst (λ (x : ℕ). IsReadyCount (keeper.setup old) (keeper.content new).kept x) (sym (does.settled refl none)) (subst (λ (x : Kept). IsReadyCount (keeper.setup old) x ready) (sym does.kept) count))
+    let came : (keeper.content new).kept ≡ kept_from (keeper.setup old) (keeper.content old).kept [] =
+    does.kept ∙ ap (λ (texts : List (List ℕ)). kept_from (keeper.setup old) (keeper.content old).kept texts) (none_delivered (keeper.setup old) body fault) in
+    let same : (keeper.content new).kept ≡ (keeper.content old).kept = came ∙ kept_from-nil (keeper.setup old) (keeper.content old).kept in
+    came_settled (keeper.setup old) [] (keeper.content old) (keeper.content new) was.1 (subst (λ (s : Lists). IsOffice s (keeper.content new)) does.setup is.1) came does.grows
+    (subst (λ (x : ℕ). IsReadyCount (keeper.setup old) (keeper.content new).kept x) (sym (does.settled refl none)) (subst (λ (x : Kept). IsReadyCount (keeper.setup old) x ready) (sym same) count))
 
 -- the body that such a request has
 abbrev settle_with : Option (List ℕ) → Option (Action × List ℕ)

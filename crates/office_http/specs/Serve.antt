@@ -71,6 +71,7 @@ abbrev pub refusal_for : StoreFault → Refusal
 refusal_for fault.NoMemory = refusal.NoMemory
 refusal_for fault.Store = refusal.Store
 
+-- the answer to a delivery
 abbrev pub delivery_answer : Result Held DeliverFault → Answer
 delivery_answer (Err Store) = Refused refusal.Store
 delivery_answer (Err (Mail mail.NoMemory)) = Refused refusal.NoMemory
@@ -123,6 +124,7 @@ pub record Found : Type 0 where
 abbrev pub proposal_answer : Option Proposal → Answer
 proposal_answer proposal = option_map_or (λ (p : Proposal). Told (proposal_text p.hints.items p.answers.items)) proposal (Refused refusal.NoRun)
 
+-- what is proposed is right; nothing is, exactly if a run could have no date
 abbrev pub IsProposedFor : OfficeState → TrialOptions → List (List ℕ) → Option Proposal → Type 0
 IsProposedFor s terms sources None = trial_date (latest_day (orders_to s.setup s.kept s.finished)) terms.day ≡ None
 IsProposedFor s terms sources (Some proposal) = IsProposed s.setup s.kept s.finished terms sources proposal
@@ -172,6 +174,7 @@ action_answer s found added body = added_action s found added body
 abbrev pub body_of : ℕ → List ℕ → Option (List ℕ)
 body_of size rest = if nat_le size (length rest) then Some (take size rest) else None
 
+-- what a request posts, with its whole body; none if it posts nothing, or its body is cut off
 abbrev pub posted_body : Asked → List ℕ → Option (Action × List ℕ)
 posted_body (asks.Post p) rest = option_map (λ (body : List ℕ). (p.action, body)) (body_of p.length rest)
 posted_body _ rest = None
@@ -236,6 +239,7 @@ abbrev pub waits_of : Asked → Bool
 waits_of (asks.Post p) = p.waits
 waits_of _ = false
 
+-- 100 Continue, if it is due
 abbrev pub continued : Bool → List ℕ
 continued goes_on = if goes_on then continue_bytes else []
 
