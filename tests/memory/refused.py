@@ -379,7 +379,8 @@ def try_service(folder, name, texts):
             if not service.short:
                 # So that the service has its number of connections.
                 got = ask(service.port, get(b"status"))
-                want(what + ", status", True, got in (SHORT, reply_of(200, b"OK", b"ready %d finished %d\n" % (ready, ready))))
+                service.is_cut = got == b""
+                want(what + ", status", True, got in (SHORT, b"", reply_of(200, b"OK", b"ready %d finished %d\n" % (ready, ready))))
         status, grown = service.ended()
         want(what + ", exit status", 0 if service.listens else 4, status)
         if service.is_cut:
