@@ -31,7 +31,7 @@ not_above Less h k = cc
 not_above Equal h k = cc
 not_above Greater h k = cc
 
-not_itself : (a : List ℕ) → IsAbove a a → ⊥
+pub not_itself : (a : List ℕ) → IsAbove a a → ⊥
 not_itself a h = let n : Greater ≡ Equal = sym h ∙ same_refl a in cc
 
 not_both : (a b : List ℕ) → IsAbove a b → IsAbove b a → ⊥
@@ -113,7 +113,7 @@ apart_has : (xs ys : List Item) (x : Item) → Contains xs x → ((y : Item) →
 apart_has xs ys x c n = filter_has (λ z. cond (meets Key ys z) false true) xs x c (apart_test (meets Key ys x) ys x refl n)
 
 -- 4. Each key stands once in a list in order.
-less_no : (o : Ordering) → o ≡ Less → o ≡ Equal → ⊥
+pub less_no : (o : Ordering) → o ≡ Less → o ≡ Equal → ⊥
 less_no Less h k = cc
 less_no Equal h k = cc
 less_no Greater h k = cc
@@ -133,7 +133,7 @@ not_before xs x y i j order before one two is_x is_y key =
 three : (i j : ℕ) → (i < j) ⊎ ((i ≡ j) ⊎ (j < i))
 three i j = grind arith
 
-only_one : (xs : List Item) (x y : Item) → AreInOrder xs → Contains xs x → Contains xs y → AreOfOneKey x y → x ≡ y
+pub only_one : (xs : List Item) (x y : Item) → AreInOrder xs → Contains xs x → Contains xs y → AreOfOneKey x y → x ≡ y
 only_one xs x y order c d key = elim (three c.0 d.0) [
   | inl b ↦ absurd (not_before xs x y c.0 d.0 order b c.1 d.1 (sym c.2) (sym d.2) key)
   | inr s ↦ elim s [

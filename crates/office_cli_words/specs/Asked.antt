@@ -59,6 +59,7 @@ added_asked (Propose conf db day all sources) = ToPropose all conf.now (option_m
 added_asked (Breaks conf db run changes) = ToTellBreaks conf.now (option_map (λ text. text.now) db) run (map (λ text. text.now) changes.items)
 added_asked _ = ToTellVersion
 
+-- what the words of a command ask
 abbrev pub asked : Words → Asked
 asked (Compare v1 op v2) = ToCompare v1.now op.now v2.now
 asked (Replay conf db) = ToReplay conf.now (option_map (λ text. text.now) db)

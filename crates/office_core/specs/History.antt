@@ -62,7 +62,7 @@ unfoldable pub Follow : Lists → Visible → List Step → Visible → Type 0
 Follow setup old [] new = new ≡ old
 Follow setup old (s ∷ ss) new = (between : Visible) × Does setup s old between × Follow setup between ss new
 
--- the same of stores' contents
+-- the same of stores' contents, whatever their rows of facts
 abbrev pub Leads : Lists → Content → List Step → Content → Type 0
 Leads setup old steps new = Follow setup (visible old) steps (visible new)
 

@@ -12,34 +12,8 @@ use Rattle.archive_plan.specs.declared.sync.Due.{Due}
 use Rattle.archive_plan.specs.Items.{AreInOrder, AreOfOneKey, key_cmp}
 use Rattle.archive_plan.specs.Sync.{IsAfter, is_package}
 use Rattle.archive_plan.proofs.PlanFacts.{head_of, key_equal, none_of, one_key}
+use Rattle.archive_plan.proofs.SyncFacts.{less_no, only_one, not_itself}
 use Rattle.office_core_laws.specs.Checked.{IsChecked, IsThere}
-
--- Each key stands once in a list in order.
-less_no : (o : Ordering) → o ≡ Less → o ≡ Equal → ⊥
-less_no Less h k = cc
-less_no Equal h k = cc
-less_no Greater h k = cc
-
-not_before : (xs : List Item) (x y : Item) (i j : ℕ) → AreInOrder xs → i < j → i < length xs → j < length xs → x ≡ get_or xs i x → y ≡ get_or xs j y → AreOfOneKey x y → ⊥
-not_before xs x y i j order before one two is_x is_y key =
-    less_no (key_cmp x y)
-    (ap (λ z. key_cmp z y) (get_or_read xs i x one is_x x) ∙ ap (key_cmp (get_or xs i x)) (get_or_read xs j y two is_y x) ∙ order i j x before two)
-    (key_equal x y key)
-
-three : (i j : ℕ) → (i < j) ⊎ ((i ≡ j) ⊎ (j < i))
-three i j = grind arith
-
-pub only_one : (xs : List Item) (x y : Item) → AreInOrder xs → Contains xs x → Contains xs y → AreOfOneKey x y → x ≡ y
-only_one xs x y order c d key = elim (three c.0 d.0) [
-  | inl b ↦ absurd (not_before xs x y c.0 d.0 order b c.1 d.1 (sym c.2) (sym d.2) key)
-  | inr s ↦ elim s [
-    | inl e ↦ get_or_read xs c.0 x c.1 (sym c.2) y ∙ ap (λ k. get_or xs k y) e ∙ d.2
-    | inr a ↦ absurd (not_before xs y x d.0 c.0 order a d.1 c.1 (sym d.2) (sym c.2) (sym key.0, sym key.1))
-  ]
-]
-
-not_itself : (a : List ℕ) → IsAbove a a → ⊥
-not_itself a h = let n : Greater ≡ Equal = sym h ∙ same_refl a in cc
 
 -- Whether a list has an item of a key.
 key_decided : (o : Ordering) (x y : Item) → key_cmp x y ≡ o → AreOfOneKey x y ⊎ (AreOfOneKey x y → ⊥)

@@ -8,11 +8,9 @@ pub use Rattle.office_http_requests.specs.Asked
 pub use Rattle.office_core.specs.Preserves
 pub use Rattle.office_core_orders.specs.Counted
 pub use Rattle.office_core_replay.specs.Delivered
-pub use Rattle.office_core_replay.specs.steps.Ending
 pub use Rattle.office_core_facts.specs.Known
 pub use Rattle.office_core_orders.specs.StaysTrusted
 pub use Rattle.office_core.specs.Laws
-pub use Rattle.office_core_orders.specs.steps.ReadsStore
 pub use Rattle.office_core_replay.specs.Losses
 pub use Rattle.office_core_facts.specs.Outcome
 pub use Rattle.office_core_replay.specs.Output
@@ -25,5 +23,4 @@ pub use Rattle.office_http_requests.specs.Routes
 pub use Rattle.office_core_facts.specs.OfficeState
 pub use Rattle.office_core_facts.specs.State
 pub use Rattle.office_core_orders.specs.Waiting
-pub use Rattle.office_core_facts.specs.steps.Walk
 pub use Rattle.office_core_orders.specs.Written

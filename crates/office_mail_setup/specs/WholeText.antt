@@ -1,4 +1,4 @@
--- Steps of reading that may fail, and paragraphs of fields.
+-- The paragraphs of a text that is control data as a whole.
 use Rattle.std.specs.Prelude.{List, [], ◌∷◌, Some, None, Result, Ok, Err}
 pub use Rattle.deb_control.specs.Results.{needs, given, each_of}
 use Rattle.deb_control.specs.Paragraphs.{Reading}

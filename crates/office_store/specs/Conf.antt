@@ -1,4 +1,4 @@
--- Setups read from a file, and exit statuses.
+-- The exit statuses of a setup that is refused, or that can't be read.
 use Rattle.std.specs.Prelude.{ℕ}
 use Rattle.office_store.specs.declared.conf.ConfFault.{ConfFault}
 use Rattle.office_store.specs.declared.conf.ConfFault.TheVariants.{Refused, Unreadable}

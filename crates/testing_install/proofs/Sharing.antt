@@ -6,7 +6,7 @@ use Rattle.std.specs.declared.rc.Rc.{Rc}
 use Rattle.std.proofs.lemmas.Option.{slice_get-map, slice_get_read}
 use Rattle.std.proofs.lemmas.List.{length-map, length-append}
 use Rattle.deb_control.specs.declared.binary.Binary.{Binary}
-use Rattle.testing_install.specs.Index.{PlacesByName, places_at, IsNoted}
+use Rattle.testing_install.specs.Index.{PlacesByName, bears, places_at}
 use Rattle.testing_install.specs.Needers.{needs_name, IsNotedAt}
 use Rattle.testing_install.specs.steps.Needers.{IsGraph}
 use Rattle.testing_install.specs.Rows.{shared}
@@ -48,7 +48,7 @@ graph_begun rows old more bearers needers first are long g =
       };
     }
 
-pub graph_more : (rows : List Binary) (b0 n0 b1 n1 : PlacesByName) (n : ℕ) (row : Binary) → slice_get rows n ≡ Some row → IsGraphTo rows b0 n0 n → IsNoted row b0 b1 n → IsNotedAt (needs_name row) n0 n1 n → IsGraphTo rows b1 n1 (n + 1)
+pub graph_more : (rows : List Binary) (b0 n0 b1 n1 : PlacesByName) (n : ℕ) (row : Binary) → slice_get rows n ≡ Some row → IsGraphTo rows b0 n0 n → IsNotedAt (bears row) b0 b1 n → IsNotedAt (needs_name row) n0 n1 n → IsGraphTo rows b1 n1 (n + 1)
 graph_more rows b0 n0 b1 n1 n row at to noted needs = record {
   borne = index_more rows b0 b1 n row at to.borne noted;
   needed = needers_more rows n0 n1 n row at to.needed needs;

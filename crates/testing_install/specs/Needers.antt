@@ -14,7 +14,7 @@ names clause name = list_any (λ a. bytes_eq a.name name) clause
 abbrev pub needs_name : Binary → List ℕ → Bool
 needs_name row name = list_any (λ clause. names clause name) row.clauses
 
--- the new map adds to the old one the place at each name that passes, and nothing else
+-- the new map has the places of the old one, the place at each name that passes, and none above both
 pub record IsNotedAt (passes : List ℕ → Bool) (old new : PlacesByName) (place : ℕ) : Type 0 where
   pub stays : (name : List ℕ) (k : ℕ) → Contains (places_at old name) k → Contains (places_at new name) k
   pub noted : (name : List ℕ) → passes name ≡ true → Contains (places_at new name) place

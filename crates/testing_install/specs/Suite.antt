@@ -1,4 +1,4 @@
--- A suite: rows that may be in it, those that are present, and which of these are installable.
+-- How contracts see a suite: the rows that may be in it, and which are present.
 use Rattle.std.specs.Prelude.{Bool, List}
 use Rattle.deb_control.specs.declared.binary.Binary.{Binary}
 

@@ -12,7 +12,6 @@ pub use Rattle.testing_rules_laws.specs.Moves
 pub use Rattle.testing_rules_laws.specs.Provenance
 pub use Rattle.testing_rules_laws.specs.Reports
 pub use Rattle.testing_rules_laws.specs.SameMessages
-pub use Rattle.testing_rules_laws.specs.Shifts
 pub use Rattle.testing_rules_laws.specs.StandsFor
 pub use Rattle.testing_rules_laws.specs.Suite
 pub use Rattle.testing_rules_laws.specs.Tells
@@ -26,9 +25,3 @@ pub use Rattle.testing_rules_laws.specs.Laws
 pub use Rattle.testing_rules_laws.specs.MoveLaws
 pub use Rattle.testing_rules_laws.specs.TakenLaws
 pub use Rattle.testing_rules_laws.specs.Fallen
-pub use Rattle.testing_rules_laws.specs.steps.GivenUpdate
-pub use Rattle.testing_rules_laws.specs.steps.Logged
-pub use Rattle.testing_rules_laws.specs.steps.Restored
-pub use Rattle.testing_rules_laws.specs.steps.Retaken
-pub use Rattle.testing_rules_laws.specs.steps.SameRows
-pub use Rattle.testing_rules_laws.specs.steps.Told

@@ -1,5 +1,4 @@
 pub mod Blocks
 pub mod Restored
 pub mod steps
-pub use Rattle.testing_rules_fact_order.specs.steps.Trimming
 pub use Rattle.testing_rules_fact_order.specs.Uploads

@@ -1,6 +1,5 @@
 -- Facts restored row by row, each with the item of its message. This office decides to keep facts as rows.
 use Rattle.std.specs.Prelude.{ℕ, ◌==◌, ◌&&◌, if◌then◌else◌, List, find, Option, Some, None}
-pub use Rattle.testing_rules_fact_order.specs.steps.Entries.{placed_at}
 use Rattle.testing_rules_items.specs.declared.item.Item.{Item}
 use Rattle.testing_rules_model.specs.declared.facts.BuildIn.{BuildIn}
 use Rattle.testing_rules_model.specs.declared.facts.DelaysIn.{DelaysIn}

@@ -12,7 +12,6 @@ pub use Rattle.testing_rules_model.specs.Moves
 pub use Rattle.testing_rules_model.specs.Provenance
 pub use Rattle.testing_rules_reports.specs.Reports
 pub use Rattle.testing_rules_model.specs.SameMessages
-pub use Rattle.testing_rules_facts.specs.steps.Shifts
 pub use Rattle.testing_rules_model.specs.StandsFor
 pub use Rattle.testing_rules_model.specs.Suite
 pub use Rattle.testing_rules_model.specs.Tells

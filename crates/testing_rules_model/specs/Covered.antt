@@ -28,17 +28,20 @@ Covered = List CoveredItem
 -- an upload (Debian Policy 5.6.12, its version; 5.6.17, its urgency)
 abbrev pub upload_of : CoveredItem → Option UploadIn
 upload_of m =
-    elim m.item [ Upload n v u d ↦ Some (record { source = n; version = v; urgency = u; day = d; sender = m.sender; number = m.number }) | _ ↦ None ]
+    elim m.item [ Upload source version urgency day ↦ Some (record { source = source; version = version; urgency = urgency; day = day; sender = m.sender; number = m.number }) | _ ↦ None ]
 
 -- a drop: a binary package that left unstable on an architecture (this office decides that mail reports it)
 abbrev pub drop_of : CoveredItem → Option DropIn
 drop_of m =
-    elim m.item [ Dropped n a v ↦ Some (record { name = n; arch = a; version = v; sender = m.sender; number = m.number }) | _ ↦ None ]
+    elim m.item [ Dropped name arch version ↦ Some (record { name = name; arch = arch; version = version; sender = m.sender; number = m.number }) | _ ↦ None ]
 
 -- a bug (Debian Developer's Reference 5.13.2)
 abbrev pub bug_of : CoveredItem → Option BugIn
 bug_of m =
-    elim m.item [ Bug b n s v w ↦ Some (record { bug = b; source = n; severity = s; found = v; fixed = w; sender = m.sender; number = m.number }) | _ ↦ None ]
+    elim m.item [
+      | Bug bug source severity found fixed ↦ Some (record { bug = bug; source = source; severity = severity; found = found; fixed = fixed; sender = m.sender; number = m.number })
+      | _ ↦ None
+    ]
 
 -- a hint (its words are named after britney2's hints; this office decides that it comes by mail)
 abbrev pub hint_of : CoveredItem → Option HintIn

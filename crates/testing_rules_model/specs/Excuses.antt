@@ -153,7 +153,7 @@ reasons_of places rows bugs hints testing is_young u =
     ++ only_if (is_blocked hints u) Blocked
     ++ only_if (is_removal_asked hints testing u) RemovalAsked
 
--- the excuse of an unstable source, of which testing has this version
+-- the excuse of an unstable source, of which testing has this version or none
 abbrev pub excuse_for : List Text → Covered → Date → Option Text → UploadIn → Excuse
 excuse_for archs s date testing u =
     let needed = days_needed (delays_in_force (last_delays s)) (in_force s) (uploads_in s) testing u in

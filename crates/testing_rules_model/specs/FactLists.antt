@@ -9,6 +9,7 @@ use Rattle.testing_rules_model.specs.declared.facts.HintIn.{HintIn}
 use Rattle.testing_rules_model.specs.declared.facts.UnhintIn.{UnhintIn}
 use Rattle.testing_rules_model.specs.declared.facts.DelaysIn.{DelaysIn}
 
+-- facts by kind, and the rows that came and left
 pub record FactLists : Type 0 where
   pub sources : List UploadIn
   pub uploads : List UploadIn

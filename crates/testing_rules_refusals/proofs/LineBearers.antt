@@ -14,7 +14,8 @@ use Rattle.std.proofs.lemmas.Map.Keys.{sorted_from_strictly_increasing}
 use Rattle.std.proofs.lemmas.Option.{same_Some, slice_get_past}
 use Rattle.deb_control.specs.declared.relation.Alternative.{Alternative}
 use Rattle.deb_control.specs.declared.relation.Clause.{Clause}
-use Rattle.testing_install.specs.Index.{PlacesByName, IsNoted, bears, places_at}
+use Rattle.testing_install.specs.Index.{PlacesByName, bears, places_at}
+use Rattle.testing_install.specs.Needers.{IsNotedAt}
 use Rattle.testing_install.specs.Satisfies.{satisfies, meets}
 use Rattle.testing_install.proofs.Finding.{satisfies_bears}
 use Rattle.testing_install_why.specs.declared.Step.{Step}
@@ -42,7 +43,7 @@ lines_none rows steps noted e = record {
 
 -- with a line more
 pub lines_more : (rows : List RowIn) (steps : List Step) (old new : PlacesByName) (n : ℕ) (l : RowNeed) → n < length steps → need_at rows steps (n + 1) ≡ Some l
-    → IsLineIndexTo rows steps old n → IsNoted l.row.binary old new (n + 1) → IsLineIndexTo rows steps new (n + 1)
+    → IsLineIndexTo rows steps old n → IsNotedAt (bears l.row.binary) old new (n + 1) → IsLineIndexTo rows steps new (n + 1)
 lines_more rows steps old new n l h at to one = record {
   within = λ name. one.within name (length steps + 1) (omega (arith, h)) (to.within name);
   complete = λ name k m above below stands e. elim (cases_lt k (n + 1)) [

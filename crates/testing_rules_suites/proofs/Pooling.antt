@@ -7,7 +7,7 @@ use Rattle.std.proofs.lemmas.Bool.{cases_lt}
 use Rattle.std.proofs.lemmas.List.{length-append, length-map, map-append, get_or_at}
 use Rattle.std.proofs.lemmas.Slice.Eq.{bytes_eq-Decides}
 use Rattle.deb_control.specs.declared.binary.Binary.{Binary}
-use Rattle.testing_install.specs.Index.{bears, PlacesByName, places_at, IsNoted}
+use Rattle.testing_install.specs.Index.{bears, PlacesByName, places_at}
 use Rattle.testing_install.specs.steps.Index.{IsIndex}
 use Rattle.testing_install.specs.Needers.{IsNotedAt}
 use Rattle.testing_install.proofs.Sharing.{slice_get_before}
@@ -36,7 +36,7 @@ module _ (texts : List Text) (text : Text) (old new : PlacesByName) (n : ℕ) (l
   }
 
 -- one package more, whose place is noted at the names that it bears
-module _ (rows : List Binary) (row : Binary) (old new : PlacesByName) (n : ℕ) (long : n ≡ length rows) (to : IsIndex rows old) (noted : IsNoted row old new n) where
+module _ (rows : List Binary) (row : Binary) (old new : PlacesByName) (n : ℕ) (long : n ≡ length rows) (to : IsIndex rows old) (noted : IsNotedAt (bears row) old new n) where
   count : length (rows ++ row ∷ []) ≡ n + 1
   count = omega (arith, length-append rows (row ∷ []), long)
 
@@ -55,7 +55,7 @@ module _ (rows : List Binary) (row : Binary) (old new : PlacesByName) (n : ℕ) 
 
 -- one row more
 pub pool_behind : (rows : List RowIn) (row : RowIn) (s0 n0 s1 n1 : PlacesByName) (place : ℕ) → place ≡ length rows → IsPool rows s0 n0
-    → IsNotedAt (λ q. bytes_eq q row.binary.source) s0 s1 place → IsNoted row.binary n0 n1 place → IsPool (rows ++ row ∷ []) s1 n1
+    → IsNotedAt (λ q. bytes_eq q row.binary.source) s0 s1 place → IsNotedAt (bears row.binary) n0 n1 place → IsPool (rows ++ row ∷ []) s1 n1
 pool_behind rows row s0 n0 s1 n1 place e p sourced named =
     let source : RowIn → Text = λ r. r.binary.source in
     let binary_of : RowIn → Binary = λ r. r.binary in

@@ -1,6 +1,7 @@
 use Rattle.std.proofs.Common.{◌≡◌, ◌∙◌, ◌+◌, ◌<◌, ◌≤◌, length, Some, None, sym, ap, subst, option_map, arith}
 use Rattle.deb_control.specs.declared.binary.Binary.{Binary}
-use Rattle.testing_install.specs.Index.{IsNoted}
+use Rattle.testing_install.specs.Index.{bears}
+use Rattle.testing_install.specs.Needers.{IsNotedAt}
 use Rattle.testing_rules_model.specs.JudgedRows.{lent}
 use Rattle.testing_rules_refusals.specs.Needs.{need_of, need_at}
 use Rattle.testing_rules_refusals.proofs.LineBearers.{IsLineIndexTo, lines_none, lines_more, lines_same, lines_all}
@@ -19,7 +20,7 @@ loop-before-preserved c =
       | in-Some+in_ok-note_row w ↦
           let here : need_at rows steps (n + 1) ≡ Some (need_of w.in-Some.need) = sym c.need_at.ensures ∙ ap (option_map need_of) w.in-Some.is in
           let below : n < length steps = omega arith in
-          let one = subst (λ (b : Binary). IsNoted b c.loop-before.noted w.note_row.new.bearers (n + 1)) w.deref.ensures w.in_ok-note_row.ensures in
+          let one = subst (λ (b : Binary). IsNotedAt (bears b) c.loop-before.noted w.note_row.new.bearers (n + 1)) w.deref.ensures w.in_ok-note_row.ensures in
           subst (λ i. IsLineIndexTo rows steps i (n + 1)) (sym w.noted-is) (lines_more rows steps _ _ n _ below here c.loop-before.invariant one)
       | in_default w ↦
           let none : need_at rows steps (n + 1) ≡ None = sym c.need_at.ensures ∙ ap (option_map need_of) w.in_default.is in
