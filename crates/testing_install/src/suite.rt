@@ -9,7 +9,7 @@ ghost use Rattle.testing_install.specs.Rows.{shared};
 
 use crate::graph::{Graph, empty_graph, with_rows};
 use crate::marks::Marks;
-use crate::trials::{LastTrial, make_change, nothing_tried, try_change};
+use crate::trials::{Exchange, LastTrial, make_change, nothing_tried, try_change};
 use deb_control::Binary;
 use deb_version::NoMemory;
 use std::alloc::Global;
@@ -164,8 +164,7 @@ impl Suite {
             &mut self.there,
             &mut self.installable,
             &mut self.tried,
-            leaving,
-            coming,
+            Exchange { leaving, coming },
         );
         self.there.undo();
         self.installable.undo();
@@ -193,8 +192,7 @@ impl Suite {
             &mut self.there,
             &mut self.installable,
             &self.tried,
-            leaving,
-            coming,
+            Exchange { leaving, coming },
         ) {
             Ok(()) => {
                 self.there.keep();

@@ -27,6 +27,13 @@ pub struct LastTrial {
     pub rising: SmallVec<usize, 4>,
 }
 
+/// A change of the present rows, by their places: some leave, and then some come.
+#[derive(Clone, Copy)]
+pub struct Exchange<'c> {
+    pub leaving: &'c [usize],
+    pub coming: &'c [usize],
+}
+
 /// The change of no rows, which needs no trial.
 pub fn nothing_tried(alloc: Global) -> LastTrial
     ensures leaving { result.leaving.items ≡ [] }
@@ -99,22 +106,23 @@ pub fn try_change(
     there: &mut Marks,
     marks: &mut Marks,
     tried: &mut LastTrial,
-    leaving: &[usize],
-    coming: &[usize],
+    exchange: Exchange<'_>,
 ) -> Result<Vec<usize>, NoMemory>
     requires graph { IsGraph (shared graph.now.rows.items) graph.now.bearers graph.now.needers }
     requires right { IsRight (shared graph.now.rows.items) there.old.current marks.old.current }
     requires there { there.old.kept ≡ there.old.current }
     requires marks { marks.old.kept ≡ marks.old.current }
     requires tried { IsTried (shared graph.now.rows.items) there.old.current marks.old.current tried.old }
-    requires leaving { All (λ k. k < length graph.now.rows.items) leaving.now }
-    requires coming { All (λ k. k < length graph.now.rows.items) coming.now }
+    requires leaving { All (λ k. k < length graph.now.rows.items) exchange.leaving.now }
+    requires coming { All (λ k. k < length graph.now.rows.items) exchange.coming.now }
     ensures there_kept { there.new.kept ≡ there.old.kept }
     ensures marks_kept { marks.new.kept ≡ marks.old.kept }
     ensures tried { IsTried (shared graph.now.rows.items) there.old.current marks.old.current tried.new }
     ensures lost { IfOk result (λ lost. (k : ℕ) → Contains lost.items k
-        ↔ IsLost (shared graph.now.rows.items) (marked there.old.current) (marked (after_change leaving.now coming.now there.old.current)) k) }
+        ↔ IsLost (shared graph.now.rows.items) (marked there.old.current)
+        (marked (after_change exchange.entry.leaving.now exchange.entry.coming.now there.old.current)) k) }
 {
+    let Exchange { leaving, coming } = exchange;
     if is_idle(leaving, coming) {
         return Ok(Vec::new(alloc));
     }
@@ -152,19 +160,20 @@ pub fn make_change(
     there: &mut Marks,
     marks: &mut Marks,
     tried: &LastTrial,
-    leaving: &[usize],
-    coming: &[usize],
+    exchange: Exchange<'_>,
 ) -> Result<(), NoMemory>
     requires graph { IsGraph (shared graph.now.rows.items) graph.now.bearers graph.now.needers }
     requires right { IsRight (shared graph.now.rows.items) there.old.current marks.old.current }
     requires tried { IsTried (shared graph.now.rows.items) there.old.current marks.old.current tried.now }
-    requires leaving { All (λ k. k < length graph.now.rows.items) leaving.now }
-    requires coming { All (λ k. k < length graph.now.rows.items) coming.now }
+    requires leaving { All (λ k. k < length graph.now.rows.items) exchange.leaving.now }
+    requires coming { All (λ k. k < length graph.now.rows.items) exchange.coming.now }
     ensures there_kept { there.new.kept ≡ there.old.kept }
     ensures marks_kept { marks.new.kept ≡ marks.old.kept }
-    ensures there { OnOk result (there.new.current ≡ after_change leaving.now coming.now there.old.current) }
+    ensures there { OnOk result (there.new.current
+        ≡ after_change exchange.entry.leaving.now exchange.entry.coming.now there.old.current) }
     ensures right { OnOk result (IsRight (shared graph.now.rows.items) there.new.current marks.new.current) }
 {
+    let Exchange { leaving, coming } = exchange;
     if is_of(tried, leaving, coming) {
         set_both(there, leaving, coming)?;
         set_both(marks, &tried.falling, &tried.rising)?;
