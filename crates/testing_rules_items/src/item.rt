@@ -3,11 +3,11 @@
 ghost use Rattle.std.specs.Prelude.{◌≡◌, IfOk, option_copied};
 ghost use Rattle.testing_rules_items.specs.declared.item.Item.TheVariants.{Upload, Dropped, Bug};
 
+use crate::items::Items;
 use deb_control::{Binary, NoMemory, Text};
 use deb_version::Version;
 use jiff_core::civil::Date;
 use std::alloc::Global;
-use std::marker::Model;
 
 /// How urgent an upload is (Debian Policy 5.6.17). Emergency equals critical.
 #[derive(Clone, Copy, Debug, PartialEq, Eq)]
@@ -32,45 +32,14 @@ pub enum Severity {
 }
 
 /// Names of sources.
-pub struct Names {
-    names: Vec<Text>,
-}
-
-impl Drop for Names {
-    fn drop(self) {
-        let Names { names: _ } = self;
-    }
-}
-
-impl Model for Names {
-    ghost use Rattle.std.specs.Prelude.{List, ℕ};
-
-    ghost Value = { List (List ℕ) };
-
-    ghost view = { λ a. a.names.items };
-}
+pub type Names = Items<Text>;
 
 impl Names {
-    /// These names. It allocates nothing.
-    pub fn of(names: Vec<Text>) -> Names
-        ensures { result ≡ names.items }
-    {
-        Names { names }
-    }
-
-    /// The names, in order.
-    pub fn as_slice(&self) -> &[Text]
-        ensures { result.now ≡ self.now }
-    {
-        self.names.as_slice()
-    }
-
     /// Equal names.
     pub fn copy(&self, alloc: Global) -> Result<Names, NoMemory>
         ensures { IfOk result (λ names. names ≡ self.now) }
     {
-        let names = copy_texts(alloc, &self.names)?;
-        Ok(Names { names })
+        Ok(Names::of(copy_texts(alloc, self.as_slice())?))
     }
 }
 
@@ -102,26 +71,6 @@ pub struct HintItem {
     pub version: Version,
 }
 
-/// Items of one hint, in order.
-pub struct HintItems {
-    items: Vec<HintItem>,
-}
-
-impl Drop for HintItems {
-    fn drop(self) {
-        let HintItems { items: _ } = self;
-    }
-}
-
-impl Model for HintItems {
-    ghost use Rattle.std.specs.Prelude.{List};
-    ghost use Rattle.testing_rules_items.specs.declared.item.HintItem.{HintItem};
-
-    ghost Value = { List HintItem };
-
-    ghost view = { λ a. a.items.items };
-}
-
 impl HintItem {
     /// An equal item.
     pub fn copy(&self, alloc: Global) -> Result<HintItem, NoMemory>
@@ -134,37 +83,20 @@ impl HintItem {
     }
 }
 
-fn copy_items(alloc: Global, items: &[HintItem]) -> Result<Vec<HintItem>, NoMemory>
-    ensures { IfOk result (λ copies. copies.items ≡ items.now) }
-{
-    let mut copies = Vec::new(alloc);
-    'items: for item in items {
-        copies.push(item.copy(alloc)?)?;
-    }
-    Ok(copies)
-}
+/// Items of one hint, in order.
+pub type HintItems = Items<HintItem>;
 
 impl HintItems {
-    /// These items. It allocates nothing.
-    pub fn of(items: Vec<HintItem>) -> HintItems
-        ensures { result ≡ items.items }
-    {
-        HintItems { items }
-    }
-
-    /// The items, in order.
-    pub fn as_slice(&self) -> &[HintItem]
-        ensures { result.now ≡ self.now }
-    {
-        self.items.as_slice()
-    }
-
     /// Equal items.
     pub fn copy(&self, alloc: Global) -> Result<HintItems, NoMemory>
         ensures { IfOk result (λ items. items ≡ self.now) }
     {
-        let items = copy_items(alloc, &self.items)?;
-        Ok(HintItems { items })
+        let items = self.as_slice();
+        let mut copies = Vec::new(alloc);
+        'each: for item in items {
+            copies.push(item.copy(alloc)?)?;
+        }
+        Ok(HintItems::of(copies))
     }
 }
 
@@ -207,66 +139,20 @@ impl Hint {
 }
 
 /// The binary packages of one build, in the order of their paragraphs.
-pub struct Binaries {
-    binaries: Vec<Binary>,
-}
-
-impl Drop for Binaries {
-    fn drop(self) {
-        let Binaries { binaries: _ } = self;
-    }
-}
-
-impl Model for Binaries {
-    ghost use Rattle.std.specs.Prelude.{List};
-    ghost use Rattle.deb_control.specs.declared.binary.Binary.{Binary};
-
-    ghost Value = { List Binary };
-
-    ghost view = { λ a. a.binaries.items };
-}
+pub type Binaries = Items<Binary>;
 
 impl Binaries {
-    /// These binaries. It allocates nothing.
-    pub fn of(binaries: Vec<Binary>) -> Binaries
-        ensures { result ≡ binaries.items }
-    {
-        Binaries { binaries }
-    }
-
-    /// The binary packages, in order.
-    pub fn as_slice(&self) -> &[Binary]
-        ensures { result.now ≡ self.now }
-    {
-        self.binaries.as_slice()
-    }
-
-    /// The binary packages, in order. It allocates nothing.
-    pub fn into_vec(self) -> Vec<Binary>
-        ensures { result.items ≡ self }
-    {
-        let Binaries { binaries } = self;
-        binaries
-    }
-
     /// Equal binaries.
     pub fn copy(&self, alloc: Global) -> Result<Binaries, NoMemory>
         ensures { IfOk result (λ binaries. binaries ≡ self.now) }
     {
-        let binaries = copy_binaries(alloc, &self.binaries)?;
-        Ok(Binaries { binaries })
+        let binaries = self.as_slice();
+        let mut copies = Vec::with_capacity(alloc, binaries.len())?;
+        'each: for binary in binaries {
+            copies.push(binary.copy(alloc)?)?;
+        }
+        Ok(Binaries::of(copies))
     }
-}
-
-/// Equal binary packages, in order.
-fn copy_binaries(alloc: Global, binaries: &[Binary]) -> Result<Vec<Binary>, NoMemory>
-    ensures { IfOk result (λ copies. copies.items ≡ binaries.now) }
-{
-    let mut copies = Vec::with_capacity(alloc, binaries.len())?;
-    'binaries: for binary in binaries {
-        copies.push(binary.copy(alloc)?)?;
-    }
-    Ok(copies)
 }
 
 /// The content of a message, apart from run orders.

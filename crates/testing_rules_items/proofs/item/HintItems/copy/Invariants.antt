@@ -1,0 +1,5 @@
+use Rattle.std.proofs.Common.{◌≡◌, take}
+use Rattle.testing_rules_items.proofs.item.HintItems.copy.Given as goal
+
+abbrev pub invariant-each : goal.invariant-each
+invariant-each l = l.copies.items ≡ take l.item-index l.items
