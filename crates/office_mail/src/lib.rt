@@ -11,12 +11,11 @@ pub mod laws;
 mod message;
 mod read;
 mod readiness;
-mod texts;
 
 pub use bag::{Bag, BagFault, reads_one_way};
+pub use covers::Numbers;
 pub use feed::{Feed, FromRead, ReadFailed, Sink, ToWrite, WriteFailed};
 pub use message::{Body, MAX_NUMBER, MailFault, Message, RunOrder};
 pub use office_mail_setup::{Field, Kind, Role, Sender, Setup, SetupFault, SetupField};
 pub use read::read_message;
 pub use readiness::{latest_day, ready};
-pub use texts::Numbers;

@@ -2,7 +2,7 @@
 ghost use Rattle.std.specs.Prelude.{◌≡◌};
 ghost use Rattle.office_mail.specs.declared.message.MailFault.TheVariants as fault;
 
-use crate::texts::Numbers;
+use crate::covers::Numbers;
 use jiff_core::civil::Date;
 use office_mail_setup::Field;
 use std::alloc::{AllocError, AllocFailed};

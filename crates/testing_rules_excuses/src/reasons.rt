@@ -269,5 +269,5 @@ pub fn reasons_of(
     )?;
     let asked = is_removal_asked(known.hints, known.testing, upload);
     push_if(&mut reasons, asked, Reason::RemovalAsked)?;
-    Ok(Reasons::new(reasons))
+    Ok(Reasons::of(reasons))
 }

@@ -63,7 +63,7 @@ fn copy_reasons(alloc: Global, reasons: &[Reason]) -> Result<Reasons, AllocError
     ensures { IfOk result (λ copy. copy ≡ reasons.now) }
 {
     let copy = Vec::from_slice(alloc, reasons)?;
-    Ok(Reasons::new(copy))
+    Ok(Reasons::of(copy))
 }
 
 /// The state of a source with an excuse.

@@ -8,41 +8,13 @@ use deb_control::{Binary, Text};
 use deb_version::{NoMemory, Version};
 use jiff_core::civil::Date;
 use std::alloc::Global;
-use std::marker::Model;
-use testing_rules_items::{Binaries, Hint, Item, Severity, Urgency};
+use testing_rules_items::{Binaries, Hint, Item, Items, Severity, Urgency};
 use testing_rules_model::{
     BugIn, BuildIn, Delays, DelaysIn, DropIn, HintIn, SharedBinary, UnhintIn, UploadIn,
 };
 
 /// The builds of one message, in order.
-pub struct Builds {
-    builds: Vec<BuildIn>,
-}
-
-impl Drop for Builds {
-    fn drop(self) {
-        let Builds { builds: _ } = self;
-    }
-}
-
-impl Model for Builds {
-    ghost use Rattle.std.specs.Prelude.{List};
-    ghost use Rattle.testing_rules_model.specs.declared.facts.BuildIn.{BuildIn};
-
-    ghost Value = { List BuildIn };
-
-    ghost view = { λ a. a.builds.items };
-}
-
-impl Builds {
-    /// The builds in their order. It allocates nothing.
-    pub fn into_vec(self) -> Vec<BuildIn>
-        ensures { result.items ≡ self }
-    {
-        let Builds { builds } = self;
-        builds
-    }
-}
+pub type Builds = Items<BuildIn>;
 
 /// A message in the form that the facts keep.
 #[derive(Drop)]
@@ -164,7 +136,7 @@ impl Sent {
         ensures { IfOk result (λ builds. builds ≡ placed_from 1 self.sender self.number binaries) }
     {
         let builds = placed(self.alloc, self.sender, self.number, binaries.into_vec())?;
-        Ok(Builds { builds })
+        Ok(Builds::of(builds))
     }
 
     /// An unhint.

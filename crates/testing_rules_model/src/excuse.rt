@@ -1,10 +1,8 @@
 //! Excuses: why a source may or may not move.
 
-ghost use Rattle.std.specs.Prelude.{◌≡◌};
-
 use deb_control::Text;
 use deb_version::Version;
-use std::marker::Model;
+use testing_rules_items::Items;
 
 /// What keeps a source out. An architecture is its place in the setup, or 16 for `all`.
 #[derive(Clone, Copy, Debug, PartialEq, Eq)]
@@ -18,24 +16,7 @@ pub enum Reason {
 }
 
 /// What keeps a source out, in the report's order; empty if it may move.
-pub struct Reasons {
-    reasons: Vec<Reason>,
-}
-
-impl Drop for Reasons {
-    fn drop(self) {
-        let Reasons { reasons: _ } = self;
-    }
-}
-
-impl Model for Reasons {
-    ghost use Rattle.std.specs.Prelude.{List};
-    ghost use Rattle.testing_rules_model.specs.declared.excuse.Reason.{Reason};
-
-    ghost Value = { List Reason };
-
-    ghost view = { λ a. a.reasons.items };
-}
+pub type Reasons = Items<Reason>;
 
 /// A source that isn't in testing, or whose unstable version is above testing's.
 #[derive(Drop)]
@@ -49,53 +30,4 @@ pub struct Excuse {
 }
 
 /// The excuses of a run, by name.
-pub struct Excuses {
-    excuses: Vec<Excuse>,
-}
-
-impl Drop for Excuses {
-    fn drop(self) {
-        let Excuses { excuses: _ } = self;
-    }
-}
-
-impl Model for Excuses {
-    ghost use Rattle.std.specs.Prelude.{List};
-    ghost use Rattle.testing_rules_model.specs.declared.excuse.Excuse.{Excuse};
-
-    ghost Value = { List Excuse };
-
-    ghost view = { λ a. a.excuses.items };
-}
-
-impl Reasons {
-    /// These reasons. It allocates nothing.
-    pub fn new(reasons: Vec<Reason>) -> Reasons
-        ensures { result ≡ reasons.items }
-    {
-        Reasons { reasons }
-    }
-
-    /// The reasons, in their order.
-    pub fn as_slice(&self) -> &[Reason]
-        ensures { result.now ≡ self.now }
-    {
-        self.reasons.as_slice()
-    }
-}
-
-impl Excuses {
-    /// These excuses. It allocates nothing.
-    pub fn of(excuses: Vec<Excuse>) -> Excuses
-        ensures { result ≡ excuses.items }
-    {
-        Excuses { excuses }
-    }
-
-    /// The excuses, by name.
-    pub fn as_slice(&self) -> &[Excuse]
-        ensures { result.now ≡ self.now }
-    {
-        self.excuses.as_slice()
-    }
-}
+pub type Excuses = Items<Excuse>;

@@ -3,7 +3,7 @@
 ghost use Rattle.std.specs.Prelude.{◌≡◌};
 ghost use Rattle.testing_rules_model.specs.FactRows.{number_of, kind_of};
 
-use std::marker::Model;
+use testing_rules_items::Items;
 
 /// The kind of a fact: an unstable source, an upload above testing's version, an unstable row, a greatest drop of its
 /// pair, a bug's last message, a hint, an unhint, or the last delays. Rows are ordered by kind in this order.
@@ -56,40 +56,7 @@ pub struct FactRow {
 }
 
 /// Rows of facts, in a list.
-pub struct FactRows {
-    rows: Vec<FactRow>,
-}
-
-impl Drop for FactRows {
-    fn drop(self) {
-        let FactRows { rows: _ } = self;
-    }
-}
-
-impl Model for FactRows {
-    ghost use Rattle.std.specs.Prelude.{List};
-    ghost use Rattle.testing_rules_model.specs.declared.fact_row.FactRow.{FactRow};
-
-    ghost Value = { List FactRow };
-
-    ghost view = { λ a. a.rows.items };
-}
-
-impl FactRows {
-    /// These rows. It allocates nothing.
-    pub fn of(rows: Vec<FactRow>) -> FactRows
-        ensures { result ≡ rows.items }
-    {
-        FactRows { rows }
-    }
-
-    /// The rows in their order.
-    pub fn as_slice(&self) -> &[FactRow]
-        ensures { result.now ≡ self.now }
-    {
-        self.rows.as_slice()
-    }
-}
+pub type FactRows = Items<FactRow>;
 
 /// The changes of the rows of facts: rows to add to the kept ones, and rows to remove from them.
 #[derive(Drop)]

@@ -1,10 +1,8 @@
 //! Decisions: what a run did to testing.
 
-ghost use Rattle.std.specs.Prelude.{◌≡◌};
-
 use deb_control::Text;
 use deb_version::Version;
-use std::marker::Model;
+use testing_rules_items::Items;
 
 /// The first row that a change would break: its architecture and package.
 #[derive(Drop)]
@@ -21,24 +19,7 @@ pub struct Moved {
 }
 
 /// The sources that moved together, in the order of the hint.
-pub struct MovedItems {
-    items: Vec<Moved>,
-}
-
-impl Drop for MovedItems {
-    fn drop(self) {
-        let MovedItems { items: _ } = self;
-    }
-}
-
-impl Model for MovedItems {
-    ghost use Rattle.std.specs.Prelude.{List};
-    ghost use Rattle.testing_rules_model.specs.declared.update.Moved.{Moved};
-
-    ghost Value = { List Moved };
-
-    ghost view = { λ a. a.items.items };
-}
+pub type MovedItems = Items<Moved>;
 
 /// One decision. `hint` is the number of the hint's message.
 #[derive(Drop)]
@@ -79,53 +60,4 @@ pub enum Decision {
 }
 
 /// The decisions of a run, in their order.
-pub struct Update {
-    decisions: Vec<Decision>,
-}
-
-impl Drop for Update {
-    fn drop(self) {
-        let Update { decisions: _ } = self;
-    }
-}
-
-impl Model for Update {
-    ghost use Rattle.std.specs.Prelude.{List};
-    ghost use Rattle.testing_rules_model.specs.declared.update.Decision.{Decision};
-
-    ghost Value = { List Decision };
-
-    ghost view = { λ a. a.decisions.items };
-}
-
-impl MovedItems {
-    /// These sources. It allocates nothing.
-    pub fn new(items: Vec<Moved>) -> MovedItems
-        ensures { result ≡ items.items }
-    {
-        MovedItems { items }
-    }
-
-    /// The sources, in their order.
-    pub fn as_slice(&self) -> &[Moved]
-        ensures { result.now ≡ self.now }
-    {
-        self.items.as_slice()
-    }
-}
-
-impl Update {
-    /// These decisions. It allocates nothing.
-    pub fn of(decisions: Vec<Decision>) -> Update
-        ensures { result ≡ decisions.items }
-    {
-        Update { decisions }
-    }
-
-    /// The decisions, in their order.
-    pub fn as_slice(&self) -> &[Decision]
-        ensures { result.now ≡ self.now }
-    {
-        self.decisions.as_slice()
-    }
-}
+pub type Update = Items<Decision>;

@@ -183,7 +183,7 @@ impl<'u, 'a> Turns<'u, 'a> {
         match self.testing.move_unless_broken(alloc, group, &mut refused)? {
             None => {
                 let sources = self.testing.unstable_sources();
-                let items = MovedItems::new(moved_items(alloc, sources, group)?);
+                let items = MovedItems::of(moved_items(alloc, sources, group)?);
                 self.add_decision(Decision::EasyDone { hint, items })
             }
             Some(offender) => self.add_decision(Decision::EasyRefused { hint, offender }),
