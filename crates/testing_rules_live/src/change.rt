@@ -1,13 +1,12 @@
 //! The rows that come and leave when a group moves.
 
-ghost use Rattle.std.specs.Prelude.{◌≡◌, [], ◌++◌, ◌<◌, length, filter, OnOk, IfOk};
+ghost use Rattle.std.specs.Prelude.{◌≡◌, ◌++◌, ◌<◌, length, filter, OnOk, IfOk};
 ghost use Rattle.std.specs.List.{All};
 ghost use Rattle.testing_rules_model.specs.Boxed.{unboxed};
-ghost use Rattle.testing_rules_suites.specs.steps.Changes.{comes_at, stands_of, stands_for, gives_way_to, AreThose, IsMoveOf};
+ghost use Rattle.testing_rules_suites.specs.steps.Changes.{comes_at, stands_of, stands_for, gives_way_to, AreThose};
 ghost use Rattle.testing_rules_model.specs.FactOrder.{AreBySource};
 ghost use Rattle.testing_rules_model.specs.JudgedRows.{row_of};
 ghost use Rattle.testing_rules_model.specs.Moves.{group_sources};
-ghost use Rattle.testing_rules_suites.specs.steps.Tried.{IsWithin, IsRemovalOf};
 
 use crate::row_tests::{is_of, is_same_key};
 use deb_control::Text;
@@ -16,7 +15,7 @@ use smallvec::SmallVec;
 use std::alloc::Global;
 use testing_rules_facts::{is_current, source_near};
 use testing_rules_model::{LentRow, UploadIn};
-use testing_rules_suites::{Change, Pool};
+use testing_rules_suites::Pool;
 
 /// The row at the place is one of unstable's, and current for the upload.
 fn comes_at(pool: &Pool, first: usize, upload: &UploadIn, place: usize) -> bool
@@ -87,7 +86,7 @@ pub fn coming_of(
 }
 
 /// Adds the places whose rows are present and name the source.
-fn push_standing(
+pub fn push_standing(
     leaving: &mut SmallVec<usize, 4>,
     pool: &Pool,
     stands: &[bool],
@@ -107,7 +106,7 @@ fn push_standing(
 }
 
 /// The places of the present rows of the group's sources.
-fn standing_of_group(
+pub fn standing_of_group(
     alloc: Global,
     pool: &Pool,
     stands: &[bool],
@@ -145,7 +144,7 @@ fn push_giving_way(
 }
 
 /// The places of the present rows that give way to coming ones with the same key.
-fn giving_way(
+pub fn giving_way(
     alloc: Global,
     pool: &Pool,
     stands: &[bool],
@@ -162,47 +161,4 @@ fn giving_way(
         push_giving_way(&mut leaving, pool, stands, &row, places)?;
     }
     Ok(leaving)
-}
-
-/// The rows that come when the group moves, and those that leave: the present rows of its sources, and those with the
-/// key of a coming one. Unstable's rows begin at the first place. A source is first looked for near the guessed place.
-pub fn change_by_move(
-    alloc: Global,
-    pool: &Pool,
-    stands: &[bool],
-    first: usize,
-    sources: &[Box<UploadIn>],
-    near: usize,
-    group: &[Text],
-) -> Result<Change, NoMemory>
-    requires order { AreBySource (unboxed sources.now) }
-    requires flags { length stands.now ≡ length pool.now }
-    ensures within { IfOk result (λ change. IsWithin pool.now change.leaving.items change.coming.items) }
-    ensures moves { IfOk result (λ change. IsMoveOf pool.now stands.now first (unboxed sources.now) group.now change.leaving.items change.coming.items) }
-{
-    let coming = coming_of(alloc, pool, first, sources, near, group)?;
-    let mut leaving = standing_of_group(alloc, pool, stands, group)?;
-    let giving_way = giving_way(alloc, pool, stands, &coming)?;
-    leaving.extend_from_slice(&giving_way)?;
-    Ok(Change { leaving, coming })
-}
-
-/// The rows that leave when the source is removed: its present rows.
-pub fn change_by_removal(
-    alloc: Global,
-    pool: &Pool,
-    stands: &[bool],
-    name: &str,
-) -> Result<Change, NoMemory>
-    requires { length stands.now ≡ length pool.now }
-    ensures within { IfOk result (λ change. IsWithin pool.now change.leaving.items change.coming.items) }
-    ensures removal { IfOk result (λ change. IsRemovalOf pool.now stands.now name.now change.leaving.items) }
-    ensures none { IfOk result (λ change. change.coming.items ≡ []) }
-{
-    let mut leaving = SmallVec::new(alloc);
-    push_standing(&mut leaving, pool, stands, name, pool.of_source(name))?;
-    Ok(Change {
-        leaving,
-        coming: SmallVec::new(alloc),
-    })
 }

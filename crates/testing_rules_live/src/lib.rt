@@ -11,7 +11,6 @@ mod offender;
 mod pool_suites;
 mod row_tests;
 
-pub use change::{change_by_move, change_by_removal};
 pub use lent_rows::{moved_rows, rows_without};
 pub use live_rows::LiveRows;
 pub use live_sources::LiveSources;

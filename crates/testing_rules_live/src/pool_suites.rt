@@ -13,11 +13,11 @@ ghost use Rattle.testing_rules_suites.specs.steps.Tried.{first_told, Tells, IsWi
 ghost use Rattle.testing_rules_model.specs.steps.SourceFilter.{hash_passes, passing_rows};
 ghost use Rattle.testing_rules_items.specs.Words.{Text as Word};
 
-use crate::change::coming_of;
+use crate::change::{coming_of, giving_way, push_standing, standing_of_group};
 use crate::lack::lack_among;
-use crate::{change_by_move, change_by_removal};
 use deb_control::{Clause, Text};
 use deb_version::NoMemory;
+use smallvec::SmallVec;
 use std::alloc::Global;
 use std::marker::Model;
 use testing_rules_facts::{Hashes, hashes_pass, passing_rows};
@@ -121,7 +121,8 @@ impl PoolSuites {
         hashes_pass(&self.candidates, group)
     }
 
-    /// The rows that come and leave when the group moves. A source is first looked for near the guessed place.
+    /// The rows that come when the group moves, and those that leave: the present rows of its sources, and those with
+    /// the key of a coming one. A source is first looked for near the guessed place.
     pub fn change_by_move(
         &self,
         alloc: Global,
@@ -133,25 +134,29 @@ impl PoolSuites {
         ensures within { IfOk result (λ change. IsWithin self.now.rows change.leaving.items change.coming.items) }
         ensures moves { IfOk result (λ change. IsMoveOf self.now.rows self.now.stands self.now.first (unboxed sources.now) group.now change.leaving.items change.coming.items) }
     {
+        let pool = self.kept.pool();
         let stands = self.kept.stands();
-        change_by_move(
-            alloc,
-            self.kept.pool(),
-            stands,
-            self.first,
-            sources,
-            near,
-            group,
-        )
+        let coming = coming_of(alloc, pool, self.first, sources, near, group)?;
+        let mut leaving = standing_of_group(alloc, pool, stands, group)?;
+        let giving_way = giving_way(alloc, pool, stands, &coming)?;
+        leaving.extend_from_slice(&giving_way)?;
+        Ok(Change { leaving, coming })
     }
 
-    /// The rows that leave when the source is removed.
+    /// The rows that leave when the source is removed: its present rows.
     pub fn change_by_removal(&self, alloc: Global, name: &str) -> Result<Change, NoMemory>
         ensures within { IfOk result (λ change. IsWithin self.now.rows change.leaving.items change.coming.items) }
         ensures removal { IfOk result (λ change. IsRemovalOf self.now.rows self.now.stands name.now change.leaving.items) }
         ensures none { IfOk result (λ change. change.coming.items ≡ []) }
     {
-        change_by_removal(alloc, self.kept.pool(), self.kept.stands(), name)
+        let pool = self.kept.pool();
+        let stands = self.kept.stands();
+        let mut leaving = SmallVec::new(alloc);
+        push_standing(&mut leaving, pool, stands, name, pool.of_source(name))?;
+        Ok(Change {
+            leaving,
+            coming: SmallVec::new(alloc),
+        })
     }
 
     /// A clause of a row coming with the group that no present or coming row on its architecture meets. Without one,
