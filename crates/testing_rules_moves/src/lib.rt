@@ -14,3 +14,4 @@ mod turns;
 pub use beside::{broken_by_group, broken_by_removal};
 pub use migration::migrate;
 pub use turning::{at_group, at_removal, hinted};
+pub use turns::Basis;

@@ -12,14 +12,13 @@ ghost use Rattle.testing_rules_model.specs.Updates.{IsUpdate, update_by};
 ghost use Rattle.testing_rules_model.specs.Watched.{AllWatchedWork};
 ghost use Rattle.testing_rules_moves.specs.steps.Runs.{after_turns};
 
-use crate::live::LiveTesting;
-use crate::turns::Turns;
+use crate::turns::{Basis, Turns};
 use deb_version::NoMemory;
 use jiff_core::civil::Date;
 use std::alloc::Global;
-use testing_rules_facts::{Facts, Unhints, Unstable, built_rows, candidates};
+use testing_rules_facts::{Facts, Unhints, built_rows};
 use testing_rules_items::Archs;
-use testing_rules_model::{Decision, Excuse, Excuses, HintIn, LentRow, UnhintIn, Update};
+use testing_rules_model::{Decision, Excuse, Excuses, HintIn, UnhintIn, Update};
 use testing_rules_suites::{CarriedSuites, Testing};
 
 /// The turns of a run, one kind after the other.
@@ -40,28 +39,20 @@ fn take_turns(
     Ok(())
 }
 
-/// The decisions of a run over these rows of unstable, and the resulting testing.
+/// The decisions of a run, and the resulting testing.
 fn turns_over<'a>(
     alloc: Global,
-    archs: &Archs,
-    facts: &'a Facts,
-    rows: &[LentRow<'a>],
-    excuses: &[Excuse],
+    basis: &Basis<'_, 'a>,
     testing: &'a Testing,
     kept: Option<CarriedSuites>,
 ) -> Result<(Vec<Decision>, Testing), NoMemory>
     requires kept { AreCarriedOver kept testing.now.rows }
-    requires rows { AreByKey (lent rows.now) }
-    ensures { IfOk result (λ o. record { decisions = o.0.items; suite = o.1 } ≡ update_by archs.now facts.now.sources (lent rows.now) facts.now.hints facts.now.unhints excuses.now testing.now) }
+    requires rows { AreByKey (lent basis.now.rows.now) }
+    ensures { IfOk result (λ o. record { decisions = o.0.items; suite = o.1 } ≡ update_by basis.now.archs.now basis.now.facts.now.sources (lent basis.now.rows.now) basis.now.facts.now.hints basis.now.facts.now.unhints basis.now.excuses.now testing.now) }
 {
-    let candidates = candidates(alloc, excuses)?;
-    let unstable = Unstable {
-        sources: facts.sources(),
-        rows,
-    };
-    let live = LiveTesting::new(alloc, archs, unstable, testing, candidates, kept)?;
-    let mut turns = Turns::new(alloc, live);
-    take_turns(alloc, &mut turns, excuses, facts.hints(), facts.unhints())?;
+    let mut turns = Turns::over(alloc, basis, testing, kept)?;
+    let (hints, unhints) = (basis.facts.hints(), basis.facts.unhints());
+    take_turns(alloc, &mut turns, basis.excuses, hints, unhints)?;
     let parts = turns.into_parts(alloc)?;
     Ok(parts)
 }
@@ -79,7 +70,13 @@ fn all_turns<'a>(
     ensures { IfOk result (λ o. record { decisions = o.0.items; suite = o.1 } ≡ update_by archs.now facts.now.sources (unstable_words.built_rows archs.now facts.now.rows) facts.now.hints facts.now.unhints excuses.now testing.now) }
 {
     let rows = built_rows(alloc, archs, facts.rows())?;
-    turns_over(alloc, archs, facts, &rows, excuses, testing, kept)
+    let basis = Basis {
+        archs,
+        facts,
+        rows: &rows,
+        excuses,
+    };
+    turns_over(alloc, &basis, testing, kept)
 }
 
 /// The decisions of a run by these excuses: removals, groups, single moves, and the waiting candidates. Testing becomes

@@ -10,13 +10,12 @@ ghost use Rattle.testing_rules_moves.specs.steps.Runs.{run_after_groups, run_aft
 ghost use Rattle.testing_rules_moves.specs.steps.Turns as turns_words;
 ghost use Rattle.testing_rules_moves.specs.steps.Turns.{after_groups, after_removals, behind_hints, turn_of_easy, turn_of_removal};
 
-use crate::live::LiveTesting;
-use crate::turns::Turns;
+use crate::turns::{Basis, Turns};
 use deb_version::NoMemory;
 use std::alloc::Global;
-use testing_rules_facts::{Facts, Unhints, Unstable, built_rows, candidates};
+use testing_rules_facts::{Facts, Unhints, built_rows};
 use testing_rules_items::{Archs, HintItem};
-use testing_rules_model::{Excuse, HintIn, LentRow, UnhintIn};
+use testing_rules_model::{Excuse, HintIn, UnhintIn};
 use testing_rules_suites::Testing;
 
 /// The hints with smaller numbers.
@@ -49,29 +48,20 @@ fn take_groups(
     Ok(())
 }
 
-/// Testing after all removals of the hints in force, and then the groups of these hints, with these rows of unstable.
+/// Testing after all removals of the hints in force, and then the groups of these hints.
 fn groups_over<'a>(
     alloc: Global,
-    archs: &Archs,
-    facts: &'a Facts,
-    rows: &[LentRow<'a>],
-    excuses: &[Excuse],
+    basis: &Basis<'_, 'a>,
     grouped: &[HintIn],
     testing: &'a Testing,
 ) -> Result<Testing, NoMemory>
-    requires { AreByKey (lent rows.now) }
-    ensures { IfOk result (λ turn. turn ≡ after_groups archs.now facts.now.sources (lent rows.now) excuses.now grouped.now facts.now.unhints
-        (after_removals archs.now facts.now.hints facts.now.unhints testing.now)) }
+    requires { AreByKey (lent basis.now.rows.now) }
+    ensures { IfOk result (λ turn. turn ≡ after_groups basis.now.archs.now basis.now.facts.now.sources (lent basis.now.rows.now) basis.now.excuses.now grouped.now basis.now.facts.now.unhints
+        (after_removals basis.now.archs.now basis.now.facts.now.hints basis.now.facts.now.unhints testing.now)) }
 {
-    let candidates = candidates(alloc, excuses)?;
-    let unstable = Unstable {
-        sources: facts.sources(),
-        rows,
-    };
-    let live = LiveTesting::new(alloc, archs, unstable, testing, candidates, None)?;
-    let mut turns = Turns::new(alloc, live);
-    let (hints, unhints) = (facts.hints(), facts.unhints());
-    take_groups(alloc, &mut turns, excuses, hints, grouped, unhints)?;
+    let mut turns = Turns::over(alloc, basis, testing, None)?;
+    let (hints, unhints) = (basis.facts.hints(), basis.facts.unhints());
+    take_groups(alloc, &mut turns, basis.excuses, hints, grouped, unhints)?;
     let parts = turns.into_parts(alloc)?;
     Ok(parts.1)
 }
@@ -88,7 +78,13 @@ pub fn hinted(
     ensures { IfOk result (λ turn. turn ≡ behind_hints archs.now facts.now.sources (rows_built archs.now facts.now.rows) excuses.now facts.now.hints facts.now.unhints testing.now) }
 {
     let rows = built_rows(alloc, archs, facts.rows())?;
-    groups_over(alloc, archs, facts, &rows, excuses, facts.hints(), testing)
+    let basis = Basis {
+        archs,
+        facts,
+        rows: &rows,
+        excuses,
+    };
+    groups_over(alloc, &basis, facts.hints(), testing)
 }
 
 /// Testing at the turn of the group of the hint with the number: after all removals, and the groups of the hints in
@@ -105,47 +101,57 @@ pub fn at_group(
 {
     let rows = built_rows(alloc, archs, facts.rows())?;
     let earlier = hints_before(alloc, facts.hints(), number)?;
-    groups_over(alloc, archs, facts, &rows, excuses, &earlier, testing)
+    let basis = Basis {
+        archs,
+        facts,
+        rows: &rows,
+        excuses,
+    };
+    groups_over(alloc, &basis, &earlier, testing)
 }
 
-/// The turns of the removals asked by hints, and then of some items of a hint.
+/// The removals before a turn: those asked by some hints, and then some items of the hint with the number.
+#[derive(Clone, Copy)]
+struct Removals<'g> {
+    hints: &'g [HintIn],
+    number: u32,
+    items: &'g [HintItem],
+}
+
+/// The turns of these removals.
 fn take_removals(
     alloc: Global,
     turns: &mut Turns<'_, '_>,
-    hints: &[HintIn],
-    number: u32,
-    items: &[HintItem],
+    removals: &Removals<'_>,
     unhints: &[UnhintIn],
 ) -> Result<(), NoMemory>
-    ensures { OnOk result (turns.new ≡ run_after_removals hints.now number items.now unhints.now turns.old) }
+    ensures { OnOk result (turns.new ≡ run_after_removals removals.now.hints.now removals.now.number removals.now.items.now unhints.now turns.old) }
 {
     let unhints = Unhints::of(alloc, unhints)?;
-    turns.removals(alloc, hints, &unhints)?;
-    turns.remove_items(alloc, number, items)?;
+    turns.removals(alloc, removals.hints, &unhints)?;
+    turns.remove_items(alloc, removals.number, removals.items)?;
     Ok(())
 }
 
-/// Testing after the removals of these hints, and then of these items.
+/// Testing after these removals.
 fn removals_over<'a>(
     alloc: Global,
     archs: &Archs,
     facts: &'a Facts,
-    hints: &[HintIn],
-    number: u32,
-    items: &[HintItem],
+    removals: &Removals<'_>,
     testing: &'a Testing,
 ) -> Result<Testing, NoMemory>
-    ensures { IfOk result (λ turn. turn ≡ (in_turn (rules.remove_item archs.now) (map (λ i. (number, i)) items.now) (after_removals archs.now hints.now facts.now.unhints testing.now)).suite) }
+    ensures { IfOk result (λ turn. turn ≡ (in_turn (rules.remove_item archs.now) (map (λ i. (removals.now.number, i)) removals.now.items.now) (after_removals archs.now removals.now.hints.now facts.now.unhints testing.now)).suite) }
 {
-    // Unstable's rows don't matter to a removal.
-    let unstable = Unstable {
-        sources: facts.sources(),
+    // Unstable's rows and the excuses don't matter to a removal.
+    let basis = Basis {
+        archs,
+        facts,
         rows: &[],
+        excuses: &[],
     };
-    let candidates = candidates(alloc, &[])?;
-    let live = LiveTesting::new(alloc, archs, unstable, testing, candidates, None)?;
-    let mut turns = Turns::new(alloc, live);
-    take_removals(alloc, &mut turns, hints, number, items, facts.unhints())?;
+    let mut turns = Turns::over(alloc, &basis, testing, None)?;
+    take_removals(alloc, &mut turns, removals, facts.unhints())?;
     let parts = turns.into_parts(alloc)?;
     Ok(parts.1)
 }
@@ -163,5 +169,10 @@ pub fn at_removal(
     ensures { IfOk result (λ turn. turn ≡ turn_of_removal archs.now facts.now.hints facts.now.unhints number earlier.now testing.now) }
 {
     let hints = hints_before(alloc, facts.hints(), number)?;
-    removals_over(alloc, archs, facts, &hints, number, earlier, testing)
+    let removals = Removals {
+        hints: &hints,
+        number,
+        items: earlier,
+    };
+    removals_over(alloc, archs, facts, &removals, testing)
 }

@@ -3,20 +3,33 @@
 ghost use Rattle.std.specs.Prelude.{◌≡◌, [], OnOk, IfOk, map, filter};
 ghost use Rattle.std.specs.List.{flat_map};
 ghost use Rattle.testing_rules_moves.specs.steps.Runs.{go_on};
+ghost use Rattle.testing_rules_model.specs.InOrder.{AreByKey};
+ghost use Rattle.testing_rules_model.specs.JudgedRows.{lent};
 ghost use Rattle.testing_rules_model.specs.Moves.{remove_source};
 ghost use Rattle.testing_rules_model.specs.Unstable as unstable;
 ghost use Rattle.testing_rules_model.specs.Updates as rules;
 ghost use Rattle.testing_rules_model.specs.Updates.{decide, in_turn};
+ghost use Rattle.testing_rules_suites.specs.CarriedOver.{AreCarriedOver};
 
 use crate::live::LiveTesting;
 use deb_control::Text;
 use deb_version::{NoMemory, Version};
 use std::alloc::Global;
 use std::marker::Model;
-use testing_rules_facts::{Unhints, is_in_force, is_same_version};
-use testing_rules_items::{Hint, HintItem};
-use testing_rules_model::{Decision, HintIn};
-use testing_rules_suites::Testing;
+use testing_rules_facts::{Facts, Unhints, Unstable, candidates, is_in_force, is_same_version};
+use testing_rules_items::{Archs, Hint, HintItem};
+use testing_rules_model::{Decision, Excuse, HintIn, LentRow};
+use testing_rules_suites::{CarriedSuites, Testing};
+
+/// What stays during a run: the architectures, the facts, the rows built from these, and the excuses. Unstable has the
+/// facts' sources and these rows.
+#[derive(Clone, Copy)]
+pub struct Basis<'u, 'a> {
+    pub archs: &'u Archs,
+    pub facts: &'a Facts,
+    pub rows: &'u [LentRow<'a>],
+    pub excuses: &'u [Excuse],
+}
 
 /// The decisions so far, and the resulting testing. A move within that testing adds no decision on its own.
 #[derive(Drop)]
@@ -38,13 +51,37 @@ impl<'u, 'a> Model for Turns<'u, 'a> {
 
 impl<'u, 'a> Turns<'u, 'a> {
     /// No decision yet.
-    pub fn new(alloc: Global, testing: LiveTesting<'u, 'a>) -> Turns<'u, 'a>
+    fn new(alloc: Global, testing: LiveTesting<'u, 'a>) -> Turns<'u, 'a>
         ensures { result ≡ record { basis = testing.entry.basis; outcome = record { decisions = []; suite = testing.entry.suite } } }
     {
         Turns {
             decisions: Vec::new(alloc),
             testing,
         }
+    }
+
+    /// No decision yet, over testing with the suites kept of its rows.
+    pub fn over(
+        alloc: Global,
+        basis: &Basis<'u, 'a>,
+        testing: &'a Testing,
+        kept: Option<CarriedSuites>,
+    ) -> Result<Turns<'u, 'a>, NoMemory>
+        requires kept { AreCarriedOver kept testing.now.rows }
+        requires rows { AreByKey (lent basis.now.rows.now) }
+        ensures { IfOk result (λ turns. turns ≡ record {
+          basis = record { archs = basis.now.archs.now; sources = basis.now.facts.now.sources; rows = lent basis.now.rows.now };
+          outcome = record { decisions = []; suite = testing.now };
+        }) }
+    {
+        let candidates = candidates(alloc, basis.excuses)?;
+        let unstable = Unstable {
+            sources: basis.facts.sources(),
+            rows: basis.rows,
+        };
+        let live = LiveTesting::new(alloc, basis.archs, unstable, testing, candidates, kept)?;
+        let turns = Turns::new(alloc, live);
+        Ok(turns)
     }
 
     /// The decisions, and the resulting testing.

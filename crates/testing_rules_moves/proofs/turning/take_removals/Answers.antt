@@ -7,7 +7,7 @@ use Rattle.testing_rules_moves.proofs.turning.take_removals.Goals as goal
 
 pub returns : goal.returns
 returns c =
-    let a = c.args in
+    let rs = c.args.removals.now in
     c.in_ok-remove_items.ensures
-    ∙ ap (λ (r : Run). go_on r (λ b. in_turn (remove_item b.archs) (map (λ (i : HintItem). (a.number, i)) a.items.now))) c.in_ok-removals.ensures
-    ∙ ap (λ (us : List UnhintIn). run_after_removals a.hints.now a.number a.items.now us a.turns.now) c.in_ok-unhints.ensures
+    ∙ ap (λ (r : Run). go_on r (λ b. in_turn (remove_item b.archs) (map (λ (i : HintItem). (rs.number, i)) rs.items.now))) c.in_ok-removals.ensures
+    ∙ ap (λ (us : List UnhintIn). run_after_removals rs.hints.now rs.number rs.items.now us c.args.turns.now) c.in_ok-unhints.ensures
