@@ -68,7 +68,7 @@ fn paragraphs_say(
     let number = required(first, Field::Number)?;
     let kind = Kind::named(required(first, Field::Kind)?);
     has_fields_of(kind, first, rest)?;
-    message_of(alloc, setup, from, number, kind, first, rest)
+    message_of(alloc, setup, Head { from, number, kind }, first, rest)
 }
 
 /// Checks the fields of the kind.
@@ -105,26 +105,32 @@ fn all_have(fields: &[Field], paragraphs: &[Paragraph<'_>]) -> Result<bool, Mail
     Ok(true)
 }
 
+/// What the first paragraph of a message states: its sender, its number, and its kind if that is known.
+#[derive(Clone, Copy)]
+struct Head<'a> {
+    from: &'a str,
+    number: &'a str,
+    kind: Option<Kind>,
+}
+
 #[tactic(auto, unfolding(crate::specs::Read::message_of))]
 fn message_of(
     alloc: Global,
     setup: &Setup,
-    from: &str,
-    number: &str,
-    kind: Option<Kind>,
+    head: Head<'_>,
     first: &Paragraph<'_>,
     rest: &[Paragraph<'_>],
 ) -> Result<Message, MailFault>
-    ensures exact { Gives result (message_of setup.now from.now number.now kind first.now rest.now) }
+    ensures exact { Gives result (message_of setup.now head.entry.from.now head.entry.number.now head.entry.kind first.now rest.now) }
     ensures place { IfOk result (λ message. IsPlace setup.now (place_of message)) }
 {
-    let Some((sender, role)) = sender_named(setup, from) else {
+    let Some((sender, role)) = sender_named(setup, head.from) else {
         return Err(MailFault::UnknownSender);
     };
-    let Some(number) = number_in(1, MAX_NUMBER, number) else {
+    let Some(number) = number_in(1, MAX_NUMBER, head.number) else {
         return Err(MailFault::BadNumber);
     };
-    let Some(kind) = kind else {
+    let Some(kind) = head.kind else {
         return Err(MailFault::UnknownKind);
     };
     if !role.may_send(kind) {
