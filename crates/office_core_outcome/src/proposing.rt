@@ -33,7 +33,7 @@ use office_mail::{Setup, latest_day};
 use office_store_keeper::Keeper;
 use std::alloc::Global;
 use testing_rules_excuses::excuses;
-use testing_rules_groups::{Found, find_groups};
+use testing_rules_groups::{Found, Start, find_groups};
 use testing_rules_laws::{Decision, Testing, Update};
 
 /// Hints that the run does, each of them, its decisions then, what is told of the sources, and notes.
@@ -61,9 +61,16 @@ fn groups_found(
     testing: &Testing,
     decisions: &[Decision],
 ) -> Result<Found, NoMemory> {
-    let (archs, facts, wanted) = (asked.setup.archs(), asked.facts, asked.sources);
+    let (archs, facts) = (asked.setup.archs(), asked.facts);
     let excuses = excuses(alloc, archs, facts, testing, asked.date)?;
-    let found = find_groups(alloc, archs, facts, &excuses, testing, decisions, wanted)?;
+    let start = Start {
+        archs,
+        facts,
+        excuses: &excuses,
+        testing,
+        decisions,
+    };
+    let found = find_groups(alloc, start, asked.sources)?;
     drop(excuses);
     Ok(found)
 }

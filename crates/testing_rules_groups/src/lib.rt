@@ -15,4 +15,4 @@ mod search;
 mod standing;
 
 pub use found::{DeadSource, Found, LongGroup};
-pub use search::find_groups;
+pub use search::{Start, find_groups};

@@ -42,6 +42,17 @@ struct Aim<'w> {
     keeps_rests: bool,
 }
 
+/// Where a search begins: the facts, the excuses and the testing of a run, and its decisions by today's hints, or none
+/// if no such hint moves or removes anything.
+#[derive(Clone, Copy)]
+pub struct Start<'s> {
+    pub archs: &'s Archs,
+    pub facts: &'s Facts,
+    pub excuses: &'s Excuses,
+    pub testing: &'s Testing,
+    pub decisions: &'s [Decision],
+}
+
 /// The rows of testing once some candidates have moved.
 fn rows_after<'a>(
     alloc: Global,
@@ -252,17 +263,15 @@ fn search_more<'a>(
 
 /// Groups of candidates that may move one after another once today's hints are done: those of the knots on which the
 /// wanted sources rest, or all if none is wanted. Where candidates can't all move, the wanted ones are left out last; and
-/// if one is left out still, the search leaves out last all on which it rests. The decisions are those of a run by
-/// today's hints, or none if no such hint moves or removes anything.
-pub fn find_groups(
-    alloc: Global,
-    archs: &Archs,
-    facts: &Facts,
-    excuses: &Excuses,
-    testing: &Testing,
-    decisions: &[Decision],
-    wanted: &[Text],
-) -> Result<Found, NoMemory> {
+/// if one is left out still, the search leaves out last all on which it rests.
+pub fn find_groups(alloc: Global, start: Start<'_>, wanted: &[Text]) -> Result<Found, NoMemory> {
+    let Start {
+        archs,
+        facts,
+        excuses,
+        testing,
+        decisions,
+    } = start;
     let built = built_rows(alloc, archs, facts.rows())?;
     let current = current_rows(alloc, facts, &built)?;
     let mut stage = first_stage(alloc, excuses, testing, &current, decisions)?;
