@@ -184,7 +184,7 @@ class Book:
                     self.used[label_of(to)].add(to.name)
         self.order = [label for label in followed(graph, LAW) if label in self.files]
         self.definitions = [at for at in found if isinstance(at, Definition)]
-        self.types = [at for at in found if not isinstance(at, Definition)]
+        self.types = [at for at in found if not isinstance(at, Definition) and at.kind in ('struct', 'enum')]
 
     def library(self):
         """The names of the toolchain's libraries that the definitions use, by their files."""
