@@ -1,10 +1,10 @@
 -- Calls that only ask, one after another, and what they answer of a store that reads.
-use Rattle.std.proofs.Common.{◌≡◌, ◌≢◌, ◌⊎◌, inl, inr, ℕ, ◌≤◌, Bool, true, Option, Some, None, Result, Ok, Err, IsSome, refl, sym, subst, ◌∙◌, arith}
+use Rattle.std.proofs.Common.{◌≡◌, ◌≢◌, inl, inr, ℕ, Bool, true, Option, Some, None, Result, Ok, Err, IsSome, refl, sym, subst, ◌∙◌, arith}
 use Rattle.std.specs.Prelude.{is_some}
 use Rattle.office_mail.specs.Counts.{HasRisen}
 use Rattle.office_mail.specs.Lists.{Lists}
 use Rattle.office_store_keeper.specs.Content.{Content}
-use Rattle.office_store_keeper.specs.Keeping.{Counted}
+use Rattle.office_store_keeper.specs.Keeping.{Counted, OnlyReads}
 use Rattle.office_store_keeper.specs.Provenance.{AreOwnTexts}
 use Rattle.office_store_keeper.specs.declared.faults.Cause.TheVariants.{BadRow}
 use Rattle.office_store_keeper.specs.declared.faults.KeepFault.{KeepFault}
@@ -19,18 +19,17 @@ counted_keeps old new (Err NoMemory) e n rose = subst (HasRisen n) (sym e) rose
 counted_keeps old new (Err (Store cause)) risen n rose = omega (arith, risen, rose)
 
 -- a call of a store that asks
-pub asks_by : {K T : Type 0} (keeper : Ghosts K) (old new : K) (r : Result T KeepFault) → (keeper.is_trusted new → keeper.content new ≡ keeper.content old) → keeper.setup new ≡ keeper.setup old
-    → (keeper.is_trusted new → keeper.is_trusted old) → (keeper.is_trusted new → keeper.is_legible old → keeper.is_legible new) → (keeper.is_clean new → keeper.is_clean old) → keeper.disk_faults old ≤ keeper.disk_faults new
-    → (keeper.is_clean new → keeper.is_trusted old → keeper.is_trusted new ⊎ HasRisen (keeper.disk_faults old) (keeper.disk_faults new)) → Counted (keeper.refusals old) (keeper.refusals new) r → Asks keeper old new
-asks_by keeper old new r same setup before legible clean faults shut counted = record {
-  same = same;
-  setup = setup;
-  before = before;
-  legible = legible;
-  clean = clean;
-  faults = faults;
-  shut = shut;
-  counts = counted_keeps (keeper.refusals old) (keeper.refusals new) r counted;
+pub asks_by : {K T : Type 0} (keeper : Ghosts K) (old new : K) (r : Result T KeepFault)
+    → OnlyReads keeper.is_clean keeper.is_trusted keeper.is_legible keeper.setup keeper.content keeper.refusals keeper.disk_faults old new r → Asks keeper old new
+asks_by keeper old new r reads = record {
+  same = reads.same;
+  setup = reads.keeps.setup;
+  before = reads.keeps.before;
+  legible = reads.legible;
+  clean = reads.keeps.clean;
+  faults = reads.keeps.faults;
+  shut = reads.keeps.shut;
+  counts = counted_keeps (keeper.refusals old) (keeper.refusals new) r reads.keeps.counted;
 }
 
 pub asks_none : {K : Type 0} (keeper : Ghosts K) (k : K) → Asks keeper k k

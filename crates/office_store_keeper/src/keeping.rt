@@ -1,15 +1,14 @@
 //! What a store of the office does.
-ghost use Rattle.std.specs.Prelude.{◌≡◌, ◌≢◌, ◌≤◌, ◌+◌, ◌⊎◌, ◌↔◌, ◌++◌, ◌∷◌, [], ℕ, List, Some, None, Err, length, if◌then◌else◌, IsTrue, IfOk, OnOk, OnErr};
+ghost use Rattle.std.specs.Prelude.{◌≡◌, ◌≤◌, ◌+◌, ◌↔◌, ◌++◌, ◌∷◌, [], ℕ, None, length, if◌then◌else◌, IsTrue, IfOk, OnOk, OnErr};
 ghost use Rattle.std.specs.FinMap.{get, insert, len};
-ghost use Rattle.office_mail.specs.Counts.{HasRisen};
 ghost use Rattle.office_mail.specs.Lists.{Lists};
 ghost use Rattle.office_store_keeper.specs.Content.{Content, reports_in, with_text, with_run, item_from_one, letters_within, IsNextNumber};
 ghost use Rattle.office_store_keeper.specs.FactSet.{AreHoldable, facts_after, rows_in};
-ghost use Rattle.office_store_keeper.specs.Provenance.{AreOwnTexts, IsGiven, KnowsArchs};
-ghost use Rattle.office_store_keeper.specs.Keeping.{Counted};
+ghost use Rattle.office_store_keeper.specs.Provenance.{IsGiven, KnowsArchs};
+ghost use Rattle.office_store_keeper.specs.Keeping.{Keeps, OnlyReads};
 ghost use Rattle.office_store_keeper.specs.NewMail.{AreFree, with_letters, with_mail};
 
-use crate::faults::{Cause, KeepFault};
+use crate::faults::KeepFault;
 use crate::values::{Finished, Letter, MailText, NewLetter, Reports};
 use testing_rules_model::FactRows;
 use testing_rules_suites::Testing;
@@ -42,16 +41,7 @@ pub trait Keeper {
     /// The kept text, or none.
     fn find(&mut self, sender: u32, number: u32) -> Result<Option<MailText>, KeepFault>
         ensures found { is_trusted self.new → IfOk result (λ text. text ≡ get (content self.old).kept (sender, number)) }
-        ensures same { is_trusted self.new → content self.new ≡ content self.old }
-        ensures setup { setup self.new ≡ setup self.old }
-        ensures clean { is_clean self.new → is_clean self.old }
-        ensures faults { disk_faults self.old ≤ disk_faults self.new }
-        ensures before { is_trusted self.new → is_trusted self.old }
-        ensures open { is_clean self.new → is_trusted self.old → OnOk result (is_trusted self.new) }
-        ensures shut { is_clean self.new → is_trusted self.old → is_trusted self.new ⊎ HasRisen (disk_faults self.old) (disk_faults self.new) }
-        ensures legible { is_trusted self.new → is_legible self.old → is_legible self.new }
-        ensures bad { is_trusted self.new → is_legible self.old → AreOwnTexts (setup self.old) (content self.old).kept → result ≢ Err (KeepFault.Store Cause.BadRow) }
-        ensures counted { Counted (refusals self.old) (refusals self.new) result };
+        ensures reads { OnlyReads is_clean is_trusted is_legible setup content refusals disk_faults self.old self.new result };
 
     /// Keeps a text under a free number. A store in memory shares its bytes, if possible.
     fn keep(&mut self, sender: u32, number: u32, text: &MailText) -> Result<(), KeepFault>
@@ -61,15 +51,8 @@ pub trait Keeper {
         ensures reports { is_trusted self.new → (content self.new).reports ≡ (content self.old).reports }
         ensures facts { is_trusted self.new → (content self.new).facts ≡ (content self.old).facts }
         ensures err { is_trusted self.new → OnErr result (content self.new ≡ content self.old) }
-        ensures setup { setup self.new ≡ setup self.old }
-        ensures clean { is_clean self.new → is_clean self.old }
-        ensures faults { disk_faults self.old ≤ disk_faults self.new }
-        ensures before { is_trusted self.new → is_trusted self.old }
-        ensures open { is_clean self.new → is_trusted self.old → OnOk result (is_trusted self.new) }
-        ensures shut { is_clean self.new → is_trusted self.old → is_trusted self.new ⊎ HasRisen (disk_faults self.old) (disk_faults self.new) }
         ensures legible { is_trusted self.new → is_legible self.old → is_legible self.new }
-        ensures bad { is_trusted self.new → is_legible self.old → AreOwnTexts (setup self.old) (content self.old).kept → result ≢ Err (KeepFault.Store Cause.BadRow) }
-        ensures counted { Counted (refusals self.old) (refusals self.new) result };
+        ensures keeps { Keeps is_clean is_trusted is_legible setup content refusals disk_faults self.old self.new result };
 
     /// The best number of texts to keep together.
     fn keeps_together(&self) -> usize {
@@ -85,15 +68,8 @@ pub trait Keeper {
         ensures reports { is_trusted self.new → (content self.new).reports ≡ (content self.old).reports }
         ensures facts { is_trusted self.new → (content self.new).facts ≡ (content self.old).facts }
         ensures err { is_trusted self.new → OnErr result (content self.new ≡ content self.old) }
-        ensures setup { setup self.new ≡ setup self.old }
-        ensures clean { is_clean self.new → is_clean self.old }
-        ensures faults { disk_faults self.old ≤ disk_faults self.new }
-        ensures before { is_trusted self.new → is_trusted self.old }
-        ensures open { is_clean self.new → is_trusted self.old → OnOk result (is_trusted self.new) }
-        ensures shut { is_clean self.new → is_trusted self.old → is_trusted self.new ⊎ HasRisen (disk_faults self.old) (disk_faults self.new) }
         ensures legible { is_trusted self.new → is_legible self.old → is_legible self.new }
-        ensures bad { is_trusted self.new → is_legible self.old → AreOwnTexts (setup self.old) (content self.old).kept → result ≢ Err (KeepFault.Store Cause.BadRow) }
-        ensures counted { Counted (refusals self.old) (refusals self.new) result }
+        ensures keeps { Keeps is_clean is_trusted is_legible setup content refusals disk_faults self.old self.new result }
     {
         Ok(false)
     }
@@ -101,44 +77,17 @@ pub trait Keeper {
     /// The number of finished runs.
     fn finished(&mut self) -> Result<u32, KeepFault>
         ensures value { is_trusted self.new → IfOk result (λ n. n ≡ length (content self.old).reports) }
-        ensures same { is_trusted self.new → content self.new ≡ content self.old }
-        ensures setup { setup self.new ≡ setup self.old }
-        ensures clean { is_clean self.new → is_clean self.old }
-        ensures faults { disk_faults self.old ≤ disk_faults self.new }
-        ensures before { is_trusted self.new → is_trusted self.old }
-        ensures open { is_clean self.new → is_trusted self.old → OnOk result (is_trusted self.new) }
-        ensures shut { is_clean self.new → is_trusted self.old → is_trusted self.new ⊎ HasRisen (disk_faults self.old) (disk_faults self.new) }
-        ensures legible { is_trusted self.new → is_legible self.old → is_legible self.new }
-        ensures bad { is_trusted self.new → is_legible self.old → AreOwnTexts (setup self.old) (content self.old).kept → result ≢ Err (KeepFault.Store Cause.BadRow) }
-        ensures counted { Counted (refusals self.old) (refusals self.new) result };
+        ensures reads { OnlyReads is_clean is_trusted is_legible setup content refusals disk_faults self.old self.new result };
 
     /// The kept numbers of a sender from `from` to `to` with their texts, by number; none where `from` is above `to`.
     fn load(&mut self, sender: u32, from: u32, to: u32) -> Result<Vec<Letter>, KeepFault>
         ensures loaded { is_trusted self.new → IfOk result (λ letters. letters.items ≡ letters_within (content self.old).kept sender from to) }
-        ensures same { is_trusted self.new → content self.new ≡ content self.old }
-        ensures setup { setup self.new ≡ setup self.old }
-        ensures clean { is_clean self.new → is_clean self.old }
-        ensures faults { disk_faults self.old ≤ disk_faults self.new }
-        ensures before { is_trusted self.new → is_trusted self.old }
-        ensures open { is_clean self.new → is_trusted self.old → OnOk result (is_trusted self.new) }
-        ensures shut { is_clean self.new → is_trusted self.old → is_trusted self.new ⊎ HasRisen (disk_faults self.old) (disk_faults self.new) }
-        ensures legible { is_trusted self.new → is_legible self.old → is_legible self.new }
-        ensures bad { is_trusted self.new → is_legible self.old → AreOwnTexts (setup self.old) (content self.old).kept → result ≢ Err (KeepFault.Store Cause.BadRow) }
-        ensures counted { Counted (refusals self.old) (refusals self.new) result };
+        ensures reads { OnlyReads is_clean is_trusted is_legible setup content refusals disk_faults self.old self.new result };
 
     /// The least kept number of a sender from `from` on, or none.
     fn next_number(&mut self, sender: u32, from: u32) -> Result<Option<u32>, KeepFault>
         ensures next { is_trusted self.new → IfOk result (λ number. IsNextNumber (content self.old).kept sender from number) }
-        ensures same { is_trusted self.new → content self.new ≡ content self.old }
-        ensures setup { setup self.new ≡ setup self.old }
-        ensures clean { is_clean self.new → is_clean self.old }
-        ensures faults { disk_faults self.old ≤ disk_faults self.new }
-        ensures before { is_trusted self.new → is_trusted self.old }
-        ensures open { is_clean self.new → is_trusted self.old → OnOk result (is_trusted self.new) }
-        ensures shut { is_clean self.new → is_trusted self.old → is_trusted self.new ⊎ HasRisen (disk_faults self.old) (disk_faults self.new) }
-        ensures legible { is_trusted self.new → is_legible self.old → is_legible self.new }
-        ensures bad { is_trusted self.new → is_legible self.old → AreOwnTexts (setup self.old) (content self.old).kept → result ≢ Err (KeepFault.Store Cause.BadRow) }
-        ensures counted { Counted (refusals self.old) (refusals self.new) result };
+        ensures reads { OnlyReads is_clean is_trusted is_legible setup content refusals disk_faults self.old self.new result };
 
     /// Finishes the next run, with its reports, its testing and the changes to the rows of facts, all at once. Testing
     /// is kept as given if a kept message gives each entry that the kept one hasn't; the rows of facts are kept if a
@@ -151,74 +100,31 @@ pub trait Keeper {
         ensures reports { is_trusted self.new → OnOk result ((content self.new).reports ≡ (content self.old).reports ++ reports_in done.now ∷ []) }
         ensures facts { is_trusted self.new → AreHoldable (setup self.old) (facts_after done.now.facts (content self.old).facts) → OnOk result ((content self.new).facts ≡ facts_after done.now.facts (content self.old).facts) }
         ensures err { is_trusted self.new → OnErr result (content self.new ≡ content self.old) }
-        ensures setup { setup self.new ≡ setup self.old }
-        ensures clean { is_clean self.new → is_clean self.old }
-        ensures faults { disk_faults self.old ≤ disk_faults self.new }
-        ensures before { is_trusted self.new → is_trusted self.old }
-        ensures open { is_clean self.new → is_trusted self.old → OnOk result (is_trusted self.new) }
-        ensures shut { is_clean self.new → is_trusted self.old → is_trusted self.new ⊎ HasRisen (disk_faults self.old) (disk_faults self.new) }
         ensures legible { is_trusted self.new → is_legible self.old → IsGiven (setup self.old) (content self.old) done.now.testing → AreHoldable (setup self.old) (facts_after done.now.facts (content self.old).facts) → is_legible self.new }
-        ensures bad { is_trusted self.new → is_legible self.old → AreOwnTexts (setup self.old) (content self.old).kept → result ≢ Err (KeepFault.Store Cause.BadRow) }
-        ensures counted { Counted (refusals self.old) (refusals self.new) result };
+        ensures keeps { Keeps is_clean is_trusted is_legible setup content refusals disk_faults self.old self.new result };
 
     /// The two reports of a finished run, or none for another run.
     fn reports(&mut self, run: u32) -> Result<Option<Reports>, KeepFault>
         ensures value { is_trusted self.new → IfOk result (λ reports. reports ≡ item_from_one run (content self.old).reports) }
-        ensures same { is_trusted self.new → content self.new ≡ content self.old }
-        ensures setup { setup self.new ≡ setup self.old }
-        ensures clean { is_clean self.new → is_clean self.old }
-        ensures faults { disk_faults self.old ≤ disk_faults self.new }
-        ensures before { is_trusted self.new → is_trusted self.old }
-        ensures open { is_clean self.new → is_trusted self.old → OnOk result (is_trusted self.new) }
-        ensures shut { is_clean self.new → is_trusted self.old → is_trusted self.new ⊎ HasRisen (disk_faults self.old) (disk_faults self.new) }
-        ensures legible { is_trusted self.new → is_legible self.old → is_legible self.new }
-        ensures bad { is_trusted self.new → is_legible self.old → AreOwnTexts (setup self.old) (content self.old).kept → result ≢ Err (KeepFault.Store Cause.BadRow) }
-        ensures counted { Counted (refusals self.old) (refusals self.new) result };
+        ensures reads { OnlyReads is_clean is_trusted is_legible setup content refusals disk_faults self.old self.new result };
 
     /// The testing suite after the last finished run. Even in an untrusted store it has only architectures of the setup
     /// and `all`.
     fn testing(&mut self) -> Result<Testing, KeepFault>
         ensures value { is_trusted self.new → IfOk result (λ testing. testing ≡ (content self.old).testing) }
         ensures archs { IfOk result (λ testing. KnowsArchs (setup self.new).archs testing.rows) }
-        ensures same { is_trusted self.new → content self.new ≡ content self.old }
-        ensures setup { setup self.new ≡ setup self.old }
-        ensures clean { is_clean self.new → is_clean self.old }
-        ensures faults { disk_faults self.old ≤ disk_faults self.new }
-        ensures before { is_trusted self.new → is_trusted self.old }
-        ensures open { is_clean self.new → is_trusted self.old → OnOk result (is_trusted self.new) }
-        ensures shut { is_clean self.new → is_trusted self.old → is_trusted self.new ⊎ HasRisen (disk_faults self.old) (disk_faults self.new) }
-        ensures legible { is_trusted self.new → is_legible self.old → is_legible self.new }
-        ensures bad { is_trusted self.new → is_legible self.old → AreOwnTexts (setup self.old) (content self.old).kept → result ≢ Err (KeepFault.Store Cause.BadRow) }
-        ensures counted { Counted (refusals self.old) (refusals self.new) result };
+        ensures reads { OnlyReads is_clean is_trusted is_legible setup content refusals disk_faults self.old self.new result };
 
     /// The rows of the facts in the mail covered by the finished runs, by kind, sender, number and place.
     fn facts(&mut self) -> Result<FactRows, KeepFault>
         ensures value { is_trusted self.new → IfOk result (λ rows. rows ≡ rows_in (content self.old).facts) }
-        ensures same { is_trusted self.new → content self.new ≡ content self.old }
-        ensures setup { setup self.new ≡ setup self.old }
-        ensures clean { is_clean self.new → is_clean self.old }
-        ensures faults { disk_faults self.old ≤ disk_faults self.new }
-        ensures before { is_trusted self.new → is_trusted self.old }
-        ensures open { is_clean self.new → is_trusted self.old → OnOk result (is_trusted self.new) }
-        ensures shut { is_clean self.new → is_trusted self.old → is_trusted self.new ⊎ HasRisen (disk_faults self.old) (disk_faults self.new) }
-        ensures legible { is_trusted self.new → is_legible self.old → is_legible self.new }
-        ensures bad { is_trusted self.new → is_legible self.old → AreOwnTexts (setup self.old) (content self.old).kept → result ≢ Err (KeepFault.Store Cause.BadRow) }
-        ensures counted { Counted (refusals self.old) (refusals self.new) result };
+        ensures reads { OnlyReads is_clean is_trusted is_legible setup content refusals disk_faults self.old self.new result };
 
     /// Whether the content is what an office writes, with this many kept texts. If more are named than are kept, the
     /// answer means nothing.
     fn is_whole(&mut self, texts: u64) -> Result<bool, KeepFault>
         ensures whole { is_trusted self.new → texts ≤ len (content self.old).kept → IfOk result (λ whole. IsTrue whole ↔ (is_legible self.new × (len (content self.old).kept ≡ texts))) }
-        ensures same { is_trusted self.new → content self.new ≡ content self.old }
-        ensures setup { setup self.new ≡ setup self.old }
-        ensures clean { is_clean self.new → is_clean self.old }
-        ensures faults { disk_faults self.old ≤ disk_faults self.new }
-        ensures before { is_trusted self.new → is_trusted self.old }
-        ensures open { is_clean self.new → is_trusted self.old → OnOk result (is_trusted self.new) }
-        ensures shut { is_clean self.new → is_trusted self.old → is_trusted self.new ⊎ HasRisen (disk_faults self.old) (disk_faults self.new) }
-        ensures legible { is_trusted self.new → is_legible self.old → is_legible self.new }
-        ensures bad { is_trusted self.new → is_legible self.old → AreOwnTexts (setup self.old) (content self.old).kept → result ≢ Err (KeepFault.Store Cause.BadRow) }
-        ensures counted { Counted (refusals self.old) (refusals self.new) result };
+        ensures reads { OnlyReads is_clean is_trusted is_legible setup content refusals disk_faults self.old self.new result };
 
     /// Finishes the next run like `finish`, taking its result by value. A store that only needs the value itself copies
     /// nothing.
@@ -230,15 +136,8 @@ pub trait Keeper {
         ensures reports { is_trusted self.new → OnOk result ((content self.new).reports ≡ (content self.old).reports ++ reports_in done ∷ []) }
         ensures facts { is_trusted self.new → AreHoldable (setup self.old) (facts_after done.facts (content self.old).facts) → OnOk result ((content self.new).facts ≡ facts_after done.facts (content self.old).facts) }
         ensures err { is_trusted self.new → OnErr result (content self.new ≡ content self.old) }
-        ensures setup { setup self.new ≡ setup self.old }
-        ensures clean { is_clean self.new → is_clean self.old }
-        ensures faults { disk_faults self.old ≤ disk_faults self.new }
-        ensures before { is_trusted self.new → is_trusted self.old }
-        ensures open { is_clean self.new → is_trusted self.old → OnOk result (is_trusted self.new) }
-        ensures shut { is_clean self.new → is_trusted self.old → is_trusted self.new ⊎ HasRisen (disk_faults self.old) (disk_faults self.new) }
         ensures legible { is_trusted self.new → is_legible self.old → IsGiven (setup self.old) (content self.old) done.testing → AreHoldable (setup self.old) (facts_after done.facts (content self.old).facts) → is_legible self.new }
-        ensures bad { is_trusted self.new → is_legible self.old → AreOwnTexts (setup self.old) (content self.old).kept → result ≢ Err (KeepFault.Store Cause.BadRow) }
-        ensures counted { Counted (refusals self.old) (refusals self.new) result }
+        ensures keeps { Keeps is_clean is_trusted is_legible setup content refusals disk_faults self.old self.new result }
     {
         let finished = self.finish(run, &done);
         drop(done);
@@ -249,16 +148,7 @@ pub trait Keeper {
     fn next_testing(&mut self) -> Result<Testing, KeepFault>
         ensures value { is_trusted self.new → is_legible self.new → IfOk result (λ testing. testing ≡ (content self.old).testing) }
         ensures archs { IfOk result (λ testing. KnowsArchs (setup self.new).archs testing.rows) }
-        ensures same { is_trusted self.new → content self.new ≡ content self.old }
-        ensures setup { setup self.new ≡ setup self.old }
-        ensures clean { is_clean self.new → is_clean self.old }
-        ensures faults { disk_faults self.old ≤ disk_faults self.new }
-        ensures before { is_trusted self.new → is_trusted self.old }
-        ensures open { is_clean self.new → is_trusted self.old → OnOk result (is_trusted self.new) }
-        ensures shut { is_clean self.new → is_trusted self.old → is_trusted self.new ⊎ HasRisen (disk_faults self.old) (disk_faults self.new) }
-        ensures legible { is_trusted self.new → is_legible self.old → is_legible self.new }
-        ensures bad { is_trusted self.new → is_legible self.old → AreOwnTexts (setup self.old) (content self.old).kept → result ≢ Err (KeepFault.Store Cause.BadRow) }
-        ensures counted { Counted (refusals self.old) (refusals self.new) result }
+        ensures reads { OnlyReads is_clean is_trusted is_legible setup content refusals disk_faults self.old self.new result }
     {
         self.testing()
     }

@@ -17,7 +17,7 @@ returns-in-Some-clause-found g c = λ trusted office front size.
     let runs = c.args.runs in
     let count : c.in_ok-in_memory.field-0 ≡ length anew.reports = IfOk-at_ok (λ n. n ≡ length anew.reports) c.in_ok-in_memory.ensures.ok (c.finished.ensures.value tt) in
     let all : length anew.reports ≡ runs = omega (arith, count, c.if-branch-runs.false) in
-    let compared : IsCompared here anew runs c.in_ok-unlike.unlike = subst (λ (a : Content). IsCompared here a runs c.in_ok-unlike.unlike) (c.finished.ensures.same tt) (c.in_ok-unlike.ensures.found trusted) in
+    let compared : IsCompared here anew runs c.in_ok-unlike.unlike = subst (λ (a : Content). IsCompared here a runs c.in_ok-unlike.unlike) (c.finished.ensures.reads.same tt) (c.in_ok-unlike.ensures.found trusted) in
     compared_differs (g.K.Keeper.is_legible c.compare.new.keeper) setup here anew runs c.in-Some.difference office all (sym size) front (subst (IsCompared here anew runs) c.in-Some.is compared)
 
 pub returns-in-None-clause-found : goal.returns-in-None-clause-found
@@ -34,9 +34,9 @@ returns-in-None-clause-found g c = λ trusted office front size.
     let legible = keeper.is_legible c.check_tables.new.keeper in
     let count : c.in_ok-in_memory.field-0 ≡ length anew.reports = IfOk-at_ok (λ n. n ≡ length anew.reports) c.in_ok-in_memory.ensures.ok (c.finished.ensures.value tt) in
     let all : length anew.reports ≡ runs = omega (arith, count, c.if-branch-runs.false) in
-    let compared : IsCompared here anew runs c.in_ok-unlike.unlike = subst (λ (a : Content). IsCompared here a runs c.in_ok-unlike.unlike) (c.finished.ensures.same tt) (c.in_ok-unlike.ensures.found earlier) in
+    let compared : IsCompared here anew runs c.in_ok-unlike.unlike = subst (λ (a : Content). IsCompared here a runs c.in_ok-unlike.unlike) (c.finished.ensures.reads.same tt) (c.in_ok-unlike.ensures.found earlier) in
     let same : now ≡ here = c.in_ok-unlike.ensures.looks.same earlier in
-    let made_is : made ≡ anew = c.in_ok-unlike.ensures.same ∙ c.finished.ensures.same tt in
+    let made_is : made ≡ anew = c.in_ok-unlike.ensures.same ∙ c.finished.ensures.reads.same tt in
     let low : len made.kept ≤ len now.kept =
     subst (λ (a : Content). len a.kept ≤ len now.kept) (sym made_is) (subst (λ (m : Content). len anew.kept ≤ len m.kept) (sym same) (front_low here.kept anew.kept (length setup.senders) front)) in
     let read : IfOk result (IsReadAs (legible × (len here.kept ≡ len anew.kept)) runs) =

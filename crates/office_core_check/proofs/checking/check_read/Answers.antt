@@ -19,7 +19,7 @@ returns-clause-found g c = λ trusted.
     let now = keeper.content c.finished.new.self in
     let legible = keeper.is_legible c.check_anew.new.keeper in
     let earlier = c.check_anew.ensures.looks.before trusted in
-    let same : now ≡ here = c.in_ok-runs.ensures.same earlier in
+    let same : now ≡ here = c.in_ok-runs.ensures.reads.same earlier in
     let office = c.in_ok-office.office in
     let setup = office.plain.setup in
     let is : setup ≡ c.args.setup.now = c.in_ok-office.ensures.setup in
@@ -34,6 +34,6 @@ pub returns-clause-whole : goal.returns-clause-whole
 returns-clause-whole g c = λ trusted legible office.
     let keeper = g.K.Keeper in
     let here = keeper.content c.args.keeper.now in
-    let still = c.check_anew.ensures.looks.legible trusted (c.in_ok-runs.ensures.legible (c.check_anew.ensures.looks.before trusted) legible) in
+    let still = c.check_anew.ensures.looks.legible trusted (c.in_ok-runs.ensures.reads.legible (c.check_anew.ensures.looks.before trusted) legible) in
     IfOk-weaker c.check_anew.result (IsFound c.args.setup.now here (keeper.is_legible c.check_anew.new.keeper) (keeper.is_legible c.check_anew.new.keeper)) _ (λ checked found. office_whole (keeper.is_legible c.check_anew.new.keeper) c.args.setup.now here checked still office found)
     (returns-clause-found g c trusted)

@@ -13,7 +13,7 @@ returns-then-is_finished-clause-after g c = λ trusted are.
     let setup = c.args.setup.now in
     let run = c.args.run in
     let earlier = c.made_up_to.ensures.looks.before trusted in
-    let same : now ≡ here = c.in_ok-finished.ensures.same earlier in
+    let same : now ≡ here = c.in_ok-finished.ensures.reads.same earlier in
     let within = c.is_finished.ensures.0 c.if-is_finished.true in
     let finished : IsFinished here run = (within.0, subst (λ n. run ≤ n) (c.in_ok-finished.ensures.value earlier) within.1) in
     after_made setup here run c.made_up_to.result finished

@@ -2,9 +2,7 @@ use Rattle.office_core_check.proofs.UnreadFacts.{asks_by, none_bad}
 use Rattle.office_core_check.proofs.unread.unread_run.Goals as goal
 
 pub returns-clause-none : goal.returns-clause-none
-returns-clause-none g c = λ trusted so. none_bad c.part_of.result c.reports.result c.part_of.ensures (c.reports.ensures.bad trusted so.0 so.1)
+returns-clause-none g c = λ trusted so. none_bad c.part_of.result c.reports.result c.part_of.ensures (c.reports.ensures.reads.keeps.bad trusted so.0 so.1)
 
 pub returns-clause-asks : goal.returns-clause-asks
-returns-clause-asks g c =
-    let made = c.reports.ensures in
-    asks_by g.K.Keeper c.args.keeper.now c.reports.new.self c.reports.result made.same made.setup made.before made.legible made.clean made.faults made.shut made.counted
+returns-clause-asks g c = asks_by g.K.Keeper c.args.keeper.now c.reports.new.self c.reports.result c.reports.ensures.reads

@@ -2,9 +2,7 @@ use Rattle.office_core_check.proofs.UnreadFacts.{asks_by, none_bad}
 use Rattle.office_core_check.proofs.unread.unread_testing.Goals as goal
 
 pub returns-clause-none : goal.returns-clause-none
-returns-clause-none g c = λ trusted so. none_bad c.part_of.result c.testing.result c.part_of.ensures (c.testing.ensures.bad trusted so.0 so.1)
+returns-clause-none g c = λ trusted so. none_bad c.part_of.result c.testing.result c.part_of.ensures (c.testing.ensures.reads.keeps.bad trusted so.0 so.1)
 
 pub returns-clause-asks : goal.returns-clause-asks
-returns-clause-asks g c =
-    let made = c.testing.ensures in
-    asks_by g.K.Keeper c.args.keeper.now c.testing.new.self c.testing.result made.same made.setup made.before made.legible made.clean made.faults made.shut made.counted
+returns-clause-asks g c = asks_by g.K.Keeper c.args.keeper.now c.testing.new.self c.testing.result c.testing.ensures.reads

@@ -1,21 +1,9 @@
-use Rattle.std.proofs.Common.{sym, subst}
 use Rattle.sqlite.specs.Held.{state}
-use Rattle.office_store_tables.specs.Legible.{IsLegible}
-use Rattle.office_store.specs.TablesState.{IsLegibleStore}
-use Rattle.office_store.proofs.KeeperFacts.{legible_same, store_same, never_bad}
 use Rattle.office_store_tables.proofs.Whole.{not_crowded}
+use Rattle.office_store.proofs.KeeperFacts.{reads_by}
 use Rattle.office_store.proofs.on_sqlite.TablesKeeper.load.Goals as goal
 
-pub returns-clause-legible : goal.returns-clause-legible
-returns-clause-legible g c trusted =
-    let inside = c.self.inside in
-    subst (λ v. IsLegibleStore v.setup (state g.S.Store v.conn).now.trees v.in_memory → IsLegibleStore inside.setup (state g.S.Store c.load.new.conn).now.trees inside.in_memory) c.self.view_is
-    (store_same inside.setup (state g.S.Store inside.conn) (state g.S.Store c.load.new.conn) inside.in_memory (c.load.ensures.reads.same trusted))
-
-pub returns-clause-bad : goal.returns-clause-bad
-returns-clause-bad g c trusted legible own =
-    let inside = c.self.inside in
-    let new = state g.S.Store c.load.new.conn in
-    let was = subst (λ v. IsLegible v.setup (state g.S.Store v.conn).now.trees) (sym c.self.view_is) legible.tables in
-    let is = legible_same inside.setup (state g.S.Store inside.conn) new (c.load.ensures.reads.same trusted) was in
-    never_bad c.count.result c.load.result c.count.ensures.same (λ bad. not_crowded (new.now.trees 1) is.mail (c.load.ensures.bad trusted bad))
+pub returns-clause-reads : goal.returns-clause-reads
+returns-clause-reads g c =
+    reads_by g.S.Store c.load.new.conn c.count.new.refusals c.self.inside.in_memory c.count.result c.load.result c.self.view_is c.count.ensures.same c.count.ensures.counted c.load.ensures.reads (λ is. is)
+    (λ trusted is own bad. not_crowded ((state g.S.Store c.load.new.conn).now.trees 1) is.mail (c.load.ensures.bad trusted bad))

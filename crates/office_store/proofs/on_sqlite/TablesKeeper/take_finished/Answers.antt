@@ -4,11 +4,10 @@ use Rattle.office_store_keeper.specs.Content.{reports_in, with_run}
 use Rattle.office_store_keeper.specs.Provenance.{IsGiven}
 use Rattle.office_store_keeper.specs.FactSet.{AreHoldable, facts_after}
 use Rattle.office_store_tables.specs.TableContent.{content_in}
-use Rattle.office_store_tables.specs.Legible.{IsLegible}
 use Rattle.office_store.specs.TablesState.{IsLegibleStore}
 use Rattle.office_store_tables.specs.Tables.{IsTrusted}
 use Rattle.office_store.proofs.ContentFacts.{reports_on, facts_on, content_on}
-use Rattle.office_store.proofs.KeeperFacts.{never_bad}
+use Rattle.office_store.proofs.KeeperFacts.{keeps_by}
 use Rattle.office_store.proofs.LegibleFinish.{finish_store_on}
 use Rattle.office_store.proofs.on_sqlite.TablesKeeper.take_finished.Goals as goal
 
@@ -50,7 +49,7 @@ returns-clause-legible g c trusted =
     (λ was given holdable. finish_store_on c.finish.result inside.setup old new c.args.run c.args.done memory (c.finish.ensures.done trusted) (c.finish.ensures.err trusted) c.finish.ensures.texts c.finish.ensures.ordered c.finish.ensures.left c.finish.ensures.none
     (omega (arith, c.ranges.run.fits)) (next_run g c trusted) given holdable was.tables)
 
-pub returns-clause-bad : goal.returns-clause-bad
-returns-clause-bad g c trusted legible own =
-    let was = subst (λ v. IsLegible v.setup (state g.S.Store v.conn).now.trees) (sym c.self.view_is) legible.tables in
-    never_bad c.count.result c.finish.result c.count.ensures.same (c.finish.ensures.bad trusted was.office)
+pub returns-clause-keeps : goal.returns-clause-keeps
+returns-clause-keeps g c =
+    let done = c.finish.ensures in
+    keeps_by g.S.Store c.finish.new.conn c.count.new.refusals c.finish.new.in_memory c.count.result c.finish.result c.self.view_is c.count.ensures.same c.count.ensures.counted done.before done.lasts done.open (λ trusted is own. done.bad trusted is.office)
