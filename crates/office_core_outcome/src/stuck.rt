@@ -12,7 +12,7 @@ use testing_rules_excuses::excuses;
 use testing_rules_groups::DeadSource;
 use testing_rules_laws::{Archs, Decision, Excuse, Facts, Testing};
 use testing_rules_moves::hinted;
-use testing_rules_refusals::{Suspect, stuck_text};
+use testing_rules_refusals::{BehindHints, Suspect, stuck_text};
 
 /// The basis of blocks of lines: the facts and excuses of a run, and testing after the hints in force. Also what a
 /// search considers dead, and what the run decides with the proposed hints.
@@ -47,15 +47,13 @@ fn shown_stuck(alloc: Global, ground: &Ground<'_>, source: &str) -> Result<Optio
     if is_any_moved(source, ground.decisions) {
         return Ok(None);
     }
-    stuck_text(
-        alloc,
-        ground.archs,
-        ground.facts,
-        ground.excuses,
-        ground.behind,
-        ground.suspects,
-        source,
-    )
+    let behind = BehindHints {
+        archs: ground.archs,
+        facts: ground.facts,
+        excuses: ground.excuses,
+        testing: ground.behind,
+    };
+    stuck_text(alloc, &behind, ground.suspects, source)
 }
 
 /// The line of a source that isn't a candidate; else the proof that no group frees it.

@@ -18,7 +18,7 @@ ghost use Rattle.testing_rules_suites.specs.steps.AfterMoves as after;
 
 use crate::refusal::{Refusal, refused};
 use crate::shown::shown_of;
-use crate::telling::{Basis, Telling, refusal_text};
+use crate::telling::{Telling, refusal_text};
 use crate::told::refusal_lines;
 use deb_control::Text;
 use deb_version::NoMemory;
@@ -28,7 +28,7 @@ use testing_rules_facts::{Facts, Unstable, built_rows};
 use testing_rules_items::Archs;
 use testing_rules_live::{moved_rows, rows_without};
 use testing_rules_model::{Excuse, LentRow, Offender};
-use testing_rules_moves::{broken_by_group, broken_by_removal};
+use testing_rules_moves::{Basis, broken_by_group, broken_by_removal};
 use testing_rules_suites::{Testing, lend_rows};
 
 /// The text of a refusal, given testing's rows before the change.

@@ -22,6 +22,6 @@ pub use lines::{push_clause, push_leaving, push_need, push_package};
 pub use needs::{Need, meeting, need_at};
 pub use refusal::{Refusal, refused};
 pub use standing::{is_in_testing, version_in};
-pub use stuck::{Suspect, stuck_text};
+pub use stuck::{BehindHints, Suspect, stuck_text};
 pub use telling::{Telling, push_reasons, refusal_text};
 pub use told::{Told, refusal_lines};

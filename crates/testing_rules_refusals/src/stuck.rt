@@ -22,7 +22,7 @@ use crate::needs::need_at;
 use crate::refusal::{Refusal, judged_rows};
 use crate::shown::steps_for;
 use crate::standing::{coming_rows, has_key_of, in_key_order, living, rows_that_may_stand};
-use crate::telling::{Basis, Telling, is_current_in};
+use crate::telling::{Telling, is_current_in};
 use deb_control::{Clause, Text};
 use deb_version::NoMemory;
 use std::alloc::{AllocError, Global};
@@ -32,6 +32,7 @@ use testing_rules_facts::{Facts, Unstable, built_rows};
 use testing_rules_items::Archs;
 use testing_rules_live::{fails_on, is_of, is_row_of};
 use testing_rules_model::{Excuse, LentRow, Offender};
+use testing_rules_moves::Basis;
 use testing_rules_suites::{RowAnswer, Testing, is_watched_on, lend_rows};
 
 /// A candidate that a search considers dead: the package whose row its move would break on an architecture, and the
@@ -42,6 +43,15 @@ pub struct Suspect {
     pub arch: u32,
     pub package: Text,
     pub round: u32,
+}
+
+/// A run behind its hints: its architectures, facts and excuses, and testing after its removals and its groups.
+#[derive(Clone, Copy)]
+pub struct BehindHints<'g> {
+    pub archs: &'g Archs,
+    pub facts: &'g Facts,
+    pub excuses: &'g [Excuse],
+    pub testing: &'g Testing,
 }
 
 /// The input of blocks: the architectures, unstable, the excuses of the run, and a testing with its rows.
@@ -565,28 +575,25 @@ fn text_over_rows(
     text_over(alloc, &ground, suspects, source)
 }
 
-/// A proof that no group frees the source, in blocks of lines, by the facts and the excuses of a run, over a testing
-/// after its removals and its groups. The suspects are what a search considers dead, by round. Their blocks are tested,
-/// so nothing depends on the search: there is no text if it was wrong, or if the source isn't a suspect. A block costs
-/// a few looks at each row of testing and of unstable and at each excuse, and what its clauses touch; if the offender's
-/// row is one of testing that stays, also one judgement of its architecture. The only error is running out of memory.
+/// A proof that no group frees the source, in blocks of lines, over a run behind its hints. The suspects are what a
+/// search considers dead, by round. Their blocks are tested, so nothing depends on the search: there is no text if it
+/// was wrong, or if the source isn't a suspect. A block costs a few looks at each row of testing and of unstable and at
+/// each excuse, and what its clauses touch; if the offender's row is one of testing that stays, also one judgement of
+/// its architecture. The only error is running out of memory.
 pub fn stuck_text(
     alloc: Global,
-    archs: &Archs,
-    facts: &Facts,
-    excuses: &[Excuse],
-    testing: &Testing,
+    behind: &BehindHints<'_>,
     suspects: &[Suspect],
     source: &str,
 ) -> Result<Option<Text>, NoMemory>
-    ensures { IfOk result (λ found. IfSome found (words.IsStuckText archs.now facts.now.sources (built_rows archs.now facts.now.rows) excuses.now testing.now source.now)) }
+    ensures { IfOk result (λ found. IfSome found (words.IsStuckText behind.now.archs.now behind.now.facts.now.sources (built_rows behind.now.archs.now behind.now.facts.now.rows) behind.now.excuses.now behind.now.testing.now source.now)) }
 {
-    let rows = built_rows(alloc, archs, facts.rows())?;
+    let rows = built_rows(alloc, behind.archs, behind.facts.rows())?;
     let basis = Basis {
-        archs,
-        facts,
+        archs: behind.archs,
+        facts: behind.facts,
         rows: &rows,
-        excuses,
+        excuses: behind.excuses,
     };
-    text_over_rows(alloc, &basis, testing, suspects, source)
+    text_over_rows(alloc, &basis, behind.testing, suspects, source)
 }

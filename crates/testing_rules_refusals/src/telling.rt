@@ -18,7 +18,7 @@ use deb_control::Text;
 use deb_version::NoMemory;
 use std::alloc::{AllocError, Global};
 use testing_rules_excuses::{State, state_of};
-use testing_rules_facts::{Facts, Unstable, is_current, source_in};
+use testing_rules_facts::{Unstable, is_current, source_in};
 use testing_rules_items::Archs;
 use testing_rules_live::is_row_of;
 use testing_rules_model::{Excuse, LentRow, Reason, UploadIn};
@@ -35,16 +35,6 @@ pub struct Telling<'g, 'a> {
     pub testing: &'g Testing,
     pub coming: &'g [Text],
     pub stuck: &'g [Text],
-}
-
-/// The input of a text: the architectures, the facts and the excuses of a run, and the rows built from the facts.
-/// Unstable has the facts' sources and these rows.
-#[derive(Clone, Copy)]
-pub(crate) struct Basis<'g, 'a> {
-    pub archs: &'g Archs,
-    pub facts: &'a Facts,
-    pub rows: &'g [LentRow<'a>],
-    pub excuses: &'g [Excuse],
 }
 
 fn push_other_reasons(

@@ -8,7 +8,7 @@ use Rattle.testing_rules_refusals.proofs.stuck.stuck_text.Goals as goal
 
 pub returns : goal.returns
 returns c =
-    let a = c.args in
-    let built = ap lent c.deref.ensures.value ∙ c.in_ok-rows.ensures.rows ∙ ap (built_rows a.archs.now) c.rows.ensures.rows in
-    subst (λ (rows : List RowIn). IfOk c.text_over_rows.result (λ found. IfSome found (IsStuckText a.archs.now a.facts.now.sources rows a.excuses.now a.testing.now a.source.now)))
+    let b = c.args.behind.now in
+    let built = ap lent c.deref.ensures.value ∙ c.in_ok-rows.ensures.rows ∙ ap (built_rows b.archs.now) c.rows.ensures.rows in
+    subst (λ (rows : List RowIn). IfOk c.text_over_rows.result (λ found. IfSome found (IsStuckText b.archs.now b.facts.now.sources rows b.excuses.now b.testing.now c.args.source.now)))
     built c.text_over_rows.ensures
