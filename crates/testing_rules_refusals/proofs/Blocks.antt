@@ -22,9 +22,9 @@ use Rattle.testing_rules_model.proofs.MoreMail.{filter-same}
 use Rattle.testing_rules_excuses.specs.States.{is_current_in}
 use Rattle.testing_rules_reports.specs.steps.LentLines.{has_line}
 use Rattle.testing_rules_suites.proofs.Lost.{contains_at}
-use Rattle.testing_install_why.specs.Certificate.{IsShownBy}
+use Rattle.testing_install_why.specs.Certificate.{IsShownBy, everywhere}
 use Rattle.testing_install_why.specs.declared.Step.{Step}
-use Rattle.testing_rules_refusals.specs.Needs.{packages, all_there}
+use Rattle.testing_rules_refusals.specs.Needs.{packages}
 use Rattle.testing_rules_refusals.specs.steps.Standing.{lives_beside, comes_by, IsOwnAt, IsStayingAt, IsDueAt, IsBlockOf, IsToldBlock, AreToldBlocks, begins_with}
 use Rattle.testing_rules_refusals.specs.Stuck.{is_living, living, coming_rows, gives_way, may_stand, Block, IsStuckBy, AreStuck, names_of, stuck_line, block_text, stuck_text, IsStuckText}
 use Rattle.testing_rules_refusals.specs.Texts.{comes_with, refusal_text}
@@ -100,7 +100,7 @@ module _ (sources : List UploadIn) (unstable : List RowIn) (live : List Text) (t
 pub block_found : (archs : List Text) (sources : List UploadIn) (unstable : List RowIn) (live : List Text) (t : Suite) (name : Text) (arch : ℕ) (named copy : Text) (rows first second : List RowIn) (place : ℕ) (steps : List Step)
     → AreByKey t.rows → list_any (bytes_eq name) live ≡ true → arch < length archs → copy ≡ named → rows ≡ rows_on arch (may_stand sources unstable live name t)
     → first ≡ rows → IsDueAt sources unstable live t name (record { arch = arch; «package» = named }) first place
-    → second ≡ rows → IsShownBy (packages second) all_there place steps
+    → second ≡ rows → IsShownBy (packages second) everywhere place steps
     → IsBlockOf archs sources unstable live t name (record { arch = arch; «package» = copy }) rows steps
 block_found archs sources unstable live t name arch named copy rows first second place steps ordered lives listed c e f due s shown = record {
   ordered = ordered;
@@ -111,7 +111,7 @@ block_found archs sources unstable live t name arch named copy rows first second
   at =
       subst (λ (p : Text). IsDueAt sources unstable live t name (record { arch = arch; «package» = p }) rows place) (sym c)
       (subst (λ (rs : List RowIn). IsDueAt sources unstable live t name (record { arch = arch; «package» = named }) rs place) f due);
-  shown = subst (λ (rs : List RowIn). IsShownBy (packages rs) all_there place steps) s shown;
+  shown = subst (λ (rs : List RowIn). IsShownBy (packages rs) everywhere place steps) s shown;
 }
 
 -- the first of some blocks
@@ -134,7 +134,7 @@ module _ (archs : List Text) (sources : List UploadIn) (unstable : List RowIn) (
     named = w.at.is.named;
     watched = w.at.is.watched;
     due = w.at.due;
-    shown = subst (λ (rs : List RowIn). IsShownBy (packages rs) all_there w.place steps) w.rows_are w.shown;
+    shown = subst (λ (rs : List RowIn). IsShownBy (packages rs) everywhere w.place steps) w.rows_are w.shown;
   }
 
   -- and its text

@@ -13,8 +13,7 @@ use Rattle.testing_install.specs.Installable.{are_installable}
 use Rattle.testing_install.proofs.Choosing.{answers_computed}
 use Rattle.testing_install.proofs.Marking.{with_here}
 use Rattle.testing_install_why.specs.declared.Step.{Step}
-use Rattle.testing_install_why.specs.Certificate.{IsShownBy}
-use Rattle.testing_rules_refusals.specs.Needs.{all_there}
+use Rattle.testing_install_why.specs.Certificate.{IsShownBy, everywhere}
 
 -- a number below the count is one of the first places
 first_has : (n k : ℕ) → k < n → Contains (range_with_len 0 n) k
@@ -41,7 +40,7 @@ all_there_now count k n rows old there ks o long same e t h =
 
 -- a groundless list over all rows, as one where each is there
 pub shown_everywhere : (rows : List Binary) (there : ℕ → Bool) (place : ℕ) (steps : List Step) → ((k : ℕ) → k < length rows → there k ≡ true)
-    → IsShownBy rows there place steps → IsShownBy rows all_there place steps
+    → IsShownBy rows there place steps → IsShownBy rows everywhere place steps
 shown_everywhere rows there place steps all s = record {
   front = s.front;
   last = s.last;

@@ -19,9 +19,9 @@ use Rattle.testing_rules_model.specs.JudgedRows.{lent, row_of}
 use Rattle.testing_rules_model.specs.Moves.{RowAnswer, with_answers, rows_on, judged_on, fails_on, is_watched_on, is_row_of, was_installable, first_failing, offender_on}
 use Rattle.testing_rules_suites.proofs.Failing.{offender_on-some, offender_on-none}
 use Rattle.testing_rules_refusals.proofs.Failings.{first_of_both, second_of_both}
-use Rattle.testing_install_why.specs.Certificate.{IsShownBy}
+use Rattle.testing_install_why.specs.Certificate.{IsShownBy, everywhere}
 use Rattle.testing_install_why.specs.declared.Step.{Step}
-use Rattle.testing_rules_refusals.specs.Needs.{packages, all_there}
+use Rattle.testing_rules_refusals.specs.Needs.{packages}
 use Rattle.testing_rules_refusals.specs.steps.Refusals.{AreAllThere, IsFirstFailing, IsRefusalOn}
 use Rattle.testing_rules_refusals.proofs.Everywhere.{shown_everywhere, installable_anyway}
 
@@ -96,7 +96,7 @@ module _ (arch : ℕ) (group : List Text) (before : List RowAnswer) (rows : List
           stands = stands;
           named = sym p;
           fails = ap (λ x. fails_on arch group x (record { row = answer.row; is_installable = false })) (sym b) ∙ fails_so;
-          shown = subst (λ rs. IsShownBy rs all_there place steps) a.same (shown_everywhere suite.rows (marked suite.there) place steps a.there s);
+          shown = subst (λ rs. IsShownBy rs everywhere place steps) a.same (shown_everywhere suite.rows (marked suite.there) place steps a.there s);
         };
       }
 

@@ -1,6 +1,6 @@
 -- The content of a list that shows why a row isn't installable: its lines, and who meets a clause (Debian Policy 7.1,
 -- 7.2 and 7.5).
-use Rattle.std.specs.Prelude.{ℕ, ◌-◌, Bool, true, false, List, map, filter, length, Option, None, option_map}
+use Rattle.std.specs.Prelude.{ℕ, ◌-◌, Bool, false, List, map, filter, length, Option, None, option_map}
 use Rattle.std.specs.List.{slice_get, range_with_len}
 use Rattle.std.specs.Option.{option_map_or}
 use Rattle.deb_control.specs.declared.binary.Binary.{Binary}
@@ -14,10 +14,6 @@ use Rattle.testing_install_why.specs.declared.Step.{Step}
 -- the packages of the rows
 abbrev pub packages : List RowIn → List Binary
 packages rows = map (λ r. r.binary) rows
-
--- each of the rows is present
-abbrev pub all_there : ℕ → Bool
-all_there place = true
 
 -- a row and a clause of it
 pub record RowNeed : Type 0 where

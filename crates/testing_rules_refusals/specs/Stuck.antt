@@ -17,10 +17,10 @@ use Rattle.testing_rules_model.specs.Suite.{Suite}
 use Rattle.testing_rules_model.specs.Updates.{is_remaining, in_turn, move_easy, move_singles}
 use Rattle.testing_rules_excuses.specs.States.{excuse_of}
 use Rattle.testing_rules_reports.specs.Reports.{offender_text}
-use Rattle.testing_rules_refusals.specs.Needs.{packages, all_there}
+use Rattle.testing_rules_refusals.specs.Needs.{packages}
 use Rattle.testing_rules_refusals.specs.Texts.{comes_with, refusal_text}
 use Rattle.testing_rules_refusals.specs.Told.{lines_of}
-use Rattle.testing_install_why.specs.Certificate.{IsShownBy}
+use Rattle.testing_install_why.specs.Certificate.{IsShownBy, everywhere}
 use Rattle.testing_install_why.specs.declared.Step.{Step}
 
 -- the excuse's source is a candidate that hasn't moved and isn't dead
@@ -71,7 +71,7 @@ pub record IsStuckBy (archs : List Text) (sources : List UploadIn) (unstable : L
   pub named : row.binary.name ≡ b.offender.«package»
   pub watched : is_watched_on b.offender.arch row ≡ true
   pub due : Contains (coming_rows sources unstable (b.name ∷ [])) row ⊎ Stays sources unstable (living excuses t dead) t b.offender.arch row
-  pub shown : IsShownBy (packages (rows_on b.offender.arch (may_stand sources unstable (living excuses t dead) b.name t))) all_there place b.steps
+  pub shown : IsShownBy (packages (rows_on b.offender.arch (may_stand sources unstable (living excuses t dead) b.name t))) everywhere place b.steps
 
 -- the sources of the blocks
 abbrev pub names_of : List Block → List Text

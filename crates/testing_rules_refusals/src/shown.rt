@@ -4,9 +4,9 @@ ghost use Rattle.std.specs.Prelude.{◌≡◌, true, false, length, IfOk, IfSome
 ghost use Rattle.std.specs.Str.{bytes_eq};
 ghost use Rattle.testing_install.specs.Rows.{binaries};
 ghost use Rattle.testing_rules_model.specs.JudgedRows.{lent, row_of};
-ghost use Rattle.testing_rules_refusals.specs.Needs.{packages, all_there};
+ghost use Rattle.testing_rules_refusals.specs.Needs.{packages};
 ghost use Rattle.testing_rules_refusals.specs.steps.Shown.{AreOnlyAt, IsOf, IsOnlyOf, IsShownOf};
-ghost use Rattle.testing_install_why.specs.Certificate.{IsShownBy};
+ghost use Rattle.testing_install_why.specs.Certificate.{IsShownBy, everywhere};
 
 use crate::judged::suite_of;
 use crate::reach::{reached_from, rows_at, steps_among};
@@ -110,7 +110,7 @@ pub(crate) fn steps_for(
     rows: &[LentRow],
     place: usize,
 ) -> Result<Option<Vec<Step>>, NoMemory>
-    ensures { IfOk result (λ found. IfSome found (λ steps. IsShownBy (packages (lent rows.now)) all_there place steps.items)) }
+    ensures { IfOk result (λ found. IfSome found (λ steps. IsShownBy (packages (lent rows.now)) everywhere place steps.items)) }
 {
     let list = packages_of(alloc, rows)?;
     let steps = steps_to(alloc, rows, &list, place)?;

@@ -5,8 +5,8 @@ use Rattle.testing_rules_items.specs.Words.{Text}
 use Rattle.testing_rules_model.specs.declared.suite.RowIn.{RowIn}
 use Rattle.testing_rules_model.specs.declared.update.Offender.{Offender}
 use Rattle.testing_rules_model.specs.Moves.{rows_on}
-use Rattle.testing_rules_refusals.specs.Needs.{packages, all_there}
-use Rattle.testing_install_why.specs.Certificate.{IsShownBy}
+use Rattle.testing_rules_refusals.specs.Needs.{packages}
+use Rattle.testing_install_why.specs.Certificate.{IsShownBy, everywhere}
 use Rattle.testing_install_why.specs.declared.Step.{Step}
 
 -- the row at the place has the name
@@ -30,4 +30,4 @@ pub record IsShownOf (new : List RowIn) (offender o : Offender) (rows : List Row
   pub same : o ≡ offender
   pub rows_are : rows ≡ rows_on o.arch new
   pub only : IsOnlyOf rows o.«package» place
-  pub shown : IsShownBy (packages rows) all_there place steps
+  pub shown : IsShownBy (packages rows) everywhere place steps

@@ -14,9 +14,9 @@ use Rattle.testing_rules_model.specs.Suite.{Suite}
 use Rattle.testing_rules_model.specs.Updates.{is_remaining}
 use Rattle.testing_rules_excuses.specs.States.{is_current_in}
 use Rattle.testing_rules_reports.specs.steps.LentLines.{has_line}
-use Rattle.testing_rules_refusals.specs.Needs.{packages, all_there}
+use Rattle.testing_rules_refusals.specs.Needs.{packages}
 use Rattle.testing_rules_refusals.specs.Stuck.{may_stand, coming_rows, Stays, Block, IsStuckBy, AreStuck, names_of, block_text, stuck_text}
-use Rattle.testing_install_why.specs.Certificate.{IsShownBy}
+use Rattle.testing_install_why.specs.Certificate.{IsShownBy, everywhere}
 use Rattle.testing_install_why.specs.declared.Step.{Step}
 
 -- the excuse's source is a candidate that hasn't moved, and its name isn't in the set
@@ -61,7 +61,7 @@ pub record IsBlockOf (archs : List Text) (sources : List UploadIn) (unstable : L
   pub place : ℕ
   pub rows_are : rows ≡ rows_on o.arch (may_stand sources unstable live name t)
   pub at : IsDueAt sources unstable live t name o rows place
-  pub shown : IsShownBy (packages rows) all_there place steps
+  pub shown : IsShownBy (packages rows) everywhere place steps
 
 -- this is the text of a block of the source while these are dead
 pub record IsToldBlock (archs : List Text) (sources : List UploadIn) (unstable : List RowIn) (excuses : List Excuse) (t : Suite) (dead : List Text) (name text : Text) : Type 0 where

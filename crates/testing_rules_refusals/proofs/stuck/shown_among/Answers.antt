@@ -2,8 +2,8 @@ use Rattle.std.proofs.Common.{◌∙◌, ap, subst}
 use Rattle.std.specs.Prelude.{IfSome}
 use Rattle.testing_rules_model.specs.Boxed.{unboxed}
 use Rattle.testing_rules_model.specs.JudgedRows.{lent}
-use Rattle.testing_install_why.specs.Certificate.{IsShownBy}
-use Rattle.testing_rules_refusals.specs.Needs.{packages, all_there}
+use Rattle.testing_install_why.specs.Certificate.{IsShownBy, everywhere}
+use Rattle.testing_rules_refusals.specs.Needs.{packages}
 use Rattle.testing_rules_refusals.specs.steps.Standing.{IsDueAt}
 use Rattle.testing_rules_refusals.proofs.Blocks.{block_found}
 use Rattle.testing_rules_refusals.proofs.Leaving.{stand_on}
@@ -35,6 +35,6 @@ returns c =
     stand_on sources unstable a.live.now s.name c.requires.lives s.arch g.testing.now rows (lent g.rows.now)
     (lent c.deref.result.now) c.in_ok-rows.ensures c.requires.old (ap lent c.deref.ensures.value ∙ c.in_ok-coming.ensures) in
     let due = subst (λ o. IfSome o (λ p. IsDueAt sources unstable a.live.now g.testing.now s.name (record { arch = s.arch; «package» = s.«package» }) (lent c.deref-3.result.now) p)) c.in-Some.is c.in_ok-place.ensures in
-    let shown = subst (λ o. IfSome o (λ f. IsShownBy (packages (lent c.deref-4.result.now)) all_there place f.items)) c.in-Some-2.is c.in_ok-steps.ensures in
+    let shown = subst (λ o. IfSome o (λ f. IsShownBy (packages (lent c.deref-4.result.now)) everywhere place f.items)) c.in-Some-2.is c.in_ok-steps.ensures in
     block_found g.archs.now sources unstable a.live.now g.testing.now s.name s.arch s.«package» c.in_ok-package.package rows (lent c.deref-3.result.now) (lent c.deref-4.result.now) place steps
     c.in_key_order.ensures c.requires.lives c.requires.listed c.in_ok-package.ensures are (ap lent c.deref-3.ensures.value) due (ap lent c.deref-4.ensures.value) shown
