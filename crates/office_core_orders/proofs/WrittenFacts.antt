@@ -1,13 +1,14 @@
 -- One write after another.
-use Rattle.std.proofs.Common.{◌≡◌, ℕ, ◌+◌, ◌-◌, Bool, true, false, cond, ◌==◌, Option, Some, None, List, [], ◌∷◌, ◌++◌, length, take, drop, sym, ap, subst, ◌∙◌, refl, arith, ◌<◌, get_or}
+use Rattle.std.proofs.Common.{◌≡◌, ℕ, ◌+◌, ◌-◌, Bool, true, false, cond, ◌==◌, Err, Option, Some, None, List, [], ◌∷◌, ◌++◌, length, take, drop, sym, ap, subst, ◌∙◌, refl, arith, ◌<◌, get_or}
 use Rattle.std.specs.Io.KnownBytes.{Appends, Keeps}
 use Rattle.std.proofs.KnownBytes.{Appends-trans}
 use Rattle.std.proofs.lemmas.Bool.{eqb-true}
-use Rattle.office_mail.specs.Counts.{one_more}
+use Rattle.office_mail.specs.Counts.{HasRisen, one_more}
+use Rattle.office_mail.specs.declared.feed.Sink.{Ghosts}
 use Rattle.std.proofs.lemmas.List.{append_assoc, append-nil, take-append-drop, take_all, length-drop, take_more}
 use Rattle.std.proofs.lemmas.List.Concat.{flat_map-append}
 use Rattle.std.specs.Borrow.{Bor}
-use Rattle.office_core_orders.specs.Written.{AppendsFront}
+use Rattle.office_core_orders.specs.Written.{AppendsFront, Writes}
 use Rattle.office_core_orders.specs.steps.Written.{joined}
 
 pub appends_keeps : (a b c : Option (List ℕ)) (xs : List ℕ) → Appends a b xs → Keeps b c → Appends a c xs
@@ -34,6 +35,10 @@ front_before a b xs ys f = record {
   begins = (f.begins.0 ++ ys, sym (append_assoc f.front f.begins.0 ys) ∙ ap (λ (l : List ℕ). l ++ ys) f.begins.1);
   took = f.took;
 }
+
+-- what a writer that fails leaves
+pub writes_front : {W T E : Type 0} (sink : Ghosts W) (old new : W) (bytes : List ℕ) (e : E) → AppendsFront (sink.written old) (sink.written new) bytes → HasRisen (sink.failures old) (sink.failures new) → Writes {T = T} sink old new bytes (Err e)
+writes_front sink old new bytes e front rose = record { ok = tt; err = front; cause = rose; clean = tt }
 
 unraised_by : (b : Bool) (old new : ℕ) → (b ≡ true → ⊥) → new ≡ cond b (one_more old) old → new ≡ old
 unraised_by true old new h e = absurd (h refl)

@@ -1,5 +1,5 @@
--- How the refusals of a store are counted.
-use Rattle.std.specs.Prelude.{◌≡◌, ℕ, Result, Err}
+-- How the refusals of a store are counted, and the failures of a reader or a writer.
+use Rattle.std.specs.Prelude.{◌≡◌, ℕ, Result, Err, OnErr, OnOk}
 use Rattle.office_mail.specs.Counts.{HasRisen}
 use Rattle.office_store_keeper.specs.declared.faults.KeepFault.{KeepFault}
 use Rattle.office_store_keeper.specs.declared.faults.KeepFault.TheVariants as keep
@@ -29,3 +29,8 @@ Counted before after _ = after ≡ before
 abbrev pub CountedDelivery : ℕ → ℕ → Result Held DeliverFault → Type 0
 CountedDelivery before after (Err deliver.Store) = HasRisen before after
 CountedDelivery before after _ = after ≡ before
+
+-- a failure was counted if a call failed, and none if it didn't
+pub record CountsFailure {T E : Type 0} (before after : ℕ) (result : Result T E) : Type 0 where
+  pub cause : OnErr result (HasRisen before after)
+  pub clean : OnOk result (after ≡ before)

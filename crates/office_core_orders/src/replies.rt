@@ -1,9 +1,7 @@
 //! The lines that answer deliveries, and how they are written.
-ghost use Rattle.std.specs.Prelude.{◌≡◌, ◌++◌, ◌∷◌, ◌<◌, ◌≤◌, ◌⊎◌, ℕ, List, [], OnOk, OnErr, IfOk, length, decimal, codes};
-ghost use Rattle.std.specs.Io.KnownBytes.{Appends};
-ghost use Rattle.office_mail.specs.Counts.{HasRisen};
+ghost use Rattle.std.specs.Prelude.{◌≡◌, ◌++◌, ◌∷◌, ◌<◌, ◌≤◌, ◌⊎◌, ℕ, List, [], IfOk, length, decimal, codes};
 ghost use Rattle.office_core_orders.specs.Replies.{reply_line, fault_words, mail_words, name_at, is_lost};
-ghost use Rattle.office_core_orders.specs.Written.{AppendsFront};
+ghost use Rattle.office_core_orders.specs.Written.{Writes};
 ghost use Rattle.office_core_orders.specs.steps.Written.{joined};
 
 use crate::faults::{DeliverFault, Held};
@@ -43,10 +41,7 @@ pub struct WriteFault;
 
 /// Writes all of the bytes, or a prefix of them.
 pub fn write_all<W: Sink>(writer: &mut W, bytes: &[u8]) -> Result<(), WriteFault>
-    ensures ok { OnOk result (Appends (W.written writer.old) (W.written writer.new) bytes.now) }
-    ensures err { OnErr result (AppendsFront (W.written writer.old) (W.written writer.new) bytes.now) }
-    ensures cause { OnErr result (HasRisen (W.failures writer.old) (W.failures writer.new)) }
-    ensures clean { OnOk result (W.failures writer.new ≡ W.failures writer.old) }
+    ensures { Writes W.Sink writer.old writer.new bytes.now result }
 {
     let mut at = 0;
     while at < bytes.len() {
@@ -61,10 +56,7 @@ pub fn write_all<W: Sink>(writer: &mut W, bytes: &[u8]) -> Result<(), WriteFault
 
 /// Writes parts, one after another, or a prefix of them.
 pub fn write_parts<W: Sink>(writer: &mut W, parts: &[&[u8]]) -> Result<(), WriteFault>
-    ensures ok { OnOk result (Appends (W.written writer.old) (W.written writer.new) (joined parts.now)) }
-    ensures err { OnErr result (AppendsFront (W.written writer.old) (W.written writer.new) (joined parts.now)) }
-    ensures cause { OnErr result (HasRisen (W.failures writer.old) (W.failures writer.new)) }
-    ensures clean { OnOk result (W.failures writer.new ≡ W.failures writer.old) }
+    ensures { Writes W.Sink writer.old writer.new (joined parts.now) result }
 {
     for part in parts {
         write_all(writer, part)?;
@@ -152,10 +144,7 @@ pub fn write_reply<W: Sink>(
     writer: &mut W,
 ) -> Result<(), WriteFault>
     requires { IfOk reply.now (λ held. held.sender < length setup.now.senders) }
-    ensures ok { OnOk result (Appends (W.written writer.old) (W.written writer.new) (reply_line setup.now reply.now)) }
-    ensures err { OnErr result (AppendsFront (W.written writer.old) (W.written writer.new) (reply_line setup.now reply.now)) }
-    ensures cause { OnErr result (HasRisen (W.failures writer.old) (W.failures writer.new)) }
-    ensures clean { OnOk result (W.failures writer.new ≡ W.failures writer.old) }
+    ensures { Writes W.Sink writer.old writer.new (reply_line setup.now reply.now) result }
 {
     match reply {
         Ok(held) => {
