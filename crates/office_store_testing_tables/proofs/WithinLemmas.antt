@@ -7,16 +7,19 @@ use Rattle.sqlite.specs.Order.{Row}
 use Rattle.sqlite.specs.declared.error.Error.{Error}
 use Rattle.sqlite.specs.Held.{Held, state}
 use Rattle.sqlite.specs.Listing.{understood}
-use Rattle.sqlite.specs.State.{State, Executes}
+use Rattle.sqlite.specs.State.{State, Executes, Shown}
+use Rattle.sqlite.specs.Tree.{Trees}
 use Rattle.sqlite.proofs.Callers.{IsPlain}
+use Rattle.office_store_keeper.specs.declared.faults.KeepFault.{KeepFault}
 use Rattle.office_store_testing_tables.specs.Layout.{office_schema}
 use Rattle.office_store_testing_tables.specs.Tables.{IsTrusted}
 use Rattle.office_store_testing_tables.specs.steps.Tables.{Lasts}
 use Rattle.office_store_testing_tables.specs.steps.TableSteps.{IsInside}
-use Rattle.office_store_testing_tables.specs.steps.StepsWithin.{StepsWithin, BeginsInside}
+use Rattle.office_store_testing_tables.specs.steps.Faults.{NeverBad}
+use Rattle.office_store_testing_tables.specs.steps.StepsWithin.{StepsWithin, BeginsInside, Does, DoesWell, Looks}
 use Rattle.office_store_testing_tables.proofs.StateLemmas.{lasts_same, lasts_then, clean_before}
-use Rattle.office_store_testing_tables.proofs.StepLemmas.{Stepped, step_before, step_open, step_counts_on, step_err}
-use Rattle.office_store_testing_tables.proofs.InsideLemmas.{AskedInside, inside_before, inside_open, inside_on, inside_err}
+use Rattle.office_store_testing_tables.proofs.StepLemmas.{Stepped, step_before, step_open, step_counts_on, step_counts, step_err}
+use Rattle.office_store_testing_tables.proofs.InsideLemmas.{AskedInside, inside_before, inside_open, inside_on, inside_err, inside_same, inside_rows}
 
 -- the steps so far went well
 abbrev pub WentWithin : {S : Type 0} → Ghosts S → MutBor (Held S) → MutBor (Held S) → Type 0
@@ -67,6 +70,23 @@ module _ {S : Type 0} {store : Ghosts S} where
     err = λ trusted. second.err trusted ∙ (first.on (second.before trusted)).committed;
   }
 
+  -- nothing was done, whatever comes of it
+  pub idle_within : {U F : Type 0} {old : MutBor (Held S)} (result : Result U F) → BeginsInside store old → StepsWithin store old old result
+  idle_within {old = old} result inside = kept_within result (none_within {T = Bool} {E = Error} old true inside)
+
+  -- what a failed call leaves is all that it does
+  pub failed_does : {U F : Type 0} {old new : MutBor (Held S)} {made : Trees → Trees → U → Type 0} (result : Result U F) → IsErr result → StepsWithin store old new result → Does store old new result made
+  failed_does (Ok y) is steps = absurd (true≢false (sym is))
+  failed_does (Err f) is steps = record { steps = steps; yields = λ _. tt }
+
+  pub failed_well : {U : Type 0} {old new : MutBor (Held S)} {made : Trees → Trees → U → Type 0} (result : Result U KeepFault) → IsErr result → NeverBad result → StepsWithin store old new result → DoesWell store old new result made
+  failed_well (Ok y) is bad steps = absurd (true≢false (sym is))
+  failed_well (Err f) is bad steps = record { steps = steps; yields = λ _. tt; bad = bad }
+
+  pub failed_looks : {U F : Type 0} {old new : MutBor (Held S)} {shown : Trees → U → Type 0} (result : Result U F) → IsErr result → StepsWithin store old new result → Looks store old new result shown
+  failed_looks (Ok y) is steps = absurd (true≢false (sym is))
+  failed_looks (Err f) is steps = record { steps = steps; same = λ _. tt; yields = λ _. tt }
+
   -- ---- one statement
 
   pub stepped_within : (sql : List ℕ) (params : Row) (old new : MutBor (Held S)) (P : ℕ → Type 0) (result : Result ℕ Error) → Stepped sql params (state store old.now) (state store new.now) result
@@ -96,4 +116,24 @@ module _ {S : Type 0} {store : Ghosts S} where
     stays = λ clean trusted. inside_open _ _ _ _ _ _ asked clean trusted;
     on = λ trusted. inside_on _ _ _ _ _ plain inside _ asked trusted;
     err = λ trusted. inside_err _ _ _ _ _ _ asked trusted;
+  }
+
+  -- ---- one statement, and what it makes or shows
+
+  pub stepped_does : (sql : List ℕ) (params : Row) (old new : MutBor (Held S)) (made : Trees → Trees → ℕ → Type 0) (result : Result ℕ Error) → Stepped sql params (state store old.now) (state store new.now) result
+      → new.ghost_name ≡ old.ghost_name → (old.now.in_transaction ≡ false → new.now ≡ old.now) → Lasts (state store old.now) (state store new.now) → BeginsInside store old
+      → ((count : ℕ) → IsInside (state store old.now) → Executes sql params (state store old.now) (state store new.now) (Ok count) → ((state store new.now).now.schema ≡ office_schema) × made (state store old.now).now.trees (state store new.now).now.trees count)
+      → Does store old new result made
+  stepped_does sql params old new made result h same idle lasts inside gives =
+      let P = made (state store old.now).now.trees (state store new.now).now.trees in
+      record { steps = stepped_within sql params old new P result h same idle lasts inside gives; yields = λ trusted. step_counts _ _ _ _ P result h trusted inside gives }
+
+  pub asked_looks : {R : Type 0} (items : R → List Row) (sql : List ℕ) (params : Row) (old new : MutBor (Held S)) (shown : Trees → List Row → Type 0) (result : Result R Error) → AskedInside items sql params (state store old.now) (state store new.now) result
+      → new.ghost_name ≡ old.ghost_name → IsPlain (understood office_schema sql) → Lasts (state store old.now) (state store new.now) → BeginsInside store old
+      → ((rows : List Row) → (state store old.now).now.schema ≡ office_schema → Shown sql params (state store old.now) (state store new.now) rows → shown (state store old.now).now.trees rows)
+      → Looks store old new result (λ db rows. shown db (items rows))
+  asked_looks items sql params old new shown result asked same plain lasts inside gives = record {
+    steps = asked_within items sql params old new result asked same plain lasts inside;
+    same = λ trusted. inside_same _ _ _ _ _ plain inside _ asked trusted;
+    yields = λ trusted. inside_rows items sql params _ _ plain inside (shown (state store old.now).now.trees) result asked trusted gives;
   }

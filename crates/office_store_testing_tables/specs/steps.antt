@@ -9,5 +9,6 @@ pub mod ReadingSteps
 pub mod FactSteps
 pub mod Differences
 pub mod Loaded
+pub mod Faults
 pub mod StepsWithin
 pub mod ReadsOnly

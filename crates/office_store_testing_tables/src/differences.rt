@@ -1,12 +1,13 @@
 //! How the shown rows of testing's tables are compared with the wanted entries.
-ghost use Rattle.std.specs.Prelude.{◌≡◌, ◌≢◌, ◌<◌, ◌⊎◌, IsTrue, Err, Some, length, IfOk};
+ghost use Rattle.std.specs.Prelude.{◌≡◌, ◌<◌, ◌⊎◌, IsTrue, Some, length, IfOk};
 ghost use Rattle.office_store_testing_tables.specs.Entries.{source_in, entry_in};
+ghost use Rattle.office_store_testing_tables.specs.steps.Faults.{NeverBad};
 ghost use Rattle.office_store_testing_tables.specs.steps.EntrySteps.{source_entry as entry_of_source, row_entry as entry_of_row};
 ghost use Rattle.office_store_testing_tables.specs.steps.Differences.{Agrees};
 
 use crate::rowids::id_in;
 use crate::shown::{name_in, number_in, row_entry, source_entry};
-use office_store_keeper::{Cause, KeepFault};
+use office_store_keeper::KeepFault;
 use sqlite::Row;
 use testing_rules_model::{RowIn, SourceIn};
 
@@ -67,7 +68,7 @@ fn is_behind_source(shown: &Row, source: &SourceIn) -> bool {
 pub fn source_change(shown: &[Row], sources: &[SourceIn], at: Compared) -> Result<Change, KeepFault>
     requires left { (at.shown < length shown.now) ⊎ (at.entries < length sources.now) }
     ensures next { IfOk result (λ change. Agrees source_in entry_of_source shown.now sources.now at.shown at.entries change) }
-    ensures bad { result ≢ Err (KeepFault.Store Cause.BadRow) }
+    ensures bad { NeverBad result }
 {
     if at.shown >= shown.len() {
         return Ok(Change::Comes);
@@ -117,7 +118,7 @@ fn is_behind_row(shown: &Row, row: &RowIn) -> bool {
 pub fn row_change(shown: &[Row], rows: &[RowIn], at: Compared) -> Result<Change, KeepFault>
     requires left { (at.shown < length shown.now) ⊎ (at.entries < length rows.now) }
     ensures next { IfOk result (λ change. Agrees entry_in entry_of_row shown.now rows.now at.shown at.entries change) }
-    ensures bad { result ≢ Err (KeepFault.Store Cause.BadRow) }
+    ensures bad { NeverBad result }
 {
     if at.shown >= shown.len() {
         return Ok(Change::Comes);

@@ -1,13 +1,14 @@
 //! Changes of the tables of facts.
-ghost use Rattle.std.specs.Prelude.{◌≡◌, ◌≢◌, ◌≤◌, ◌<◌, Err, map, filter, take, length, IfOk};
+ghost use Rattle.std.specs.Prelude.{◌≡◌, ◌≤◌, ◌<◌, map, filter, take, length, IfOk};
 ghost use Rattle.std.specs.List.{AllByRecursion, list_all};
 ghost use Rattle.std.specs.List.Sorted.{IsPermutation};
 ghost use Rattle.sqlite.specs.Values.{bound};
-ghost use Rattle.office_store_testing_tables.specs.steps.StepsWithin.{StepsWithin, BeginsInside, Yields, LeavesAll};
+ghost use Rattle.office_store_testing_tables.specs.steps.Faults.{NeverBad};
+ghost use Rattle.office_store_testing_tables.specs.steps.StepsWithin.{BeginsInside, Does, DoesWell, Looks};
 ghost use Rattle.office_store_testing_tables.specs.steps.FactSteps.{is_fact, is_delays, id_columns, IsFound, TakesFact, TakesDelays, AddsFact, AddsFacts, AddsDelays, fact_parameters, FitsFact, is_no_delays, DropsFact, DropsDelays, DropsOne, AddsOne, DropsEach, AddsEach};
 
 use crate::rowids::{alone, only_id};
-use office_store_keeper::{Cause, KeepFault};
+use office_store_keeper::KeepFault;
 use sqlite::types::{ToSql, ValueRef};
 use sqlite::{Alter, Error, Row, Transaction, params};
 use testing_rules_model::{FactKind, FactRow};
@@ -20,10 +21,8 @@ fn fact_ids<S: Alter>(
     number: u32,
     place: u32,
 ) -> Result<Vec<Row>, Error>
-    requires inside { BeginsInside S.Store tx.old.conn }
-    ensures steps { StepsWithin S.Store tx.old.conn tx.new.conn result }
-    ensures same { LeavesAll S.Store tx.old.conn tx.new.conn result }
-    ensures rows { Yields S.Store tx.old.conn tx.new.conn result (λ db _ rows. IsPermutation (map id_columns (filter (is_fact (record { kind = kind; sender = sender; number = number; place = place })) (db 8))) rows.items) }
+    requires { BeginsInside S.Store tx.old.conn }
+    ensures { Looks S.Store tx.old.conn tx.new.conn result (λ db rows. IsPermutation (map id_columns (filter (is_fact (record { kind = kind; sender = sender; number = number; place = place })) (db 8))) rows.items) }
 {
     let kind = kind.number();
     tx.query_all(
@@ -34,10 +33,8 @@ fn fact_ids<S: Alter>(
 
 /// The rowids of the delays under a number, in any order.
 fn delays_ids<S: Alter>(tx: &mut Transaction<'_, S>, number: u32) -> Result<Vec<Row>, Error>
-    requires inside { BeginsInside S.Store tx.old.conn }
-    ensures steps { StepsWithin S.Store tx.old.conn tx.new.conn result }
-    ensures same { LeavesAll S.Store tx.old.conn tx.new.conn result }
-    ensures rows { Yields S.Store tx.old.conn tx.new.conn result (λ db _ rows. IsPermutation (map id_columns (filter (is_delays number) (db 10))) rows.items) }
+    requires { BeginsInside S.Store tx.old.conn }
+    ensures { Looks S.Store tx.old.conn tx.new.conn result (λ db rows. IsPermutation (map id_columns (filter (is_delays number) (db 10))) rows.items) }
 {
     tx.query_all(
         "SELECT id FROM fact_delays WHERE number = ?1",
@@ -47,18 +44,16 @@ fn delays_ids<S: Alter>(tx: &mut Transaction<'_, S>, number: u32) -> Result<Vec<
 
 /// Removes the facts with a rowid, and counts them.
 fn take_fact<S: Alter>(tx: &mut Transaction<'_, S>, id: i64) -> Result<usize, Error>
-    requires inside { BeginsInside S.Store tx.old.conn }
-    ensures steps { StepsWithin S.Store tx.old.conn tx.new.conn result }
-    ensures taken { Yields S.Store tx.old.conn tx.new.conn result (λ db next count. TakesFact db next id count) }
+    requires { BeginsInside S.Store tx.old.conn }
+    ensures { Does S.Store tx.old.conn tx.new.conn result (λ db next count. TakesFact db next id count) }
 {
     tx.execute("DELETE FROM fact WHERE rowid = ?1", params![id])
 }
 
 /// Removes the delays with a rowid, and counts them.
 fn take_delays<S: Alter>(tx: &mut Transaction<'_, S>, id: i64) -> Result<usize, Error>
-    requires inside { BeginsInside S.Store tx.old.conn }
-    ensures steps { StepsWithin S.Store tx.old.conn tx.new.conn result }
-    ensures taken { Yields S.Store tx.old.conn tx.new.conn result (λ db next count. TakesDelays db next id count) }
+    requires { BeginsInside S.Store tx.old.conn }
+    ensures { Does S.Store tx.old.conn tx.new.conn result (λ db next count. TakesDelays db next id count) }
 {
     tx.execute("DELETE FROM fact_delays WHERE id = ?1", params![id])
 }
@@ -71,9 +66,8 @@ fn add_fact<S: Alter>(
     number: u32,
     place: u32,
 ) -> Result<usize, Error>
-    requires inside { BeginsInside S.Store tx.old.conn }
-    ensures steps { StepsWithin S.Store tx.old.conn tx.new.conn result }
-    ensures added { Yields S.Store tx.old.conn tx.new.conn result (λ db next _. AddsFact db next (record { kind = kind; sender = sender; number = number; place = place })) }
+    requires { BeginsInside S.Store tx.old.conn }
+    ensures { Does S.Store tx.old.conn tx.new.conn result (λ db next _. AddsFact db next (record { kind = kind; sender = sender; number = number; place = place })) }
 {
     let kind = kind.number();
     tx.execute(
@@ -84,9 +78,8 @@ fn add_fact<S: Alter>(
 
 /// Adds the number of the last delays.
 pub fn add_delays<S: Alter>(tx: &mut Transaction<'_, S>, number: u32) -> Result<usize, Error>
-    requires inside { BeginsInside S.Store tx.old.conn }
-    ensures steps { StepsWithin S.Store tx.old.conn tx.new.conn result }
-    ensures added { Yields S.Store tx.old.conn tx.new.conn result (λ db next _. AddsDelays db next number) }
+    requires { BeginsInside S.Store tx.old.conn }
+    ensures { Does S.Store tx.old.conn tx.new.conn result (λ db next _. AddsDelays db next number) }
 {
     tx.execute(
         "INSERT INTO fact_delays (id, number) VALUES (1, ?1)",
@@ -99,11 +92,9 @@ fn found_fact<S: Alter>(
     tx: &mut Transaction<'_, S>,
     fact: &FactRow,
 ) -> Result<Option<i64>, KeepFault>
-    requires inside { BeginsInside S.Store tx.old.conn }
-    ensures steps { StepsWithin S.Store tx.old.conn tx.new.conn result }
-    ensures same { LeavesAll S.Store tx.old.conn tx.new.conn result }
-    ensures found { Yields S.Store tx.old.conn tx.new.conn result (λ db _ id. IsFound (is_fact fact.now) (db 8) id) }
-    ensures bad { result ≢ Err (KeepFault.Store Cause.BadRow) }
+    requires { BeginsInside S.Store tx.old.conn }
+    ensures looks { Looks S.Store tx.old.conn tx.new.conn result (λ db id. IsFound (is_fact fact.now) (db 8) id) }
+    ensures bad { NeverBad result }
 {
     let shown = fact_ids(tx, fact.kind, fact.sender, fact.number, fact.place)?;
     let id = only_id(shown.as_slice())?;
@@ -112,10 +103,8 @@ fn found_fact<S: Alter>(
 
 /// Removes the one fact with a rowid.
 fn take_one_fact<S: Alter>(tx: &mut Transaction<'_, S>, id: i64) -> Result<(), KeepFault>
-    requires inside { BeginsInside S.Store tx.old.conn }
-    ensures steps { StepsWithin S.Store tx.old.conn tx.new.conn result }
-    ensures taken { Yields S.Store tx.old.conn tx.new.conn result (λ db next _. TakesFact db next id 1) }
-    ensures bad { result ≢ Err (KeepFault.Store Cause.BadRow) }
+    requires { BeginsInside S.Store tx.old.conn }
+    ensures { DoesWell S.Store tx.old.conn tx.new.conn result (λ db next _. TakesFact db next id 1) }
 {
     let count = take_fact(tx, id)?;
     alone(count)?;
@@ -124,10 +113,8 @@ fn take_one_fact<S: Alter>(tx: &mut Transaction<'_, S>, id: i64) -> Result<(), K
 
 /// Removes a fact from the table of facts, if it is there.
 fn drop_fact<S: Alter>(tx: &mut Transaction<'_, S>, fact: &FactRow) -> Result<(), KeepFault>
-    requires inside { BeginsInside S.Store tx.old.conn }
-    ensures steps { StepsWithin S.Store tx.old.conn tx.new.conn result }
-    ensures dropped { Yields S.Store tx.old.conn tx.new.conn result (λ db next _. DropsFact db next fact.now) }
-    ensures bad { result ≢ Err (KeepFault.Store Cause.BadRow) }
+    requires { BeginsInside S.Store tx.old.conn }
+    ensures { DoesWell S.Store tx.old.conn tx.new.conn result (λ db next _. DropsFact db next fact.now) }
 {
     let found = found_fact(tx, fact)?;
     match found {
@@ -144,11 +131,9 @@ fn found_delays<S: Alter>(
     tx: &mut Transaction<'_, S>,
     number: u32,
 ) -> Result<Option<i64>, KeepFault>
-    requires inside { BeginsInside S.Store tx.old.conn }
-    ensures steps { StepsWithin S.Store tx.old.conn tx.new.conn result }
-    ensures same { LeavesAll S.Store tx.old.conn tx.new.conn result }
-    ensures found { Yields S.Store tx.old.conn tx.new.conn result (λ db _ id. IsFound (is_delays number) (db 10) id) }
-    ensures bad { result ≢ Err (KeepFault.Store Cause.BadRow) }
+    requires { BeginsInside S.Store tx.old.conn }
+    ensures looks { Looks S.Store tx.old.conn tx.new.conn result (λ db id. IsFound (is_delays number) (db 10) id) }
+    ensures bad { NeverBad result }
 {
     let shown = delays_ids(tx, number)?;
     let id = only_id(shown.as_slice())?;
@@ -157,10 +142,8 @@ fn found_delays<S: Alter>(
 
 /// Removes the one row of delays with a rowid.
 fn take_one_delays<S: Alter>(tx: &mut Transaction<'_, S>, id: i64) -> Result<(), KeepFault>
-    requires inside { BeginsInside S.Store tx.old.conn }
-    ensures steps { StepsWithin S.Store tx.old.conn tx.new.conn result }
-    ensures taken { Yields S.Store tx.old.conn tx.new.conn result (λ db next _. TakesDelays db next id 1) }
-    ensures bad { result ≢ Err (KeepFault.Store Cause.BadRow) }
+    requires { BeginsInside S.Store tx.old.conn }
+    ensures { DoesWell S.Store tx.old.conn tx.new.conn result (λ db next _. TakesDelays db next id 1) }
 {
     let count = take_delays(tx, id)?;
     alone(count)?;
@@ -169,10 +152,8 @@ fn take_one_delays<S: Alter>(tx: &mut Transaction<'_, S>, id: i64) -> Result<(),
 
 /// Removes the delays under a number from their table, if they are there.
 fn drop_delays<S: Alter>(tx: &mut Transaction<'_, S>, number: u32) -> Result<(), KeepFault>
-    requires inside { BeginsInside S.Store tx.old.conn }
-    ensures steps { StepsWithin S.Store tx.old.conn tx.new.conn result }
-    ensures dropped { Yields S.Store tx.old.conn tx.new.conn result (λ db next _. DropsDelays db next number) }
-    ensures bad { result ≢ Err (KeepFault.Store Cause.BadRow) }
+    requires { BeginsInside S.Store tx.old.conn }
+    ensures { DoesWell S.Store tx.old.conn tx.new.conn result (λ db next _. DropsDelays db next number) }
 {
     let found = found_delays(tx, number)?;
     match found {
@@ -197,10 +178,8 @@ fn drop_one<S: Alter>(
     release: u32,
     fact: &FactRow,
 ) -> Result<(), KeepFault>
-    requires inside { BeginsInside S.Store tx.old.conn }
-    ensures steps { StepsWithin S.Store tx.old.conn tx.new.conn result }
-    ensures dropped { Yields S.Store tx.old.conn tx.new.conn result (λ db next _. DropsOne release db next fact.now) }
-    ensures bad { result ≢ Err (KeepFault.Store Cause.BadRow) }
+    requires { BeginsInside S.Store tx.old.conn }
+    ensures { DoesWell S.Store tx.old.conn tx.new.conn result (λ db next _. DropsOne release db next fact.now) }
 {
     if is_no_delays(fact) {
         drop_fact(tx, fact)?;
@@ -222,9 +201,8 @@ fn add_one<S: Alter>(
     release: u32,
     fact: &FactRow,
 ) -> Result<usize, Error>
-    requires inside { BeginsInside S.Store tx.old.conn }
-    ensures steps { StepsWithin S.Store tx.old.conn tx.new.conn result }
-    ensures added { Yields S.Store tx.old.conn tx.new.conn result (λ db next _. AddsOne release db next fact.now) }
+    requires { BeginsInside S.Store tx.old.conn }
+    ensures { Does S.Store tx.old.conn tx.new.conn result (λ db next _. AddsOne release db next fact.now) }
 {
     if is_no_delays(fact) {
         let added = add_fact(tx, fact.kind, fact.sender, fact.number, fact.place)?;
@@ -240,10 +218,8 @@ pub fn drop_each<S: Alter>(
     release: u32,
     facts: &[FactRow],
 ) -> Result<(), KeepFault>
-    requires inside { BeginsInside S.Store tx.old.conn }
-    ensures steps { StepsWithin S.Store tx.old.conn tx.new.conn result }
-    ensures dropped { Yields S.Store tx.old.conn tx.new.conn result (λ db next _. DropsEach release db next facts.now) }
-    ensures bad { result ≢ Err (KeepFault.Store Cause.BadRow) }
+    requires { BeginsInside S.Store tx.old.conn }
+    ensures { DoesWell S.Store tx.old.conn tx.new.conn result (λ db next _. DropsEach release db next facts.now) }
 {
     'facts: for fact in facts {
         drop_one(tx, release, fact)?;
@@ -298,8 +274,7 @@ fn eight_values(facts: &[FactRow]) -> [[ValueRef<'static>; 4]; 8]
 fn add_eight<S: Alter>(tx: &mut Transaction<'_, S>, facts: &[FactRow]) -> Result<usize, Error>
     requires inside { BeginsInside S.Store tx.old.conn }
     requires eight { length facts.now ≡ 8 }
-    ensures steps { StepsWithin S.Store tx.old.conn tx.new.conn result }
-    ensures added { Yields S.Store tx.old.conn tx.new.conn result (λ db next _. AddsFacts db next facts.now) }
+    ensures { Does S.Store tx.old.conn tx.new.conn result (λ db next _. AddsFacts db next facts.now) }
 {
     let values = eight_values(facts);
     tx.execute(
@@ -323,9 +298,8 @@ fn add_first<S: Alter>(
 ) -> Result<usize, Error>
     requires inside { BeginsInside S.Store tx.old.conn }
     requires some { 0 < length facts.now }
-    ensures steps { StepsWithin S.Store tx.old.conn tx.new.conn result }
+    ensures does { Does S.Store tx.old.conn tx.new.conn result (λ db next count. AddsEach release db next (take count facts.now)) }
     ensures count { IfOk result (λ count. (0 < count) × (count ≤ length facts.now)) }
-    ensures added { Yields S.Store tx.old.conn tx.new.conn result (λ db next count. AddsEach release db next (take count facts.now)) }
 {
     if facts.len() >= 8 && are_no_delays(&facts[..8]) {
         add_eight(tx, &facts[..8])?;
@@ -341,9 +315,8 @@ pub fn add_each<S: Alter>(
     release: u32,
     facts: &[FactRow],
 ) -> Result<(), Error>
-    requires inside { BeginsInside S.Store tx.old.conn }
-    ensures steps { StepsWithin S.Store tx.old.conn tx.new.conn result }
-    ensures added { Yields S.Store tx.old.conn tx.new.conn result (λ db next _. AddsEach release db next facts.now) }
+    requires { BeginsInside S.Store tx.old.conn }
+    ensures { Does S.Store tx.old.conn tx.new.conn result (λ db next _. AddsEach release db next facts.now) }
 {
     let mut at = 0;
     'facts: while at < facts.len() {

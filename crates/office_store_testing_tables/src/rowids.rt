@@ -1,7 +1,8 @@
 //! Rows found and removed by their rowids.
-ghost use Rattle.std.specs.Prelude.{◌≡◌, ◌≢◌, Err, IfOk, OnOk};
+ghost use Rattle.std.specs.Prelude.{◌≡◌, ◌≢◌, IfOk, OnOk};
 ghost use Rattle.sqlite.specs.Order.{column};
 ghost use Rattle.sqlite.specs.declared.types.Value.TheVariants.{Int};
+ghost use Rattle.office_store_testing_tables.specs.steps.Faults.{NeverBad};
 ghost use Rattle.office_store_testing_tables.specs.steps.FactSteps.{IsOnlyId};
 
 use office_store_keeper::{Cause, KeepFault};
@@ -17,7 +18,7 @@ fn stands_twice(constraint: Constraint) -> KeepFault
 /// The shown rowid.
 pub fn id_in(row: &Row) -> Result<i64, KeepFault>
     ensures ok { IfOk result (λ id. column row.now 0 ≡ Int id) }
-    ensures bad { result ≢ Err (KeepFault.Store Cause.BadRow) }
+    ensures bad { NeverBad result }
 {
     Ok(row.get(0)?)
 }
@@ -25,7 +26,7 @@ pub fn id_in(row: &Row) -> Result<i64, KeepFault>
 /// The only rowid, if there is one.
 pub fn only_id(rows: &[Row]) -> Result<Option<i64>, KeepFault>
     ensures ok { IfOk result (λ id. IsOnlyId id rows.now) }
-    ensures bad { result ≢ Err (KeepFault.Store Cause.BadRow) }
+    ensures bad { NeverBad result }
 {
     match rows {
         [] => Ok(None),
@@ -37,7 +38,7 @@ pub fn only_id(rows: &[Row]) -> Result<Option<i64>, KeepFault>
 /// Exactly one row was removed.
 pub fn alone(count: usize) -> Result<(), KeepFault>
     ensures ok { OnOk result (count ≡ 1) }
-    ensures bad { result ≢ Err (KeepFault.Store Cause.BadRow) }
+    ensures bad { NeverBad result }
 {
     if count == 1 {
         Ok(())

@@ -1,5 +1,5 @@
 //! The tables of testing: a finished run writes only the rows that changed.
-ghost use Rattle.std.specs.Prelude.{◌≡◌, ◌≢◌, ◌≤◌, ◌<◌, ◌⊎◌, Err, map, length, IfOk};
+ghost use Rattle.std.specs.Prelude.{◌≡◌, ◌≤◌, ◌<◌, ◌⊎◌, map, length, IfOk};
 ghost use Rattle.std.specs.List.{AllByRecursion};
 ghost use Rattle.std.specs.List.Sorted.{IsPermutation};
 ghost use Rattle.sqlite.specs.Held.{state};
@@ -7,7 +7,7 @@ ghost use Rattle.sqlite.specs.Values.{bound};
 ghost use Rattle.sqlite.specs.Tree.{Trees};
 ghost use Rattle.testing_rules_model.specs.InOrder.{AreByName, AreByKey};
 ghost use Rattle.office_store_testing_tables.specs.Tables.{IsTrusted};
-ghost use Rattle.office_store_testing_tables.specs.steps.StepsWithin.{StepsWithin, BeginsInside, Yields, LeavesAll};
+ghost use Rattle.office_store_testing_tables.specs.steps.StepsWithin.{BeginsInside, Does, DoesWell, Looks};
 ghost use Rattle.office_store_testing_tables.specs.steps.EntrySteps.{source_columns, entry_columns, TakesSource, AddsSource, AddsSources, source_parameters, FitsSource, SetsSources, TakesRow, AddsRow, AddsRows, row_parameters, FitsRow, SetsRows};
 ghost use Rattle.office_store_testing_tables.specs.steps.Differences.{GoesOn, SourcesCompared, RowsCompared};
 
@@ -15,17 +15,15 @@ use crate::differences::{
     Change, Compared, name_or_none, number_or_none, row_change, source_change,
 };
 use crate::rowids::alone;
-use office_store_keeper::{Cause, KeepFault};
+use office_store_keeper::KeepFault;
 use sqlite::types::{ToSql, ValueRef};
 use sqlite::{Alter, Error, Row, Transaction, params};
 use testing_rules_model::{RowIn, SourceIn};
 
 /// The rows of testing's sources, in any order.
 fn listed_sources<S: Alter>(tx: &mut Transaction<'_, S>) -> Result<Vec<Row>, Error>
-    requires inside { BeginsInside S.Store tx.old.conn }
-    ensures steps { StepsWithin S.Store tx.old.conn tx.new.conn result }
-    ensures same { LeavesAll S.Store tx.old.conn tx.new.conn result }
-    ensures rows { Yields S.Store tx.old.conn tx.new.conn result (λ db _ rows. IsPermutation (map source_columns (db 4)) rows.items) }
+    requires { BeginsInside S.Store tx.old.conn }
+    ensures { Looks S.Store tx.old.conn tx.new.conn result (λ db rows. IsPermutation (map source_columns (db 4)) rows.items) }
 {
     tx.query_all(
         "SELECT rowid, name, sender, number FROM testing_source",
@@ -44,19 +42,16 @@ fn sources_in_order(rows: Vec<Row>) -> Vec<Row>
 
 /// Removes the sources with a rowid, and counts them.
 fn take_source<S: Alter>(tx: &mut Transaction<'_, S>, id: i64) -> Result<usize, Error>
-    requires inside { BeginsInside S.Store tx.old.conn }
-    ensures steps { StepsWithin S.Store tx.old.conn tx.new.conn result }
-    ensures taken { Yields S.Store tx.old.conn tx.new.conn result (λ db next count. TakesSource db next id count) }
+    requires { BeginsInside S.Store tx.old.conn }
+    ensures { Does S.Store tx.old.conn tx.new.conn result (λ db next count. TakesSource db next id count) }
 {
     tx.execute("DELETE FROM testing_source WHERE rowid = ?1", params![id])
 }
 
 /// Removes the one source with a rowid.
 fn take_one_source<S: Alter>(tx: &mut Transaction<'_, S>, id: i64) -> Result<(), KeepFault>
-    requires inside { BeginsInside S.Store tx.old.conn }
-    ensures steps { StepsWithin S.Store tx.old.conn tx.new.conn result }
-    ensures taken { Yields S.Store tx.old.conn tx.new.conn result (λ db next _. TakesSource db next id 1) }
-    ensures bad { result ≢ Err (KeepFault.Store Cause.BadRow) }
+    requires { BeginsInside S.Store tx.old.conn }
+    ensures { DoesWell S.Store tx.old.conn tx.new.conn result (λ db next _. TakesSource db next id 1) }
 {
     let count = take_source(tx, id)?;
     alone(count)?;
@@ -70,9 +65,8 @@ fn add_source<S: Alter>(
     sender: u32,
     number: u32,
 ) -> Result<usize, Error>
-    requires inside { BeginsInside S.Store tx.old.conn }
-    ensures steps { StepsWithin S.Store tx.old.conn tx.new.conn result }
-    ensures added { Yields S.Store tx.old.conn tx.new.conn result (λ db next _. AddsSource db next name.now sender number) }
+    requires { BeginsInside S.Store tx.old.conn }
+    ensures { Does S.Store tx.old.conn tx.new.conn result (λ db next _. AddsSource db next name.now sender number) }
 {
     tx.execute(
         "INSERT INTO testing_source (name, sender, number) VALUES (?1, ?2, ?3)",
@@ -124,8 +118,7 @@ fn add_eight_sources<S: Alter>(
 ) -> Result<usize, Error>
     requires inside { BeginsInside S.Store tx.old.conn }
     requires eight { length sources.now ≡ 8 }
-    ensures steps { StepsWithin S.Store tx.old.conn tx.new.conn result }
-    ensures added { Yields S.Store tx.old.conn tx.new.conn result (λ db next _. AddsSources db next sources.now) }
+    ensures { Does S.Store tx.old.conn tx.new.conn result (λ db next _. AddsSources db next sources.now) }
 {
     let values = eight_source_values(sources);
     tx.execute(
@@ -144,10 +137,8 @@ fn change_source<S: Alter>(
     requires inside { BeginsInside S.Store tx.old.conn }
     requires within { (at.shown ≤ length shown.now) × (at.entries ≤ length sources.now) }
     requires left { (at.shown < length shown.now) ⊎ (at.entries < length sources.now) }
-    ensures steps { StepsWithin S.Store tx.old.conn tx.new.conn result }
+    ensures does { DoesWell S.Store tx.old.conn tx.new.conn result (λ db next to. (first : Trees) → SourcesCompared first db shown.now sources.now at.shown at.entries → SourcesCompared first next shown.now sources.now to.shown to.entries) }
     ensures further { IfOk result (λ to. GoesOn (length shown.now) (length sources.now) at.shown at.entries to.shown to.entries) }
-    ensures compared { Yields S.Store tx.old.conn tx.new.conn result (λ db next to. (first : Trees) → SourcesCompared first db shown.now sources.now at.shown at.entries → SourcesCompared first next shown.now sources.now to.shown to.entries) }
-    ensures bad { result ≢ Err (KeepFault.Store Cause.BadRow) }
 {
     match source_change(shown, sources, at)? {
         Change::Stays => Ok(Compared {
@@ -184,10 +175,8 @@ fn change_source_or_more<S: Alter>(
     requires inside { BeginsInside S.Store tx.old.conn }
     requires within { (at.shown ≤ length shown.now) × (at.entries ≤ length sources.now) }
     requires left { (at.shown < length shown.now) ⊎ (at.entries < length sources.now) }
-    ensures steps { StepsWithin S.Store tx.old.conn tx.new.conn result }
+    ensures does { DoesWell S.Store tx.old.conn tx.new.conn result (λ db next to. (first : Trees) → SourcesCompared first db shown.now sources.now at.shown at.entries → SourcesCompared first next shown.now sources.now to.shown to.entries) }
     ensures further { IfOk result (λ to. GoesOn (length shown.now) (length sources.now) at.shown at.entries to.shown to.entries) }
-    ensures compared { Yields S.Store tx.old.conn tx.new.conn result (λ db next to. (first : Trees) → SourcesCompared first db shown.now sources.now at.shown at.entries → SourcesCompared first next shown.now sources.now to.shown to.entries) }
-    ensures bad { result ≢ Err (KeepFault.Store Cause.BadRow) }
 {
     if at.shown < shown.len() || sources.len() - at.entries < 8 {
         return change_source(tx, shown, sources, at);
@@ -209,9 +198,7 @@ fn change_sources<S: Alter>(
     requires inside { BeginsInside S.Store tx.old.conn }
     requires shown { IsTrusted (state S.Store tx.old.conn.now) → IsPermutation (map source_columns ((state S.Store tx.old.conn.now).now.trees 4)) shown.now }
     requires ordered { AreByName sources.now }
-    ensures steps { StepsWithin S.Store tx.old.conn tx.new.conn result }
-    ensures set { Yields S.Store tx.old.conn tx.new.conn result (λ db next _. SetsSources db next sources.now) }
-    ensures bad { result ≢ Err (KeepFault.Store Cause.BadRow) }
+    ensures { DoesWell S.Store tx.old.conn tx.new.conn result (λ db next _. SetsSources db next sources.now) }
 {
     let mut at = Compared {
         shown: 0,
@@ -230,9 +217,7 @@ pub fn set_sources<S: Alter>(
 ) -> Result<(), KeepFault>
     requires inside { BeginsInside S.Store tx.old.conn }
     requires ordered { AreByName sources.now }
-    ensures steps { StepsWithin S.Store tx.old.conn tx.new.conn result }
-    ensures set { Yields S.Store tx.old.conn tx.new.conn result (λ db next _. SetsSources db next sources.now) }
-    ensures bad { result ≢ Err (KeepFault.Store Cause.BadRow) }
+    ensures { DoesWell S.Store tx.old.conn tx.new.conn result (λ db next _. SetsSources db next sources.now) }
 {
     let listed = listed_sources(tx)?;
     let shown = sources_in_order(listed);
@@ -242,10 +227,8 @@ pub fn set_sources<S: Alter>(
 
 /// The rows of testing's rows, in any order.
 fn listed_rows<S: Alter>(tx: &mut Transaction<'_, S>) -> Result<Vec<Row>, Error>
-    requires inside { BeginsInside S.Store tx.old.conn }
-    ensures steps { StepsWithin S.Store tx.old.conn tx.new.conn result }
-    ensures same { LeavesAll S.Store tx.old.conn tx.new.conn result }
-    ensures rows { Yields S.Store tx.old.conn tx.new.conn result (λ db _ rows. IsPermutation (map entry_columns (db 6)) rows.items) }
+    requires { BeginsInside S.Store tx.old.conn }
+    ensures { Looks S.Store tx.old.conn tx.new.conn result (λ db rows. IsPermutation (map entry_columns (db 6)) rows.items) }
 {
     tx.query_all(
         "SELECT rowid, arch, name, sender, number, place FROM testing_row",
@@ -267,19 +250,16 @@ fn rows_in_order(rows: Vec<Row>) -> Vec<Row>
 
 /// Removes the rows with a rowid, and counts them.
 fn take_row<S: Alter>(tx: &mut Transaction<'_, S>, id: i64) -> Result<usize, Error>
-    requires inside { BeginsInside S.Store tx.old.conn }
-    ensures steps { StepsWithin S.Store tx.old.conn tx.new.conn result }
-    ensures taken { Yields S.Store tx.old.conn tx.new.conn result (λ db next count. TakesRow db next id count) }
+    requires { BeginsInside S.Store tx.old.conn }
+    ensures { Does S.Store tx.old.conn tx.new.conn result (λ db next count. TakesRow db next id count) }
 {
     tx.execute("DELETE FROM testing_row WHERE rowid = ?1", params![id])
 }
 
 /// Removes the one row with a rowid.
 fn take_one_row<S: Alter>(tx: &mut Transaction<'_, S>, id: i64) -> Result<(), KeepFault>
-    requires inside { BeginsInside S.Store tx.old.conn }
-    ensures steps { StepsWithin S.Store tx.old.conn tx.new.conn result }
-    ensures taken { Yields S.Store tx.old.conn tx.new.conn result (λ db next _. TakesRow db next id 1) }
-    ensures bad { result ≢ Err (KeepFault.Store Cause.BadRow) }
+    requires { BeginsInside S.Store tx.old.conn }
+    ensures { DoesWell S.Store tx.old.conn tx.new.conn result (λ db next _. TakesRow db next id 1) }
 {
     let count = take_row(tx, id)?;
     alone(count)?;
@@ -295,9 +275,8 @@ fn add_row<S: Alter>(
     number: u32,
     place: u32,
 ) -> Result<usize, Error>
-    requires inside { BeginsInside S.Store tx.old.conn }
-    ensures steps { StepsWithin S.Store tx.old.conn tx.new.conn result }
-    ensures added { Yields S.Store tx.old.conn tx.new.conn result (λ db next _. AddsRow db next arch name.now sender number place) }
+    requires { BeginsInside S.Store tx.old.conn }
+    ensures { Does S.Store tx.old.conn tx.new.conn result (λ db next _. AddsRow db next arch name.now sender number place) }
 {
     tx.execute(
         "INSERT INTO testing_row (arch, name, sender, number, place) VALUES (?1, ?2, ?3, ?4, ?5)",
@@ -353,8 +332,7 @@ fn eight_row_values(rows: &[RowIn]) -> [[ValueRef<'_>; 5]; 8]
 fn add_eight_rows<S: Alter>(tx: &mut Transaction<'_, S>, rows: &[RowIn]) -> Result<usize, Error>
     requires inside { BeginsInside S.Store tx.old.conn }
     requires eight { length rows.now ≡ 8 }
-    ensures steps { StepsWithin S.Store tx.old.conn tx.new.conn result }
-    ensures added { Yields S.Store tx.old.conn tx.new.conn result (λ db next _. AddsRows db next rows.now) }
+    ensures { Does S.Store tx.old.conn tx.new.conn result (λ db next _. AddsRows db next rows.now) }
 {
     let values = eight_row_values(rows);
     tx.execute(
@@ -373,10 +351,8 @@ fn change_row<S: Alter>(
     requires inside { BeginsInside S.Store tx.old.conn }
     requires within { (at.shown ≤ length shown.now) × (at.entries ≤ length rows.now) }
     requires left { (at.shown < length shown.now) ⊎ (at.entries < length rows.now) }
-    ensures steps { StepsWithin S.Store tx.old.conn tx.new.conn result }
+    ensures does { DoesWell S.Store tx.old.conn tx.new.conn result (λ db next to. (first : Trees) → RowsCompared first db shown.now rows.now at.shown at.entries → RowsCompared first next shown.now rows.now to.shown to.entries) }
     ensures further { IfOk result (λ to. GoesOn (length shown.now) (length rows.now) at.shown at.entries to.shown to.entries) }
-    ensures compared { Yields S.Store tx.old.conn tx.new.conn result (λ db next to. (first : Trees) → RowsCompared first db shown.now rows.now at.shown at.entries → RowsCompared first next shown.now rows.now to.shown to.entries) }
-    ensures bad { result ≢ Err (KeepFault.Store Cause.BadRow) }
 {
     match row_change(shown, rows, at)? {
         Change::Stays => Ok(Compared {
@@ -413,10 +389,8 @@ fn change_row_or_more<S: Alter>(
     requires inside { BeginsInside S.Store tx.old.conn }
     requires within { (at.shown ≤ length shown.now) × (at.entries ≤ length rows.now) }
     requires left { (at.shown < length shown.now) ⊎ (at.entries < length rows.now) }
-    ensures steps { StepsWithin S.Store tx.old.conn tx.new.conn result }
+    ensures does { DoesWell S.Store tx.old.conn tx.new.conn result (λ db next to. (first : Trees) → RowsCompared first db shown.now rows.now at.shown at.entries → RowsCompared first next shown.now rows.now to.shown to.entries) }
     ensures further { IfOk result (λ to. GoesOn (length shown.now) (length rows.now) at.shown at.entries to.shown to.entries) }
-    ensures compared { Yields S.Store tx.old.conn tx.new.conn result (λ db next to. (first : Trees) → RowsCompared first db shown.now rows.now at.shown at.entries → RowsCompared first next shown.now rows.now to.shown to.entries) }
-    ensures bad { result ≢ Err (KeepFault.Store Cause.BadRow) }
 {
     if at.shown < shown.len() || rows.len() - at.entries < 8 {
         return change_row(tx, shown, rows, at);
@@ -438,9 +412,7 @@ fn change_rows<S: Alter>(
     requires inside { BeginsInside S.Store tx.old.conn }
     requires shown { IsTrusted (state S.Store tx.old.conn.now) → IsPermutation (map entry_columns ((state S.Store tx.old.conn.now).now.trees 6)) shown.now }
     requires ordered { AreByKey rows.now }
-    ensures steps { StepsWithin S.Store tx.old.conn tx.new.conn result }
-    ensures set { Yields S.Store tx.old.conn tx.new.conn result (λ db next _. SetsRows db next rows.now) }
-    ensures bad { result ≢ Err (KeepFault.Store Cause.BadRow) }
+    ensures { DoesWell S.Store tx.old.conn tx.new.conn result (λ db next _. SetsRows db next rows.now) }
 {
     let mut at = Compared {
         shown: 0,
@@ -456,9 +428,7 @@ fn change_rows<S: Alter>(
 pub fn set_rows<S: Alter>(tx: &mut Transaction<'_, S>, rows: &[RowIn]) -> Result<(), KeepFault>
     requires inside { BeginsInside S.Store tx.old.conn }
     requires ordered { AreByKey rows.now }
-    ensures steps { StepsWithin S.Store tx.old.conn tx.new.conn result }
-    ensures set { Yields S.Store tx.old.conn tx.new.conn result (λ db next _. SetsRows db next rows.now) }
-    ensures bad { result ≢ Err (KeepFault.Store Cause.BadRow) }
+    ensures { DoesWell S.Store tx.old.conn tx.new.conn result (λ db next _. SetsRows db next rows.now) }
 {
     let listed = listed_rows(tx)?;
     let shown = rows_in_order(listed);

@@ -5,7 +5,9 @@ use Rattle.sqlite_trees.specs.declared.store.Store.{Ghosts}
 use Rattle.sqlite.specs.Held.{Held, state}
 use Rattle.sqlite.specs.State.{HasCleanDisk}
 use Rattle.sqlite.specs.Tree.{Trees}
+use Rattle.office_store_keeper.specs.declared.faults.KeepFault.{KeepFault}
 use Rattle.office_store_testing_tables.specs.Tables.{IsTrusted}
+use Rattle.office_store_testing_tables.specs.steps.Faults.{NeverBad}
 use Rattle.office_store_testing_tables.specs.steps.Tables.{Lasts}
 use Rattle.office_store_testing_tables.specs.steps.TableSteps.{IsInside, WentOn}
 
@@ -31,3 +33,20 @@ Yields store old new result made = IsTrusted (state store new.now) → IfOk resu
 -- a successful step leaves the database unchanged
 abbrev pub LeavesAll : {S T E : Type 0} → Ghosts S → MutBor (Held S) → MutBor (Held S) → Result T E → Type 0
 LeavesAll store old new result = IsTrusted (state store new.now) → OnOk result ((state store new.now).now ≡ (state store old.now).now)
+
+-- what a step leaves, and what it makes of the tables or shows of them
+pub record Does {S T E : Type 0} (store : Ghosts S) (old new : MutBor (Held S)) (result : Result T E) (made : Trees → Trees → T → Type 0) : Type 0 where
+  pub steps : StepsWithin store old new result
+  pub yields : Yields store old new result made
+
+-- the same of a step that doesn't report a bad row
+pub record DoesWell {S T : Type 0} (store : Ghosts S) (old new : MutBor (Held S)) (result : Result T KeepFault) (made : Trees → Trees → T → Type 0) : Type 0 where
+  pub steps : StepsWithin store old new result
+  pub yields : Yields store old new result made
+  pub bad : NeverBad result
+
+-- what a step leaves that only looks, and what it shows of the tables
+pub record Looks {S T E : Type 0} (store : Ghosts S) (old new : MutBor (Held S)) (result : Result T E) (shown : Trees → T → Type 0) : Type 0 where
+  pub steps : StepsWithin store old new result
+  pub same : LeavesAll store old new result
+  pub yields : Yields store old new result (λ db _. shown db)

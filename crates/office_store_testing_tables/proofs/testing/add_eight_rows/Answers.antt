@@ -4,11 +4,11 @@ use Rattle.sqlite.specs.Values.{bound}
 use Rattle.sqlite.specs.Held.{state}
 use Rattle.testing_rules_model.specs.declared.suite.RowIn.{RowIn}
 use Rattle.office_store_testing_tables.specs.steps.Texts.{add_eight_rows_text}
-use Rattle.office_store_testing_tables.specs.steps.EntrySteps.{row_parameters, AddsRows}
+use Rattle.office_store_testing_tables.specs.steps.EntrySteps.{row_parameters}
 use Rattle.office_store_testing_tables.proofs.Eights.{flattened}
 use Rattle.office_store_testing_tables.proofs.StateLemmas.{lasts_survived}
-use Rattle.office_store_testing_tables.proofs.StepLemmas.{Stepped, step_gives}
-use Rattle.office_store_testing_tables.proofs.WithinLemmas.{stepped_within}
+use Rattle.office_store_testing_tables.proofs.StepLemmas.{Stepped}
+use Rattle.office_store_testing_tables.proofs.WithinLemmas.{stepped_does}
 use Rattle.office_store_testing_tables.proofs.EntryWrites.{adds_eight_rows}
 use Rattle.office_store_testing_tables.proofs.testing.add_eight_rows.Goals as goal
 
@@ -20,16 +20,7 @@ stepped g c = record {
   runs = rw (ap bound c.as_flattened.ensures.value, flattened _ _ _ _ c.eight_row_values-values.ensures.is) at c.execute.ensures.runs;
 }
 
-pub returns-clause-steps : goal.returns-clause-steps
-returns-clause-steps g c =
-    let old = state g.S.Store c.args.tx.now.conn.now in
-    let new = state g.S.Store c.execute.new.self.conn.now in
-    stepped_within _ _ _ _ (λ _. AddsRows old.now.trees new.now.trees c.args.rows.now) c.execute.result (stepped g c) c.execute.ensures.same_reference (λ idle. (c.execute.ensures.ended idle).1) (lasts_survived _ _ c.execute.ensures.survives) c.requires.inside
-    (λ count inside h. adds_eight_rows old new count inside.schema c.args.rows.now c.requires.eight c.eight_row_values-values.ensures.fits h)
-
-pub returns-clause-added : goal.returns-clause-added
-returns-clause-added g c trusted =
-    let old = state g.S.Store c.args.tx.now.conn.now in
-    let new = state g.S.Store c.execute.new.self.conn.now in
-    step_gives _ _ old new (AddsRows old.now.trees new.now.trees c.args.rows.now) c.execute.result (stepped g c) trusted c.requires.inside
-    (λ count inside h. adds_eight_rows old new count inside.schema c.args.rows.now c.requires.eight c.eight_row_values-values.ensures.fits h)
+pub returns : goal.returns
+returns g c =
+    stepped_does _ _ _ _ _ c.execute.result (stepped g c) c.execute.ensures.same_reference (λ idle. (c.execute.ensures.ended idle).1) (lasts_survived _ _ c.execute.ensures.survives) c.requires.inside
+    (λ count inside h. adds_eight_rows _ _ count inside.schema c.args.rows.now c.requires.eight c.eight_row_values-values.ensures.fits h)
