@@ -1,9 +1,8 @@
 //! Changes of the tables of facts.
-ghost use Rattle.std.specs.Prelude.{◌≢◌, Err};
-ghost use Rattle.office_store_testing_tables.specs.steps.StepsWithin.{StepsWithin, BeginsInside, Yields};
+ghost use Rattle.office_store_testing_tables.specs.steps.StepsWithin.{BeginsInside, DoesWell};
 ghost use Rattle.office_store_testing_tables.specs.steps.FactSteps.{ChangesFacts, DropsEach};
 
-use office_store_keeper::{Cause, KeepFault};
+use office_store_keeper::KeepFault;
 pub use office_store_testing_tables::fact_changes::add_delays;
 use office_store_testing_tables::fact_changes::{add_each, drop_each};
 use sqlite::{Alter, Transaction};
@@ -15,10 +14,8 @@ fn drop_gone<S: Alter>(
     release: u32,
     changes: &FactChanges,
 ) -> Result<(), KeepFault>
-    requires inside { BeginsInside S.Store tx.old.conn }
-    ensures steps { StepsWithin S.Store tx.old.conn tx.new.conn result }
-    ensures dropped { Yields S.Store tx.old.conn tx.new.conn result (λ db next _. DropsEach release db next changes.now.gone) }
-    ensures bad { result ≢ Err (KeepFault.Store Cause.BadRow) }
+    requires { BeginsInside S.Store tx.old.conn }
+    ensures { DoesWell S.Store tx.old.conn tx.new.conn result (λ db next _. DropsEach release db next changes.now.gone) }
 {
     drop_each(tx, release, changes.gone.as_slice())
 }
@@ -29,10 +26,8 @@ pub(crate) fn change_facts<S: Alter>(
     release: u32,
     changes: &FactChanges,
 ) -> Result<(), KeepFault>
-    requires inside { BeginsInside S.Store tx.old.conn }
-    ensures steps { StepsWithin S.Store tx.old.conn tx.new.conn result }
-    ensures changed { Yields S.Store tx.old.conn tx.new.conn result (λ db next _. ChangesFacts release db next changes.now) }
-    ensures bad { result ≢ Err (KeepFault.Store Cause.BadRow) }
+    requires { BeginsInside S.Store tx.old.conn }
+    ensures { DoesWell S.Store tx.old.conn tx.new.conn result (λ db next _. ChangesFacts release db next changes.now) }
 {
     drop_gone(tx, release, changes)?;
     add_each(tx, release, changes.put.as_slice())?;

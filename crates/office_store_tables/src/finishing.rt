@@ -4,8 +4,10 @@ ghost use Rattle.std.specs.Str.{IsUtf8};
 ghost use Rattle.sqlite.specs.Held.{state};
 ghost use Rattle.sqlite.specs.State.{HasCleanDisk};
 ghost use Rattle.office_store_testing_tables.specs.Tables.{IsTrusted, IsOurs};
+ghost use Rattle.office_store_testing_tables.specs.steps.ReadsOnly.{BeginsOurs};
+ghost use Rattle.office_store_testing_tables.specs.steps.Faults.{NeverBad};
 ghost use Rattle.office_store_testing_tables.specs.steps.Tables.{Lasts};
-ghost use Rattle.office_store_testing_tables.specs.steps.StepsWithin.{StepsWithin, BeginsInside, Yields};
+ghost use Rattle.office_store_testing_tables.specs.steps.StepsWithin.{BeginsInside, DoesWell};
 ghost use Rattle.office_store_testing_tables.specs.Legible.{SaysOnce};
 ghost use Rattle.testing_rules_model.specs.steps.InOrder.{IsInOrder};
 ghost use Rattle.office_store_testing_tables.specs.TableContent.{release_place};
@@ -28,12 +30,10 @@ fn write_run<S: Alter>(
     done: &Finished,
     said: &Said,
 ) -> Result<usize, KeepFault>
-    requires inside { BeginsInside S.Store tx.old.conn }
-    ensures steps { StepsWithin S.Store tx.old.conn tx.new.conn result }
+    requires { BeginsInside S.Store tx.old.conn }
+    ensures does { DoesWell S.Store tx.old.conn tx.new.conn result (λ db next _. WritesRun release db next run done.now (with_count run said.now)) }
     ensures ordered { OnOk result (IsInOrder done.now.testing.sources done.now.testing.rows) }
     ensures texts { OnOk result (IsUtf8 done.now.excuses × IsUtf8 done.now.updates) }
-    ensures done { Yields S.Store tx.old.conn tx.new.conn result (λ db next _. WritesRun release db next run done.now (with_count run said.now)) }
-    ensures bad { result ≢ Err (KeepFault.Store Cause.BadRow) }
 {
     set_sources(tx, done.testing.sources())?;
     set_rows(tx, done.testing.rows())?;
@@ -53,12 +53,12 @@ fn commit_run<S: Alter>(
     done: &Finished,
     said: &Said,
 ) -> Result<(), KeepFault>
-    requires ours { IsTrusted (state S.Store conn.old) → IsOurs (state S.Store conn.old) }
+    requires ours { BeginsOurs S.Store conn.old }
     ensures before { IsTrusted (state S.Store conn.new) → IsTrusted (state S.Store conn.old) }
     ensures lasts { Lasts (state S.Store conn.old) (state S.Store conn.new) }
     ensures open { HasCleanDisk (state S.Store conn.new) → IsTrusted (state S.Store conn.old) → OnOk result (IsTrusted (state S.Store conn.new)) }
     ensures ours { IsTrusted (state S.Store conn.new) → IsOurs (state S.Store conn.new) }
-    ensures bad { result ≢ Err (KeepFault.Store Cause.BadRow) }
+    ensures bad { NeverBad result }
     ensures ordered { OnOk result (IsInOrder done.now.testing.sources done.now.testing.rows) }
     ensures texts { OnOk result (IsUtf8 done.now.excuses × IsUtf8 done.now.updates) }
     ensures done { IsTrusted (state S.Store conn.new) → OnOk result (WritesRun release (state S.Store conn.old).now.trees (state S.Store conn.new).now.trees run done.now (with_count run said.now)) }

@@ -15,7 +15,7 @@ ghost use Rattle.office_store_testing_tables.specs.Tables.{IsTrusted, said_in as
 ghost use Rattle.office_store_testing_tables.specs.steps.TableSteps.{IsOnlyOffice, IsOnlyRun, AddsRun, Silences, SaysMore, RecordsRun, office_columns, is_run, run_columns, rowid_column};
 ghost use Rattle.office_store_tables.specs.steps.Reading.{IsRecorded};
 ghost use Rattle.office_store_testing_tables.specs.steps.ReadsOnly.{ReadsOnly, BeginsOurs, Finds};
-ghost use Rattle.office_store_testing_tables.specs.steps.StepsWithin.{StepsWithin, BeginsInside, Yields};
+ghost use Rattle.office_store_testing_tables.specs.steps.StepsWithin.{BeginsInside, Does};
 
 use deb_control::Text;
 use office_store_keeper::{Cause, KeepFault, Reports};
@@ -234,9 +234,8 @@ fn add_run<S: Alter>(
     excuses: &str,
     updates: &str,
 ) -> Result<usize, Error>
-    requires inside { BeginsInside S.Store tx.old.conn }
-    ensures steps { StepsWithin S.Store tx.old.conn tx.new.conn result }
-    ensures added { Yields S.Store tx.old.conn tx.new.conn result (λ db next _. AddsRun db next number (record { excuses = excuses.now; updates = updates.now })) }
+    requires { BeginsInside S.Store tx.old.conn }
+    ensures { Does S.Store tx.old.conn tx.new.conn result (λ db next _. AddsRun db next number (record { excuses = excuses.now; updates = updates.now })) }
 {
     tx.execute(
         "INSERT INTO run (number, excuses, updates) VALUES (?1, ?2, ?3)",
@@ -246,9 +245,8 @@ fn add_run<S: Alter>(
 
 /// Removes the office's row.
 pub fn clear_office<S: Alter>(tx: &mut Transaction<'_, S>) -> Result<usize, Error>
-    requires inside { BeginsInside S.Store tx.old.conn }
-    ensures steps { StepsWithin S.Store tx.old.conn tx.new.conn result }
-    ensures cleared { Yields S.Store tx.old.conn tx.new.conn result (λ db next _. Silences db next) }
+    requires { BeginsInside S.Store tx.old.conn }
+    ensures { Does S.Store tx.old.conn tx.new.conn result (λ db next _. Silences db next) }
 {
     tx.execute("DELETE FROM office", &[])
 }
@@ -260,9 +258,8 @@ pub fn add_office<S: Alter>(
     setup: &str,
     finished: u32,
 ) -> Result<usize, Error>
-    requires inside { BeginsInside S.Store tx.old.conn }
-    ensures steps { StepsWithin S.Store tx.old.conn tx.new.conn result }
-    ensures added { Yields S.Store tx.old.conn tx.new.conn result (λ db next _. SaysMore db next (record { schema = schema; setup = setup.now; finished = finished })) }
+    requires { BeginsInside S.Store tx.old.conn }
+    ensures { Does S.Store tx.old.conn tx.new.conn result (λ db next _. SaysMore db next (record { schema = schema; setup = setup.now; finished = finished })) }
 {
     tx.execute(
         "INSERT INTO office (id, schema, setup, finished) VALUES (1, ?1, ?2, ?3)",
@@ -279,9 +276,8 @@ pub(crate) fn record_run<S: Alter>(
     schema: u32,
     setup: &str,
 ) -> Result<usize, Error>
-    requires inside { BeginsInside S.Store tx.old.conn }
-    ensures steps { StepsWithin S.Store tx.old.conn tx.new.conn result }
-    ensures done { Yields S.Store tx.old.conn tx.new.conn result (λ db next _. RecordsRun db next number (record { excuses = excuses.now; updates = updates.now }) (record { schema = schema; setup = setup.now; finished = number })) }
+    requires { BeginsInside S.Store tx.old.conn }
+    ensures { Does S.Store tx.old.conn tx.new.conn result (λ db next _. RecordsRun db next number (record { excuses = excuses.now; updates = updates.now }) (record { schema = schema; setup = setup.now; finished = number })) }
 {
     let _reports = add_run(tx, number, excuses, updates)?;
     let _old = clear_office(tx)?;

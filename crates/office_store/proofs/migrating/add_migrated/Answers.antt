@@ -1,4 +1,4 @@
 use Rattle.office_store.proofs.migrating.add_migrated.Goals as goal
 
-pub returns-clause-added : goal.returns-clause-added
-returns-clause-added g c trusted = c.add_office.ensures.added trusted
+pub returns : goal.returns
+returns g c = record { steps = c.add_office.ensures.steps; yields = c.add_office.ensures.yields }

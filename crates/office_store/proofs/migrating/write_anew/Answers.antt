@@ -8,7 +8,7 @@ returns-clause-written g c trusted =
     let second = c.in_ok-added.ensures.steps.before trusted in
     let first = c.in_ok-_old.ensures.steps.before second in
     writes_anew (state g.S.Store c.args.tx.now.conn.now).now.trees (state g.S.Store c.put_last.new.tx.conn.now).now.trees (state g.S.Store c.clear_office.new.tx.conn.now).now.trees (state g.S.Store c.add_migrated.new.tx.conn.now).now.trees
-    c.args.last (record { schema = 2; setup = c.args.setup.now; finished = c.args.finished }) (c.in_ok-put_last.ensures.put first) (c.in_ok-_old.ensures.cleared second) (c.in_ok-added.ensures.added trusted)
+    c.args.last (record { schema = 2; setup = c.args.setup.now; finished = c.args.finished }) (c.in_ok-put_last.ensures.yields first) (c.in_ok-_old.ensures.yields second) (c.in_ok-added.ensures.yields trusted)
 
 pub returns-in_err-_old-clause-steps : goal.returns-in_err-_old-clause-steps
 returns-in_err-_old-clause-steps g c = then_within _ c.in_ok-put_last.ensures.steps (failed_within _ c.from_residual-in_err-_old.ensures.0 c.in_err-_old.ensures.steps)

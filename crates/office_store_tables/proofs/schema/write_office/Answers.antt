@@ -7,7 +7,7 @@ pub returns-clause-blank : goal.returns-clause-blank
 returns-clause-blank g c trusted =
     blank (state g.S.Store c.args.tx.now.conn.now) (state g.S.Store c.create_all.new.tx.conn.now) (state g.S.Store c.add_office.new.tx.conn.now).now.trees
     (record { schema = 2; setup = c.args.setup.now; finished = 0 })
-    (c.in_ok-_made.ensures.made (c.in_ok-added.ensures.steps.before trusted)) (c.in_ok-added.ensures.added trusted)
+    (c.in_ok-_made.ensures.made (c.in_ok-added.ensures.steps.before trusted)) (c.in_ok-added.ensures.yields trusted)
 
 pub returns-clause-steps : goal.returns-clause-steps
 returns-clause-steps g c =
