@@ -5,8 +5,8 @@ ghost use Rattle.std.specs.Prelude.{is_ok, ◌≡◌, ◌<◌, Ok, IfOk, length}
 ghost use Rattle.std.specs.FinMap.{get};
 ghost use Rattle.office_mail.specs.Kept.{place_of};
 ghost use Rattle.office_core_orders.specs.Counted.{CountedDelivery};
-ghost use Rattle.office_core_orders.specs.StaysTrusted.{StaysTrusted};
 ghost use Rattle.office_core_facts.specs.State.{AnswersDelivery, answer_at, answer_to};
+ghost use Rattle.office_core.specs.steps.ChangesStore.{ChangesStore};
 
 use crate::posting::compare;
 use office_core_orders::{DeliverFault, Held, stored};
@@ -23,10 +23,7 @@ fn answer_message<K: Keeper>(
     ensures answer { K.is_trusted keeper.new → AnswersDelivery result (answer_at text.now message.now (get (K.content keeper.old).kept (place_of message.now))) }
     ensures held { IfOk result (λ held. held.sender ≡ message.now.sender) }
     ensures same { K.is_trusted keeper.new → K.content keeper.new ≡ K.content keeper.old }
-    ensures setup { K.setup keeper.new ≡ K.setup keeper.old }
-    ensures before { K.is_trusted keeper.new → K.is_trusted keeper.old }
-    ensures legible { K.is_trusted keeper.new → K.is_legible keeper.old → K.is_legible keeper.new }
-    ensures lasts { StaysTrusted K.Keeper keeper.old keeper.new (is_ok result) }
+    ensures carries { ChangesStore K.Keeper keeper.old keeper.new (is_ok result) }
     ensures counted { CountedDelivery (K.refusals keeper.old) (K.refusals keeper.new) result }
 {
     let held = Held {
@@ -49,10 +46,7 @@ pub fn answer<K: Keeper>(
     ensures answer { K.is_trusted keeper.new → AnswersDelivery result (answer_to setup.now (K.content keeper.old).kept text.now) }
     ensures place { IfOk result (λ held. held.sender < length setup.now.senders) }
     ensures same { K.is_trusted keeper.new → K.content keeper.new ≡ K.content keeper.old }
-    ensures setup { K.setup keeper.new ≡ K.setup keeper.old }
-    ensures before { K.is_trusted keeper.new → K.is_trusted keeper.old }
-    ensures legible { K.is_trusted keeper.new → K.is_legible keeper.old → K.is_legible keeper.new }
-    ensures lasts { StaysTrusted K.Keeper keeper.old keeper.new (is_ok result) }
+    ensures carries { ChangesStore K.Keeper keeper.old keeper.new (is_ok result) }
     ensures counted { CountedDelivery (K.refusals keeper.old) (K.refusals keeper.new) result }
 {
     match read_message(alloc, setup, text) {

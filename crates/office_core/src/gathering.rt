@@ -8,10 +8,10 @@ ghost use Rattle.office_mail.specs.Kept.{kept_from, place_of, IsPlace, Within};
 ghost use Rattle.office_mail.specs.Read.{read};
 ghost use Rattle.office_core_orders.specs.Counted.{Counted};
 ghost use Rattle.office_core.specs.steps.Asked.{AreFreeFrom};
+ghost use Rattle.office_core.specs.steps.ChangesStore.{ChangesStore};
 ghost use Rattle.office_core.specs.steps.GatherSteps.{ArePlaced, Gathers, TakesText, letter_of, own_text};
 ghost use Rattle.office_core.specs.Together.{AreHeldHere, answers_to};
 ghost use Rattle.office_core_orders.specs.steps.ReadsStore.{ReadsStore};
-ghost use Rattle.office_core_orders.specs.StaysTrusted.{StaysTrusted};
 ghost use Rattle.office_core_facts.specs.State.{IsOffice};
 
 use crate::asked::{NextFree, find};
@@ -165,10 +165,7 @@ fn keep_letters<K: Keeper>(keeper: &mut K, letters: &[NewLetter]) -> Result<bool
     ensures reports { K.is_trusted keeper.new → (K.content keeper.new).reports ≡ (K.content keeper.old).reports }
     ensures facts { K.is_trusted keeper.new → (K.content keeper.new).facts ≡ (K.content keeper.old).facts }
     ensures err { K.is_trusted keeper.new → OnErr result (K.content keeper.new ≡ K.content keeper.old) }
-    ensures setup { K.setup keeper.new ≡ K.setup keeper.old }
-    ensures before { K.is_trusted keeper.new → K.is_trusted keeper.old }
-    ensures legible { K.is_trusted keeper.new → K.is_legible keeper.old → K.is_legible keeper.new }
-    ensures lasts { StaysTrusted K.Keeper keeper.old keeper.new (is_ok result) }
+    ensures carries { ChangesStore K.Keeper keeper.old keeper.new (is_ok result) }
     ensures counted { Counted (K.refusals keeper.old) (K.refusals keeper.new) result }
 {
     if letters.is_empty() {
@@ -195,10 +192,7 @@ pub fn keep_texts<K: Keeper>(
     ensures err { K.is_trusted keeper.new → OnErr result (K.content keeper.new ≡ K.content keeper.old) }
     ensures each { IfOk result (λ replies. IfSome replies (λ rs. length rs.items ≡ length texts.now)) }
     ensures places { IfOk result (λ replies. IfSome replies (λ rs. AreHeldHere setup.now rs.items)) }
-    ensures setup { K.setup keeper.new ≡ K.setup keeper.old }
-    ensures before { K.is_trusted keeper.new → K.is_trusted keeper.old }
-    ensures legible { K.is_trusted keeper.new → K.is_legible keeper.old → K.is_legible keeper.new }
-    ensures lasts { StaysTrusted K.Keeper keeper.old keeper.new (is_ok result) }
+    ensures carries { ChangesStore K.Keeper keeper.old keeper.new (is_ok result) }
     ensures counted { Counted (K.refusals keeper.old) (K.refusals keeper.new) result }
 {
     let mut block = Batch {

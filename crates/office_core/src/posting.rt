@@ -6,8 +6,8 @@ ghost use Rattle.std.specs.FinMap.{get};
 ghost use Rattle.office_mail.specs.Kept.{kept_from, place_of, IsPlace, Within};
 ghost use Rattle.office_mail.specs.Read.{read};
 ghost use Rattle.office_core_orders.specs.Counted.{CountedDelivery};
-ghost use Rattle.office_core_orders.specs.StaysTrusted.{StaysTrusted};
 ghost use Rattle.office_core_facts.specs.State.{AnswersDelivery, IsOffice, answer_at, answer_to};
+ghost use Rattle.office_core.specs.steps.ChangesStore.{ChangesStore};
 
 use office_core_orders::{DeliverFault, Held, stored};
 use office_mail::{MailFault, Message, Setup, read_message};
@@ -43,10 +43,7 @@ fn post<K: Keeper>(
     ensures office { K.is_trusted keeper.new → K.is_legible keeper.old → IsOffice setup.now (K.content keeper.old) → IsOffice setup.now (K.content keeper.new) }
     ensures err { K.is_trusted keeper.new → OnErr result (K.content keeper.new ≡ K.content keeper.old) }
     ensures held { IfOk result (λ held. held.sender ≡ message.now.sender) }
-    ensures setup { K.setup keeper.new ≡ K.setup keeper.old }
-    ensures before { K.is_trusted keeper.new → K.is_trusted keeper.old }
-    ensures legible { K.is_trusted keeper.new → K.is_legible keeper.old → K.is_legible keeper.new }
-    ensures lasts { StaysTrusted K.Keeper keeper.old keeper.new (is_ok result) }
+    ensures carries { ChangesStore K.Keeper keeper.old keeper.new (is_ok result) }
     ensures counted { CountedDelivery (K.refusals keeper.old) (K.refusals keeper.new) result }
 {
     let held = Held {
@@ -95,10 +92,7 @@ pub fn deliver<K: Keeper>(
     ensures office { K.is_trusted keeper.new → K.is_legible keeper.old → IsOffice setup.now (K.content keeper.old) → IsOffice setup.now (K.content keeper.new) }
     ensures err { K.is_trusted keeper.new → OnErr result (K.content keeper.new ≡ K.content keeper.old) }
     ensures place { IfOk result (λ held. held.sender < length setup.now.senders) }
-    ensures setup { K.setup keeper.new ≡ K.setup keeper.old }
-    ensures before { K.is_trusted keeper.new → K.is_trusted keeper.old }
-    ensures legible { K.is_trusted keeper.new → K.is_legible keeper.old → K.is_legible keeper.new }
-    ensures lasts { StaysTrusted K.Keeper keeper.old keeper.new (is_ok result) }
+    ensures carries { ChangesStore K.Keeper keeper.old keeper.new (is_ok result) }
     ensures counted { CountedDelivery (K.refusals keeper.old) (K.refusals keeper.new) result }
 {
     match read_shared(alloc, setup, text) {

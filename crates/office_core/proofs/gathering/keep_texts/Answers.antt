@@ -11,7 +11,7 @@ returns-then-branch-clause-within g c = λ trusted.
     let gathered = c.in_ok-gather_all.ensures in
     let kept = c.in_ok-keep_letters.ensures in
     let letters = c.gather_all.new.block.letters.items in
-    let earlier = kept.before trusted in
+    let earlier = kept.carries.before trusted in
     let put : new.kept ≡ with_letters (g.K.Keeper.content c.gather_all.new.keeper).kept letters = rw (c.if-branch.true, c.deref.ensures.value) at (kept.mail trusted) in
     Within-mail old.kept new.kept letters (gathered.gathers earlier).free (put ∙ ap (λ (m : Content). with_letters m.kept letters) (gathered.looks.same earlier))
 
@@ -22,7 +22,7 @@ returns-then-branch-clause-office g c = λ trusted legible office.
     let gathered = c.in_ok-gather_all.ensures in
     let kept = c.in_ok-keep_letters.ensures in
     let letters = c.gather_all.new.block.letters.items in
-    let earlier = kept.before trusted in
+    let earlier = kept.carries.before trusted in
     let put : new ≡ with_mail (g.K.Keeper.content c.gather_all.new.keeper) letters = rw (c.if-branch.true, c.deref.ensures.value) at (kept.kept trusted (gathered.looks.legible earlier legible)) in
     IsOffice-mail c.args.setup.now old new letters c.gather_all.new.block.replies.items c.args.texts.now office (gathered.gathers earlier) gathered.placed
     (put ∙ ap (λ (m : Content). with_mail m letters) (gathered.looks.same earlier))
