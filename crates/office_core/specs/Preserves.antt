@@ -1,7 +1,9 @@
 -- What a call on an office preserves of what is known of its store.
-use Rattle.std.specs.Prelude.{◌≡◌, ℕ, ◌≤◌, false, min}
+use Rattle.std.specs.Prelude.{◌≡◌, ℕ, ◌≤◌, false, min, Result, is_ok}
 use Rattle.office_mail.specs.Counts.{HasRisen, most}
 use Rattle.office_store_keeper.specs.declared.keeping.Keeper.{Ghosts}
+use Rattle.office_core_orders.specs.declared.faults.StoreFault.{StoreFault}
+use Rattle.office_core_orders.specs.Counted.{Counted}
 use Rattle.office_core_orders.specs.StaysTrusted.{StaysTrusted}
 use Rattle.office_core_facts.specs.State.{IsSound}
 
@@ -30,3 +32,15 @@ pub record Preserves {K : Type 0} (keeper : Ghosts K) (old new : K) : Type 0 whe
 pub record Asks {K : Type 0} (keeper : Ghosts K) (old new : K) : Type 0 where
   pub carries : Preserves keeper old new
   pub same : keeper.is_trusted new → keeper.content new ≡ keeper.content old
+
+-- The store counts its refusals. If nobody else writes it, it stays trusted unless its disk failed.
+pub record ChangesOffice {K T : Type 0} (keeper : Ghosts K) (old new : K) (result : Result T StoreFault) : Type 0 where
+  pub carries : Preserves keeper old new
+  pub lasts : StaysTrusted keeper old new (is_ok result)
+  pub counted : Counted (keeper.refusals old) (keeper.refusals new) result
+
+-- the same of a question to an office, which leaves what is kept
+pub record AsksOffice {K T : Type 0} (keeper : Ghosts K) (old new : K) (result : Result T StoreFault) : Type 0 where
+  pub asks : Asks keeper old new
+  pub lasts : StaysTrusted keeper old new (is_ok result)
+  pub counted : Counted (keeper.refusals old) (keeper.refusals new) result

@@ -9,9 +9,10 @@ ghost use Rattle.office_mail.specs.Kept.{kept_from};
 ghost use Rattle.office_mail.specs.Runs.{IsReady, IsReadyCount, latest_day, order_at, orders_to};
 ghost use Rattle.office_store_keeper.specs.Content.{IsNextNumber};
 ghost use Rattle.office_store_keeper.specs.Provenance.{AreOwnTexts};
-ghost use Rattle.office_core_orders.specs.Counted.{Counted, CountedDelivery};
+ghost use Rattle.office_core_orders.specs.Counted.{CountedDelivery};
 ghost use Rattle.office_core.specs.History.{Leads, deliveries, delivery, settling};
 ghost use Rattle.office_core.specs.Laws.{RunsStand};
+ghost use Rattle.office_core.specs.Preserves.{Asks, AsksOffice, ChangesOffice, Holds, Preserves};
 ghost use Rattle.office_core.specs.Together.{AreHeldHere, answers_to};
 ghost use Rattle.office_core.specs.Unbroken.{AreUnbroken};
 ghost use Rattle.office_core_orders.specs.StaysTrusted.{StaysTrusted};
@@ -119,14 +120,9 @@ impl<K: Keeper> Office<K> {
 
     /// The number of finished runs. It fails only if memory runs out or the store fails.
     pub fn finished(&mut self) -> Result<u32, StoreFault>
-        ensures finished { K.is_trusted self.new → IsSound K.Keeper self.old → IfOk result (λ n. n ≡ (state_of K.Keeper self.old).finished) }
-        ensures ready { K.is_trusted self.new → IsSound K.Keeper self.old → IsReady (K.setup self.old) (K.content self.old).kept (state_of K.Keeper self.old).finished }
-        ensures same { K.is_trusted self.new → K.content self.new ≡ K.content self.old }
-        ensures setup { K.setup self.new ≡ K.setup self.old }
-        ensures sound { K.is_trusted self.new → IsSound K.Keeper self.old → IsSound K.Keeper self.new }
-        ensures before { K.is_trusted self.new → K.is_trusted self.old }
-        ensures lasts { StaysTrusted K.Keeper self.old self.new (is_ok result) }
-        ensures counted { Counted (K.refusals self.old) (K.refusals self.new) result }
+        ensures finished { Holds K.Keeper self.old self.new → IfOk result (λ n. n ≡ (state_of K.Keeper self.old).finished) }
+        ensures ready { Holds K.Keeper self.old self.new → IsReady (K.setup self.old) (K.content self.old).kept (state_of K.Keeper self.old).finished }
+        ensures asks { AsksOffice K.Keeper self.old self.new result }
     {
         stored::finished(&mut self.keeper)
     }
@@ -139,18 +135,16 @@ impl<K: Keeper> Office<K> {
     /// or the store fails.
     pub fn deliver(&mut self, text: &[u8]) -> Result<Held, DeliverFault>
         // The answer is a function of the text and of what is kept, unless memory ran out or the store failed.
-        ensures step { K.is_trusted self.new → IsSound K.Keeper self.old → Leads (K.setup self.old) (K.content self.old) (delivery text.now result ∷ []) (K.content self.new) }
-        ensures answer { K.is_trusted self.new → IsSound K.Keeper self.old → AnswersDelivery result (answer_to (K.setup self.old) (K.content self.old).kept text.now) }
-        ensures kept { K.is_trusted self.new → IsSound K.Keeper self.old → OnOk result ((K.content self.new).kept ≡ kept_from (K.setup self.old) (K.content self.old).kept (text.now ∷ [])) }
-        ensures finished { K.is_trusted self.new → IsSound K.Keeper self.old → (state_of K.Keeper self.new).finished ≡ (state_of K.Keeper self.old).finished }
+        ensures step { Holds K.Keeper self.old self.new → Leads (K.setup self.old) (K.content self.old) (delivery text.now result ∷ []) (K.content self.new) }
+        ensures answer { Holds K.Keeper self.old self.new → AnswersDelivery result (answer_to (K.setup self.old) (K.content self.old).kept text.now) }
+        ensures kept { Holds K.Keeper self.old self.new → OnOk result ((K.content self.new).kept ≡ kept_from (K.setup self.old) (K.content self.old).kept (text.now ∷ [])) }
+        ensures finished { Holds K.Keeper self.old self.new → (state_of K.Keeper self.new).finished ≡ (state_of K.Keeper self.old).finished }
         // No delivery changes testing or a report.
-        ensures testing { K.is_trusted self.new → IsSound K.Keeper self.old → (K.content self.new).testing ≡ (K.content self.old).testing }
-        ensures reports { K.is_trusted self.new → IsSound K.Keeper self.old → (K.content self.new).reports ≡ (K.content self.old).reports }
-        ensures err { K.is_trusted self.new → IsSound K.Keeper self.old → OnErr result (K.content self.new ≡ K.content self.old) }
-        ensures setup { K.setup self.new ≡ K.setup self.old }
+        ensures testing { Holds K.Keeper self.old self.new → (K.content self.new).testing ≡ (K.content self.old).testing }
+        ensures reports { Holds K.Keeper self.old self.new → (K.content self.new).reports ≡ (K.content self.old).reports }
+        ensures err { Holds K.Keeper self.old self.new → OnErr result (K.content self.new ≡ K.content self.old) }
         ensures place { IfOk result (λ held. held.sender < length (K.setup self.old).senders) }
-        ensures sound { K.is_trusted self.new → IsSound K.Keeper self.old → IsSound K.Keeper self.new }
-        ensures before { K.is_trusted self.new → K.is_trusted self.old }
+        ensures carries { Preserves K.Keeper self.old self.new }
         ensures lasts { StaysTrusted K.Keeper self.old self.new (is_ok result) }
         ensures counted { CountedDelivery (K.refusals self.old) (K.refusals self.new) result }
     {
@@ -161,12 +155,9 @@ impl<K: Keeper> Office<K> {
 
     /// What `deliver` would answer to a text now. Nothing is kept.
     pub fn answer(&mut self, text: &[u8]) -> Result<Held, DeliverFault>
-        ensures answer { K.is_trusted self.new → IsSound K.Keeper self.old → AnswersDelivery result (answer_to (K.setup self.old) (K.content self.old).kept text.now) }
-        ensures same { K.is_trusted self.new → K.content self.new ≡ K.content self.old }
-        ensures setup { K.setup self.new ≡ K.setup self.old }
+        ensures answer { Holds K.Keeper self.old self.new → AnswersDelivery result (answer_to (K.setup self.old) (K.content self.old).kept text.now) }
         ensures place { IfOk result (λ held. held.sender < length (K.setup self.old).senders) }
-        ensures sound { K.is_trusted self.new → IsSound K.Keeper self.old → IsSound K.Keeper self.new }
-        ensures before { K.is_trusted self.new → K.is_trusted self.old }
+        ensures asks { Asks K.Keeper self.old self.new }
         ensures lasts { StaysTrusted K.Keeper self.old self.new (is_ok result) }
         ensures counted { CountedDelivery (K.refusals self.old) (K.refusals self.new) result }
     {
@@ -181,22 +172,18 @@ impl<K: Keeper> Office<K> {
     /// Takes texts in order, like `deliver`, keeps them together, and answers each. There is no answer if the store
     /// keeps them best one by one. Nothing changes then, nor if memory runs out or the store fails.
     pub fn deliver_together(&mut self, texts: &[MailText]) -> Result<Option<Vec<Reply>>, StoreFault>
-        ensures steps { K.is_trusted self.new → IsSound K.Keeper self.old → IfOk result (λ replies. IfSome replies (λ rs. Leads (K.setup self.old) (K.content self.old) (deliveries texts.now rs.items) (K.content self.new))) }
-        ensures answers { K.is_trusted self.new → IsSound K.Keeper self.old → IfOk result (λ replies. IfSome replies (λ rs. rs.items ≡ answers_to (K.setup self.old) (K.content self.old).kept texts.now)) }
-        ensures kept { K.is_trusted self.new → IsSound K.Keeper self.old → IfOk result (λ replies. IfSome replies (λ rs. (K.content self.new).kept ≡ kept_from (K.setup self.old) (K.content self.old).kept texts.now)) }
-        ensures none { K.is_trusted self.new → IsSound K.Keeper self.old → IfOk result (λ replies. replies ≡ None → K.content self.new ≡ K.content self.old) }
-        ensures err { K.is_trusted self.new → IsSound K.Keeper self.old → OnErr result (K.content self.new ≡ K.content self.old) }
-        ensures finished { K.is_trusted self.new → IsSound K.Keeper self.old → (state_of K.Keeper self.new).finished ≡ (state_of K.Keeper self.old).finished }
-        ensures testing { K.is_trusted self.new → IsSound K.Keeper self.old → (K.content self.new).testing ≡ (K.content self.old).testing }
-        ensures reports { K.is_trusted self.new → IsSound K.Keeper self.old → (K.content self.new).reports ≡ (K.content self.old).reports }
-        ensures facts { K.is_trusted self.new → IsSound K.Keeper self.old → (K.content self.new).facts ≡ (K.content self.old).facts }
+        ensures steps { Holds K.Keeper self.old self.new → IfOk result (λ replies. IfSome replies (λ rs. Leads (K.setup self.old) (K.content self.old) (deliveries texts.now rs.items) (K.content self.new))) }
+        ensures answers { Holds K.Keeper self.old self.new → IfOk result (λ replies. IfSome replies (λ rs. rs.items ≡ answers_to (K.setup self.old) (K.content self.old).kept texts.now)) }
+        ensures kept { Holds K.Keeper self.old self.new → IfOk result (λ replies. IfSome replies (λ rs. (K.content self.new).kept ≡ kept_from (K.setup self.old) (K.content self.old).kept texts.now)) }
+        ensures none { Holds K.Keeper self.old self.new → IfOk result (λ replies. replies ≡ None → K.content self.new ≡ K.content self.old) }
+        ensures err { Holds K.Keeper self.old self.new → OnErr result (K.content self.new ≡ K.content self.old) }
+        ensures finished { Holds K.Keeper self.old self.new → (state_of K.Keeper self.new).finished ≡ (state_of K.Keeper self.old).finished }
+        ensures testing { Holds K.Keeper self.old self.new → (K.content self.new).testing ≡ (K.content self.old).testing }
+        ensures reports { Holds K.Keeper self.old self.new → (K.content self.new).reports ≡ (K.content self.old).reports }
+        ensures facts { Holds K.Keeper self.old self.new → (K.content self.new).facts ≡ (K.content self.old).facts }
         ensures each { IfOk result (λ replies. IfSome replies (λ rs. length rs.items ≡ length texts.now)) }
         ensures places { IfOk result (λ replies. IfSome replies (λ rs. AreHeldHere (K.setup self.old) rs.items)) }
-        ensures setup { K.setup self.new ≡ K.setup self.old }
-        ensures sound { K.is_trusted self.new → IsSound K.Keeper self.old → IsSound K.Keeper self.new }
-        ensures before { K.is_trusted self.new → K.is_trusted self.old }
-        ensures lasts { StaysTrusted K.Keeper self.old self.new (is_ok result) }
-        ensures counted { Counted (K.refusals self.old) (K.refusals self.new) result }
+        ensures changes { ChangesOffice K.Keeper self.old self.new result }
     {
         let replies = keep_texts(self.alloc, &self.setup, &mut self.keeper, texts);
         count_replies(&mut self.counts, &replies);
@@ -206,26 +193,22 @@ impl<K: Keeper> Office<K> {
     /// Finishes the ready runs, in order. `Ok` means that none is left. It fails only if memory runs out or the store
     /// fails.
     pub fn settle(&mut self) -> Result<Progress, StoreFault>
-        ensures steps { K.is_trusted self.new → IsSound K.Keeper self.old → Leads (K.setup self.old) (K.content self.old) (settling (length (K.content self.new).reports - length (K.content self.old).reports) result) (K.content self.new) }
-        ensures ready { K.is_trusted self.new → IsSound K.Keeper self.old → IfOk result (λ progress. IsReadyCount (K.setup self.old) (K.content self.old).kept progress.ready) }
-        ensures finished { K.is_trusted self.new → IsSound K.Keeper self.old → IfOk result (λ progress. (progress.finished ≡ progress.ready) × ((state_of K.Keeper self.new).finished ≡ progress.ready)) }
+        ensures steps { Holds K.Keeper self.old self.new → Leads (K.setup self.old) (K.content self.old) (settling (length (K.content self.new).reports - length (K.content self.old).reports) result) (K.content self.new) }
+        ensures ready { Holds K.Keeper self.old self.new → IfOk result (λ progress. IsReadyCount (K.setup self.old) (K.content self.old).kept progress.ready) }
+        ensures finished { Holds K.Keeper self.old self.new → IfOk result (λ progress. (progress.finished ≡ progress.ready) × ((state_of K.Keeper self.new).finished ≡ progress.ready)) }
 
         // On a fault some of the ready runs, the first ones, may have finished.
-        ensures kept { K.is_trusted self.new → IsSound K.Keeper self.old → (K.content self.new).kept ≡ (K.content self.old).kept }
-        ensures grows { K.is_trusted self.new → IsSound K.Keeper self.old → (state_of K.Keeper self.old).finished ≤ (state_of K.Keeper self.new).finished }
-        ensures only_ready { K.is_trusted self.new → IsSound K.Keeper self.old → IsReady (K.setup self.old) (K.content self.old).kept (state_of K.Keeper self.new).finished }
+        ensures kept { Holds K.Keeper self.old self.new → (K.content self.new).kept ≡ (K.content self.old).kept }
+        ensures grows { Holds K.Keeper self.old self.new → (state_of K.Keeper self.old).finished ≤ (state_of K.Keeper self.new).finished }
+        ensures only_ready { Holds K.Keeper self.old self.new → IsReady (K.setup self.old) (K.content self.old).kept (state_of K.Keeper self.new).finished }
         // Finished runs stay, also on a fault: their reports, and testing unless another run finished.
-        ensures runs { K.is_trusted self.new → IsSound K.Keeper self.old → RunsStand (K.content self.old) (K.content self.new) }
+        ensures runs { Holds K.Keeper self.old self.new → RunsStand (K.content self.old) (K.content self.new) }
         // In every state all watched rows of testing are installable.
-        ensures watched { K.is_trusted self.new → IsSound K.Keeper self.old → AllWatchedWork (K.setup self.new).archs (testing_after (K.setup self.new) (K.content self.new).kept (state_of K.Keeper self.new).finished).rows }
+        ensures watched { Holds K.Keeper self.old self.new → AllWatchedWork (K.setup self.new).archs (testing_after (K.setup self.new) (K.content self.new).kept (state_of K.Keeper self.new).finished).rows }
         // Also on a fault the kept rows of facts represent the cover of the last finished run, with exactly the uploads
         // that count in the testing left by it.
-        ensures facts { K.is_trusted self.new → IsSound K.Keeper self.old → KeepsFacts (K.setup self.new) (K.content self.new) }
-        ensures setup { K.setup self.new ≡ K.setup self.old }
-        ensures sound { K.is_trusted self.new → IsSound K.Keeper self.old → IsSound K.Keeper self.new }
-        ensures before { K.is_trusted self.new → K.is_trusted self.old }
-        ensures lasts { StaysTrusted K.Keeper self.old self.new (is_ok result) }
-        ensures counted { Counted (K.refusals self.old) (K.refusals self.new) result }
+        ensures facts { Holds K.Keeper self.old self.new → KeepsFacts (K.setup self.new) (K.content self.new) }
+        ensures changes { ChangesOffice K.Keeper self.old self.new result }
     {
         let finished = settle(
             self.alloc,
@@ -243,14 +226,9 @@ impl<K: Keeper> Office<K> {
 
     /// How many runs are ready, and how many are finished. It fails only if memory runs out or the store fails.
     pub fn status(&mut self) -> Result<Progress, StoreFault>
-        ensures ready { K.is_trusted self.new → IsSound K.Keeper self.old → IfOk result (λ progress. IsReadyCount (K.setup self.old) (K.content self.old).kept progress.ready) }
-        ensures finished { K.is_trusted self.new → IsSound K.Keeper self.old → IfOk result (λ progress. progress.finished ≡ (state_of K.Keeper self.old).finished) }
-        ensures same { K.is_trusted self.new → K.content self.new ≡ K.content self.old }
-        ensures setup { K.setup self.new ≡ K.setup self.old }
-        ensures sound { K.is_trusted self.new → IsSound K.Keeper self.old → IsSound K.Keeper self.new }
-        ensures before { K.is_trusted self.new → K.is_trusted self.old }
-        ensures lasts { StaysTrusted K.Keeper self.old self.new (is_ok result) }
-        ensures counted { Counted (K.refusals self.old) (K.refusals self.new) result }
+        ensures ready { Holds K.Keeper self.old self.new → IfOk result (λ progress. IsReadyCount (K.setup self.old) (K.content self.old).kept progress.ready) }
+        ensures finished { Holds K.Keeper self.old self.new → IfOk result (λ progress. progress.finished ≡ (state_of K.Keeper self.old).finished) }
+        ensures asks { AsksOffice K.Keeper self.old self.new result }
     {
         let finished = stored::finished(&mut self.keeper)?;
         let ready = ready_count(
@@ -266,17 +244,12 @@ impl<K: Keeper> Office<K> {
     /// How many runs are ready and finished, and what the first run that isn't ready waits for. It fails only if memory
     /// runs out or the store fails.
     pub fn waiting(&mut self) -> Result<Waiting, StoreFault>
-        ensures ready { K.is_trusted self.new → IsSound K.Keeper self.old → IfOk result (λ waiting. IsReadyCount (K.setup self.old) (K.content self.old).kept waiting.progress.ready) }
-        ensures finished { K.is_trusted self.new → IsSound K.Keeper self.old → IfOk result (λ waiting. waiting.progress.finished ≡ (state_of K.Keeper self.old).finished) }
-        ensures awaited { K.is_trusted self.new → IsSound K.Keeper self.old → IfOk result (λ waiting. Awaits (K.setup self.old) (K.content self.old).kept (waiting.progress.ready + 1) waiting.awaited) }
+        ensures ready { Holds K.Keeper self.old self.new → IfOk result (λ waiting. IsReadyCount (K.setup self.old) (K.content self.old).kept waiting.progress.ready) }
+        ensures finished { Holds K.Keeper self.old self.new → IfOk result (λ waiting. waiting.progress.finished ≡ (state_of K.Keeper self.old).finished) }
+        ensures awaited { Holds K.Keeper self.old self.new → IfOk result (λ waiting. Awaits (K.setup self.old) (K.content self.old).kept (waiting.progress.ready + 1) waiting.awaited) }
         // If the order is kept, some sender's mail is missing: a run that waits for nothing is ready.
-        ensures some { K.is_trusted self.new → IsSound K.Keeper self.old → IfOk result (λ waiting. AwaitsSome waiting.awaited) }
-        ensures same { K.is_trusted self.new → K.content self.new ≡ K.content self.old }
-        ensures setup { K.setup self.new ≡ K.setup self.old }
-        ensures sound { K.is_trusted self.new → IsSound K.Keeper self.old → IsSound K.Keeper self.new }
-        ensures before { K.is_trusted self.new → K.is_trusted self.old }
-        ensures lasts { StaysTrusted K.Keeper self.old self.new (is_ok result) }
-        ensures counted { Counted (K.refusals self.old) (K.refusals self.new) result }
+        ensures some { Holds K.Keeper self.old self.new → IfOk result (λ waiting. AwaitsSome waiting.awaited) }
+        ensures asks { AsksOffice K.Keeper self.old self.new result }
     {
         waiting(self.alloc, &self.setup, &mut self.keeper, &mut self.counts)
     }
@@ -287,15 +260,10 @@ impl<K: Keeper> Office<K> {
     ///
     /// It fails only if memory runs out or the store fails.
     pub fn hint_told(&mut self, number: u32) -> Result<Option<HintText>, StoreFault>
-        ensures told { K.is_trusted self.new → IsSound K.Keeper self.old → IfOk result (λ found. IfSome found (IsHintTold (K.setup self.old) (K.content self.old).kept (state_of K.Keeper self.old).finished number)) }
-        ensures ordered { K.is_trusted self.new → IsSound K.Keeper self.old
+        ensures told { Holds K.Keeper self.old self.new → IfOk result (λ found. IfSome found (IsHintTold (K.setup self.old) (K.content self.old).kept (state_of K.Keeper self.old).finished number)) }
+        ensures ordered { Holds K.Keeper self.old self.new
             → IfOk result (λ found. is_none found ≡ is_none (order_at (K.setup self.old) (K.content self.old).kept ((state_of K.Keeper self.old).finished + 1))) }
-        ensures same { K.is_trusted self.new → K.content self.new ≡ K.content self.old }
-        ensures setup { K.setup self.new ≡ K.setup self.old }
-        ensures sound { K.is_trusted self.new → IsSound K.Keeper self.old → IsSound K.Keeper self.new }
-        ensures before { K.is_trusted self.new → K.is_trusted self.old }
-        ensures lasts { StaysTrusted K.Keeper self.old self.new (is_ok result) }
-        ensures counted { Counted (K.refusals self.old) (K.refusals self.new) result }
+        ensures asks { AsksOffice K.Keeper self.old self.new result }
     {
         let before = self.known.take();
         hint_told(self.alloc, &self.setup, &mut self.keeper, before, number)
@@ -304,13 +272,8 @@ impl<K: Keeper> Office<K> {
     /// What the next run would decide if these hints were covered too, and what it would decide without them. Nothing
     /// is kept, and no run is finished. It fails only if memory runs out or the store fails.
     pub fn try_hints(&mut self, hints: &[Text], terms: TrialOptions) -> Result<Trial, StoreFault>
-        ensures tried { K.is_trusted self.new → IsSound K.Keeper self.old → IfOk result (IsTrial (K.setup self.old) (K.content self.old).kept (state_of K.Keeper self.old).finished terms hints.now) }
-        ensures same { K.is_trusted self.new → K.content self.new ≡ K.content self.old }
-        ensures setup { K.setup self.new ≡ K.setup self.old }
-        ensures sound { K.is_trusted self.new → IsSound K.Keeper self.old → IsSound K.Keeper self.new }
-        ensures before { K.is_trusted self.new → K.is_trusted self.old }
-        ensures lasts { StaysTrusted K.Keeper self.old self.new (is_ok result) }
-        ensures counted { Counted (K.refusals self.old) (K.refusals self.new) result }
+        ensures tried { Holds K.Keeper self.old self.new → IfOk result (IsTrial (K.setup self.old) (K.content self.old).kept (state_of K.Keeper self.old).finished terms hints.now) }
+        ensures asks { AsksOffice K.Keeper self.old self.new result }
     {
         try_hints(
             self.alloc,
@@ -330,15 +293,10 @@ impl<K: Keeper> Office<K> {
         terms: TrialOptions,
         sources: &[Text],
     ) -> Result<Option<Proposal>, StoreFault>
-        ensures proposed { K.is_trusted self.new → IsSound K.Keeper self.old → IfOk result (λ proposal. IfSome proposal (IsProposed (K.setup self.old) (K.content self.old).kept (state_of K.Keeper self.old).finished terms sources.now)) }
-        ensures dated { K.is_trusted self.new → IsSound K.Keeper self.old
+        ensures proposed { Holds K.Keeper self.old self.new → IfOk result (λ proposal. IfSome proposal (IsProposed (K.setup self.old) (K.content self.old).kept (state_of K.Keeper self.old).finished terms sources.now)) }
+        ensures dated { Holds K.Keeper self.old self.new
             → IfOk result (λ proposal. is_none proposal ≡ is_none (trial_date (latest_day (orders_to (K.setup self.old) (K.content self.old).kept (state_of K.Keeper self.old).finished)) terms.day)) }
-        ensures same { K.is_trusted self.new → K.content self.new ≡ K.content self.old }
-        ensures setup { K.setup self.new ≡ K.setup self.old }
-        ensures sound { K.is_trusted self.new → IsSound K.Keeper self.old → IsSound K.Keeper self.new }
-        ensures before { K.is_trusted self.new → K.is_trusted self.old }
-        ensures lasts { StaysTrusted K.Keeper self.old self.new (is_ok result) }
-        ensures counted { Counted (K.refusals self.old) (K.refusals self.new) result }
+        ensures asks { AsksOffice K.Keeper self.old self.new result }
     {
         propose(
             self.alloc,
@@ -352,13 +310,8 @@ impl<K: Keeper> Office<K> {
 
     /// The text of testing, as the last finished run left it. It fails only if memory runs out or the store fails.
     pub fn testing_text(&mut self) -> Result<Text, StoreFault>
-        ensures text { K.is_trusted self.new → IsSound K.Keeper self.old → IfOk result (λ text. text ≡ testing_text (K.setup self.old) (state_of K.Keeper self.old).finished (testing_after (K.setup self.old) (K.content self.old).kept (state_of K.Keeper self.old).finished)) }
-        ensures same { K.is_trusted self.new → K.content self.new ≡ K.content self.old }
-        ensures setup { K.setup self.new ≡ K.setup self.old }
-        ensures sound { K.is_trusted self.new → IsSound K.Keeper self.old → IsSound K.Keeper self.new }
-        ensures before { K.is_trusted self.new → K.is_trusted self.old }
-        ensures lasts { StaysTrusted K.Keeper self.old self.new (is_ok result) }
-        ensures counted { Counted (K.refusals self.old) (K.refusals self.new) result }
+        ensures text { Holds K.Keeper self.old self.new → IfOk result (λ text. text ≡ testing_text (K.setup self.old) (state_of K.Keeper self.old).finished (testing_after (K.setup self.old) (K.content self.old).kept (state_of K.Keeper self.old).finished)) }
+        ensures asks { AsksOffice K.Keeper self.old self.new result }
     {
         let finished = stored::finished(&mut self.keeper)?;
         kept_testing_text(self.alloc, &self.setup, &mut self.keeper, finished)
@@ -366,13 +319,8 @@ impl<K: Keeper> Office<K> {
 
     /// The excuses of a run, none if it isn't finished. It fails only if memory runs out or the store fails.
     pub fn excuses_text(&mut self, run: u32) -> Result<Option<Text>, StoreFault>
-        ensures text { K.is_trusted self.new → IsSound K.Keeper self.old → IfOk result (λ text. text ≡ option_map (λ reports. reports.excuses) (reports_at (state_of K.Keeper self.old) run)) }
-        ensures same { K.is_trusted self.new → K.content self.new ≡ K.content self.old }
-        ensures setup { K.setup self.new ≡ K.setup self.old }
-        ensures sound { K.is_trusted self.new → IsSound K.Keeper self.old → IsSound K.Keeper self.new }
-        ensures before { K.is_trusted self.new → K.is_trusted self.old }
-        ensures lasts { StaysTrusted K.Keeper self.old self.new (is_ok result) }
-        ensures counted { Counted (K.refusals self.old) (K.refusals self.new) result }
+        ensures text { Holds K.Keeper self.old self.new → IfOk result (λ text. text ≡ option_map (λ reports. reports.excuses) (reports_at (state_of K.Keeper self.old) run)) }
+        ensures asks { AsksOffice K.Keeper self.old self.new result }
     {
         let reports = stored::reports(&mut self.keeper, run)?;
         Ok(excuses_in(reports))
@@ -380,13 +328,8 @@ impl<K: Keeper> Office<K> {
 
     /// The update of a run, none if it isn't finished. It fails only if memory runs out or the store fails.
     pub fn update_text(&mut self, run: u32) -> Result<Option<Text>, StoreFault>
-        ensures text { K.is_trusted self.new → IsSound K.Keeper self.old → IfOk result (λ text. text ≡ option_map (λ reports. reports.updates) (reports_at (state_of K.Keeper self.old) run)) }
-        ensures same { K.is_trusted self.new → K.content self.new ≡ K.content self.old }
-        ensures setup { K.setup self.new ≡ K.setup self.old }
-        ensures sound { K.is_trusted self.new → IsSound K.Keeper self.old → IsSound K.Keeper self.new }
-        ensures before { K.is_trusted self.new → K.is_trusted self.old }
-        ensures lasts { StaysTrusted K.Keeper self.old self.new (is_ok result) }
-        ensures counted { Counted (K.refusals self.old) (K.refusals self.new) result }
+        ensures text { Holds K.Keeper self.old self.new → IfOk result (λ text. text ≡ option_map (λ reports. reports.updates) (reports_at (state_of K.Keeper self.old) run)) }
+        ensures asks { AsksOffice K.Keeper self.old self.new result }
     {
         let reports = stored::reports(&mut self.keeper, run)?;
         Ok(update_in(reports))
@@ -396,13 +339,8 @@ impl<K: Keeper> Office<K> {
     /// message, whether a finished run covers it, and the state of the item. Nothing is kept. It fails only if memory
     /// runs out or the store fails.
     pub fn hints_text(&mut self) -> Result<Text, StoreFault>
-        ensures text { K.is_trusted self.new → IsSound K.Keeper self.old → IfOk result (IsHintsText (K.setup self.old) (K.content self.old).kept (state_of K.Keeper self.old).finished) }
-        ensures same { K.is_trusted self.new → K.content self.new ≡ K.content self.old }
-        ensures setup { K.setup self.new ≡ K.setup self.old }
-        ensures sound { K.is_trusted self.new → IsSound K.Keeper self.old → IsSound K.Keeper self.new }
-        ensures before { K.is_trusted self.new → K.is_trusted self.old }
-        ensures lasts { StaysTrusted K.Keeper self.old self.new (is_ok result) }
-        ensures counted { Counted (K.refusals self.old) (K.refusals self.new) result }
+        ensures text { Holds K.Keeper self.old self.new → IfOk result (IsHintsText (K.setup self.old) (K.content self.old).kept (state_of K.Keeper self.old).finished) }
+        ensures asks { AsksOffice K.Keeper self.old self.new result }
     {
         hints_text(self.alloc, &self.setup, &mut self.keeper, &mut self.known)
     }
@@ -410,13 +348,8 @@ impl<K: Keeper> Office<K> {
     /// Unstable over all mail without a gap: its sources and its rows, in the lines of the text of testing. Nothing is
     /// kept. It fails only if memory runs out or the store fails.
     pub fn unstable_text(&mut self) -> Result<Text, StoreFault>
-        ensures text { K.is_trusted self.new → IsSound K.Keeper self.old → IfOk result (IsUnstableText (K.setup self.old) (K.content self.old).kept (state_of K.Keeper self.old).finished) }
-        ensures same { K.is_trusted self.new → K.content self.new ≡ K.content self.old }
-        ensures setup { K.setup self.new ≡ K.setup self.old }
-        ensures sound { K.is_trusted self.new → IsSound K.Keeper self.old → IsSound K.Keeper self.new }
-        ensures before { K.is_trusted self.new → K.is_trusted self.old }
-        ensures lasts { StaysTrusted K.Keeper self.old self.new (is_ok result) }
-        ensures counted { Counted (K.refusals self.old) (K.refusals self.new) result }
+        ensures text { Holds K.Keeper self.old self.new → IfOk result (IsUnstableText (K.setup self.old) (K.content self.old).kept (state_of K.Keeper self.old).finished) }
+        ensures asks { AsksOffice K.Keeper self.old self.new result }
     {
         unstable_text(self.alloc, &self.setup, &mut self.keeper, &mut self.known)
     }
@@ -424,13 +357,8 @@ impl<K: Keeper> Office<K> {
     /// Why a source is where the last finished run left it, and whether unstable has it; none if no run is finished. It
     /// fails only if memory runs out or the store fails.
     pub fn why_text(&mut self, source: &str) -> Result<Option<WhyText>, StoreFault>
-        ensures why { K.is_trusted self.new → IsSound K.Keeper self.old → IfOk result (IsWhy (K.setup self.old) (K.content self.old).kept (state_of K.Keeper self.old).finished source.now) }
-        ensures same { K.is_trusted self.new → K.content self.new ≡ K.content self.old }
-        ensures setup { K.setup self.new ≡ K.setup self.old }
-        ensures sound { K.is_trusted self.new → IsSound K.Keeper self.old → IsSound K.Keeper self.new }
-        ensures before { K.is_trusted self.new → K.is_trusted self.old }
-        ensures lasts { StaysTrusted K.Keeper self.old self.new (is_ok result) }
-        ensures counted { Counted (K.refusals self.old) (K.refusals self.new) result }
+        ensures why { Holds K.Keeper self.old self.new → IfOk result (IsWhy (K.setup self.old) (K.content self.old).kept (state_of K.Keeper self.old).finished source.now) }
+        ensures asks { AsksOffice K.Keeper self.old self.new result }
     {
         why_text(
             self.alloc,
@@ -444,13 +372,8 @@ impl<K: Keeper> Office<K> {
     /// Which rows a change would break where the last finished run left testing, and whether all that is asked for can change;
     /// none where no run is finished. It fails for want of memory or of the store alone.
     pub fn breaks_text(&mut self, question: &Question) -> Result<Option<BreaksText>, StoreFault>
-        ensures breaks { K.is_trusted self.new → IsSound K.Keeper self.old → IfOk result (IsBreaks (K.setup self.old) (K.content self.old).kept (state_of K.Keeper self.old).finished question.now) }
-        ensures same { K.is_trusted self.new → K.content self.new ≡ K.content self.old }
-        ensures setup { K.setup self.new ≡ K.setup self.old }
-        ensures sound { K.is_trusted self.new → IsSound K.Keeper self.old → IsSound K.Keeper self.new }
-        ensures before { K.is_trusted self.new → K.is_trusted self.old }
-        ensures lasts { StaysTrusted K.Keeper self.old self.new (is_ok result) }
-        ensures counted { Counted (K.refusals self.old) (K.refusals self.new) result }
+        ensures breaks { Holds K.Keeper self.old self.new → IfOk result (IsBreaks (K.setup self.old) (K.content self.old).kept (state_of K.Keeper self.old).finished question.now) }
+        ensures asks { AsksOffice K.Keeper self.old self.new result }
     {
         breaks_text(
             self.alloc,
@@ -464,13 +387,8 @@ impl<K: Keeper> Office<K> {
     /// Up to which number each sender's mail is kept without a gap, in the setup's order, 0 where number 1 isn't kept. It fails
     /// for want of memory or of the store alone.
     pub fn unbroken(&mut self) -> Result<Vec<u32>, StoreFault>
-        ensures unbroken { K.is_trusted self.new → IsSound K.Keeper self.old → IfOk result (λ unbroken. AreUnbroken (K.content self.old).kept (slice_index unbroken.items)) }
-        ensures same { K.is_trusted self.new → K.content self.new ≡ K.content self.old }
-        ensures setup { K.setup self.new ≡ K.setup self.old }
-        ensures sound { K.is_trusted self.new → IsSound K.Keeper self.old → IsSound K.Keeper self.new }
-        ensures before { K.is_trusted self.new → K.is_trusted self.old }
-        ensures lasts { StaysTrusted K.Keeper self.old self.new (is_ok result) }
-        ensures counted { Counted (K.refusals self.old) (K.refusals self.new) result }
+        ensures unbroken { Holds K.Keeper self.old self.new → IfOk result (λ unbroken. AreUnbroken (K.content self.old).kept (slice_index unbroken.items)) }
+        ensures asks { AsksOffice K.Keeper self.old self.new result }
     {
         unbroken_counts(self.alloc, &self.setup, &mut self.keeper, &mut self.counts)
     }
@@ -479,12 +397,7 @@ impl<K: Keeper> Office<K> {
     /// memory runs out or the store fails.
     pub fn next_number(&mut self, sender: u32, from: u32) -> Result<Option<u32>, StoreFault>
         ensures next { K.is_trusted self.new → IfOk result (λ number. IsNextNumber (K.content self.old).kept sender from number) }
-        ensures same { K.is_trusted self.new → K.content self.new ≡ K.content self.old }
-        ensures setup { K.setup self.new ≡ K.setup self.old }
-        ensures sound { K.is_trusted self.new → IsSound K.Keeper self.old → IsSound K.Keeper self.new }
-        ensures before { K.is_trusted self.new → K.is_trusted self.old }
-        ensures lasts { StaysTrusted K.Keeper self.old self.new (is_ok result) }
-        ensures counted { Counted (K.refusals self.old) (K.refusals self.new) result }
+        ensures asks { AsksOffice K.Keeper self.old self.new result }
     {
         stored::next_number(&mut self.keeper, sender, from)
     }
@@ -493,12 +406,7 @@ impl<K: Keeper> Office<K> {
     /// out or the store fails.
     pub fn kept_text(&mut self, sender: u32, number: u32) -> Result<Option<MailText>, StoreFault>
         ensures text { K.is_trusted self.new → IfOk result (λ text. text ≡ get (K.content self.old).kept (sender, number)) }
-        ensures same { K.is_trusted self.new → K.content self.new ≡ K.content self.old }
-        ensures setup { K.setup self.new ≡ K.setup self.old }
-        ensures sound { K.is_trusted self.new → IsSound K.Keeper self.old → IsSound K.Keeper self.new }
-        ensures before { K.is_trusted self.new → K.is_trusted self.old }
-        ensures lasts { StaysTrusted K.Keeper self.old self.new (is_ok result) }
-        ensures counted { Counted (K.refusals self.old) (K.refusals self.new) result }
+        ensures asks { AsksOffice K.Keeper self.old self.new result }
     {
         stored::find(&mut self.keeper, sender, number)
     }

@@ -1,19 +1,12 @@
--- What a question to an office leaves of its store, and what it counts.
+-- What a question to an office whose answer is written leaves of its store, and what it counts.
 use Rattle.std.specs.Prelude.{◌≡◌, ℕ, Result, Err, is_ok}
 use Rattle.office_mail.specs.Counts.{HasRisen}
 use Rattle.office_store_keeper.specs.declared.keeping.Keeper.{Ghosts}
 use Rattle.office_core_orders.specs.declared.faults.StoreFault.{StoreFault}
-use Rattle.office_core_orders.specs.Counted.{Counted}
 use Rattle.office_core.specs.Preserves.{Asks}
 use Rattle.office_core_orders.specs.StaysTrusted.{StaysTrusted}
 use Rattle.office_core_queries.specs.declared.faults.AskFault.{AskFault}
 use Rattle.office_core_queries.specs.declared.faults.AskFault.TheVariants.{NoMemory, Store, Write}
-
--- What is kept stays; the store counts its refusals. If nobody else writes it, it stays trusted unless the disk failed.
-pub record AsksOffice {K T : Type 0} (keeper : Ghosts K) (old new : K) (result : Result T StoreFault) : Type 0 where
-  pub asks : Asks keeper old new
-  pub lasts : StaysTrusted keeper old new (is_ok result)
-  pub counted : Counted (keeper.refusals old) (keeper.refusals new) result
 
 -- the name of a fault of the store among those of a writer
 abbrev pub told : StoreFault → AskFault

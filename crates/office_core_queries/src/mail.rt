@@ -1,7 +1,6 @@
 //! How much mail is kept of each sender.
 ghost use Rattle.std.specs.Prelude.{◌≡◌, ◌++◌, ◌<◌, ◌+◌, IfOk, OnOk, length, string_bytes};
-ghost use Rattle.office_core.specs.Preserves.{Holds};
-ghost use Rattle.office_core_queries.specs.Asking.{AsksOffice};
+ghost use Rattle.office_core.specs.Preserves.{AsksOffice, Holds};
 ghost use Rattle.office_core_queries.specs.Mail.{AreMailCounts, IsMailCount, greatest_words, mail_line, mail_text, unbroken_words};
 ghost use Rattle.office_core_queries.specs.steps.Numbers.{with_number};
 

@@ -1,8 +1,7 @@
 //! The kept numbers of a sender, one after another.
 ghost use Rattle.std.specs.Prelude.{◌≡◌, ◌+◌, ◌≤◌, IfOk};
 ghost use Rattle.office_store_keeper.specs.Content.{IsNextNumber, letter_at};
-ghost use Rattle.office_core.specs.Preserves.{Holds};
-ghost use Rattle.office_core_queries.specs.Asking.{AsksOffice};
+ghost use Rattle.office_core.specs.Preserves.{AsksOffice, Holds};
 ghost use Rattle.office_core_queries.specs.steps.Numbers.{IsAbove, IsLetterAbove, HasNumber, IsNextLetter};
 
 use office_core::Office;

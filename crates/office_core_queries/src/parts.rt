@@ -3,8 +3,7 @@ ghost use Rattle.std.specs.Prelude.{◌≡◌, ◌+◌, ◌≤◌, ◌++◌, [],
 ghost use Rattle.std.specs.List.{flat_map};
 ghost use Rattle.office_mail.specs.Bag.{framed};
 ghost use Rattle.office_store_keeper.specs.declared.values.Letter.{Letter};
-ghost use Rattle.office_core.specs.Preserves.{Holds};
-ghost use Rattle.office_core_queries.specs.Asking.{AsksOffice};
+ghost use Rattle.office_core.specs.Preserves.{AsksOffice, Holds};
 ghost use Rattle.office_core_queries.specs.BagPart.{bag_part, fitting, letters_from};
 
 use crate::numbers::letter_above;

@@ -15,20 +15,21 @@ returns-then-finished-run-clause-why g c = λ trusted sound.
     let setup : Lists = keeper.setup c.args.office.now in
     let run = c.args.run in
     let source = c.args.source.now in
-    let between = c.why_text.ensures.before trusted in
-    let same : new ≡ old = c.in_ok-finished.ensures.same between in
-    let last : length old.reports ≡ run = sym (c.in_ok-finished.ensures.finished between sound) ∙ c.if-finished-run.true in
-    let told = c.why_text.ensures.why trusted (c.in_ok-finished.ensures.sound between sound) in
+    let asked = c.in_ok-finished.ensures.asks.asks in
+    let between = c.why_text.ensures.asks.asks.carries.before trusted in
+    let same : new ≡ old = asked.same between in
+    let last : length old.reports ≡ run = sym (c.in_ok-finished.ensures.finished (between, sound)) ∙ c.if-finished-run.true in
+    let told = c.why_text.ensures.why (trusted, asked.carries.sound between sound) in
     IfOk-weaker c.why_text.result
     (IsWhy (keeper.setup c.finished.new.self) new.kept (length new.reports) source)
     (IsToldOfRun setup old.kept (length old.reports) run source)
     (λ text why. told_of_last setup old run source text last
     (subst (λ (m : Content). IsWhy setup m.kept (length m.reports) source text) same
-    (subst (λ (s : Lists). IsWhy s new.kept (length new.reports) source text) c.in_ok-finished.ensures.setup why)))
+    (subst (λ (s : Lists). IsWhy s new.kept (length new.reports) source text) asked.carries.setup why)))
     told
 
 pub returns-else-finished-run-clause-why : goal.returns-else-finished-run-clause-why
 returns-else-finished-run-clause-why g c = λ trusted sound same.
     let old : Content = g.K.Keeper.content c.args.office.now in
-    let last : c.in_ok-finished.finished ≡ length old.reports = c.in_ok-finished.ensures.finished trusted sound in
+    let last : c.in_ok-finished.finished ≡ length old.reports = c.in_ok-finished.ensures.finished (trusted, sound) in
     absurd (c.if-finished-run.false (last ∙ sym same))

@@ -10,10 +10,10 @@ returns-then-is_one_held-clause-settles g c =
     let s = c.args.office.now in
     let e = c.settle-settled.ensures in
     λ h. record {
-      setup = e.setup;
-      kept = e.kept h.0 h.1 ∙ sym (kept_from-nil (keeper.setup s) (keeper.content s).kept);
-      grows = e.grows h.0 h.1;
-      ready = λ was. (e.sound h.0 h.1).1.ready;
+      setup = e.changes.carries.setup;
+      kept = e.kept h ∙ sym (kept_from-nil (keeper.setup s) (keeper.content s).kept);
+      grows = e.grows h;
+      ready = λ was. (e.changes.carries.sound h.0 h.1).1.ready;
     }
 
 pub returns-else-is_one_held-clause-settles : goal.returns-else-is_one_held-clause-settles

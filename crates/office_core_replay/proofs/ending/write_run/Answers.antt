@@ -6,7 +6,6 @@ use Rattle.office_core_replay.specs.Losses.{is_missing}
 use Rattle.office_core.specs.Preserves.{StoreRefused}
 use Rattle.office_core_replay.specs.steps.Ending.{WritesRun, mark_in, report_shown}
 use Rattle.office_core_facts.specs.State.{state_of}
-use Rattle.office_core.proofs.CarryFacts.{asks_call}
 use Rattle.office_core_replay.proofs.EndFacts.{missing_is}
 use Rattle.office_core_replay.proofs.TextFacts.{told_run}
 use Rattle.office_core_replay.proofs.ending.write_run.Goals as goal
@@ -30,8 +29,8 @@ returns-clause-err g c =
     let q = c.update_text-updates.result in
     let e = c.excuses_text-excuses.ensures in
     let u = c.update_text-updates.ensures in
-    let told = told_run keeper s0 s1 s2 c.args.run r q c.requires (asks_call keeper s0 s1 r e.before e.sound e.same e.setup e.counted e.lasts) (asks_call keeper s1 s2 q u.before u.sound u.same u.setup u.counted u.lasts)
-    (λ h. e.text h.0 h.1) (λ h. u.text h.0 h.1) e.counted u.counted in
+    let told = told_run keeper s0 s1 s2 c.args.run r q c.requires e.asks.asks u.asks.asks
+    e.text u.text e.asks.counted u.asks.counted in
     λ h last. let t = told h last in on_err_weaker c.write_both-lost.result
     (λ front. record {
       mark = (mark_in r, mark_in q);
@@ -51,8 +50,8 @@ returns-clause-ok g c =
     let q = c.update_text-updates.result in
     let e = c.excuses_text-excuses.ensures in
     let u = c.update_text-updates.ensures in
-    let told = told_run keeper s0 s1 s2 c.args.run r q c.requires (asks_call keeper s0 s1 r e.before e.sound e.same e.setup e.counted e.lasts) (asks_call keeper s1 s2 q u.before u.sound u.same u.setup u.counted u.lasts)
-    (λ h. e.text h.0 h.1) (λ h. u.text h.0 h.1) e.counted u.counted in
+    let told = told_run keeper s0 s1 s2 c.args.run r q c.requires e.asks.asks u.asks.asks
+    e.text u.text e.asks.counted u.asks.counted in
     λ h last. let t = told h last in if_ok_both c.write_both-lost.result
     (Appends (written c.args.writer.now) (written c.write_both-lost.new.writer) (report_shown r ++ report_shown q))
     (λ lost. lost ≡ (is_err r || is_err q))

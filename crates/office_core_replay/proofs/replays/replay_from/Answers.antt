@@ -10,7 +10,7 @@ use Rattle.office_core_replay.specs.Replay.{ReplaysAll, ReplaysFront}
 use Rattle.office_core_facts.specs.OfficeState.{OfficeState}
 use Rattle.office_core_facts.specs.State.{state_of}
 use Rattle.office_core_orders.proofs.WrittenFacts.{front_after, front_before}
-use Rattle.office_core.proofs.CarryFacts.{carries_call, carries_twice, holds_first, holds_next, refused_first, refused_next, state_asked}
+use Rattle.office_core.proofs.CarryFacts.{carries_twice, holds_first, holds_next, refused_first, refused_next, state_asked}
 use Rattle.office_core_replay.proofs.EndFacts.{fill, fill_all, counted-fill}
 use Rattle.office_core_replay.proofs.CourseFacts.{settled_call, replays_all, replays_front, replays_last}
 use Rattle.office_core_replay.proofs.replays.replay_from.Goals as goal
@@ -39,7 +39,7 @@ returns-in_err-write_bag-clause-err g c =
     let one = c.in_ok-delivered.ensures.carries in
     let r = c.settle.result in
     let settle = c.settle.ensures in
-    let two = carries_call keeper s1 s2 r settle.before settle.sound settle.setup settle.counted settle.lasts in
+    let two = settle.changes.carries in
     let end = c.in_ok-delivered.delivered.end in
     let lost = c.in_ok-delivered.delivered.lost in
     let w0 = written c.args.writer.now in
@@ -50,7 +50,7 @@ returns-in_err-write_bag-clause-err g c =
     let h1 = holds_first keeper s0 s1 s2 two h in
     let h2 = holds_next keeper s0 s1 s2 one two h in
     let d = c.in_ok-delivered.ensures.all h1 in
-    let settled = settled_call keeper s1 s2 r (settle.ready h2.0 h2.1) (settle.finished h2.0 h2.1) (settle.kept h2.0 h2.1) (settle.grows h2.0 h2.1) (settle.only_ready h2.0 h2.1) settle.setup in
+    let settled = settled_call keeper s1 s2 r (settle.ready h2) (settle.finished h2) (settle.kept h2) (settle.grows h2) (settle.only_ready h2) two.setup in
     let more : ℕ = (state_of keeper s2).finished - (state_of keeper s0).finished in
     let marks : Marks = record { status = Some NoMemory; count = None; reports = fill more; testing = None } in
     let grown : (state_of keeper s0).finished ≤ (state_of keeper s2).finished = omega (arith, d.keeps.grows, settled.grows) in
@@ -71,7 +71,7 @@ returns-in_err-missing-clause-err g c =
     let one = c.in_ok-delivered.ensures.carries in
     let r = c.settle.result in
     let settle = c.settle.ensures in
-    let two = carries_call keeper s1 s2 r settle.before settle.sound settle.setup settle.counted settle.lasts in
+    let two = settle.changes.carries in
     let end = c.in_ok-delivered.delivered.end in
     let lost = c.in_ok-delivered.delivered.lost in
     let w0 = written c.args.writer.now in
@@ -89,7 +89,7 @@ returns-in_err-missing-clause-err g c =
     let h2 = holds_next keeper s0 s1 s2 one two hh in
     let h3 = holds_next keeper s0 s2 s3 both three h in
     let d = c.in_ok-delivered.ensures.all h1 in
-    let settled = settled_call keeper s1 s2 r (settle.ready h2.0 h2.1) (settle.finished h2.0 h2.1) (settle.kept h2.0 h2.1) (settle.grows h2.0 h2.1) (settle.only_ready h2.0 h2.1) settle.setup in
+    let settled = settled_call keeper s1 s2 r (settle.ready h2) (settle.finished h2) (settle.kept h2) (settle.grows h2) (settle.only_ready h2) two.setup in
     let some : c.args.before ≤ (state_of keeper s2).finished = omega (arith, b, d.keeps.grows, settled.grows) in
     let first : StoreRefused keeper s0 s1 → rose = λ e. refused_first keeper s0 s2 s3 three (refused_first keeper s0 s1 s2 two e) in
     let last : StoreRefused keeper s2 s3 → rose = refused_next keeper s0 s2 s3 both in
@@ -109,7 +109,7 @@ returns-clause-ok g c =
     let one = c.in_ok-delivered.ensures.carries in
     let r = c.settle.result in
     let settle = c.settle.ensures in
-    let two = carries_call keeper s1 s2 r settle.before settle.sound settle.setup settle.counted settle.lasts in
+    let two = settle.changes.carries in
     let end = c.in_ok-delivered.delivered.end in
     let lost = c.in_ok-delivered.delivered.lost in
     let w0 = written c.args.writer.now in
@@ -127,7 +127,7 @@ returns-clause-ok g c =
     let h2 = holds_next keeper s0 s1 s2 one two hh in
     let h3 = holds_next keeper s0 s2 s3 both three h in
     let d = c.in_ok-delivered.ensures.all h1 in
-    let settled = settled_call keeper s1 s2 r (settle.ready h2.0 h2.1) (settle.finished h2.0 h2.1) (settle.kept h2.0 h2.1) (settle.grows h2.0 h2.1) (settle.only_ready h2.0 h2.1) settle.setup in
+    let settled = settled_call keeper s1 s2 r (settle.ready h2) (settle.finished h2) (settle.kept h2) (settle.grows h2) (settle.only_ready h2) two.setup in
     let some : c.args.before ≤ (state_of keeper s2).finished = omega (arith, b, d.keeps.grows, settled.grows) in
     let first : StoreRefused keeper s0 s1 → rose = λ e. refused_first keeper s0 s2 s3 three (refused_first keeper s0 s1 s2 two e) in
     let last : StoreRefused keeper s2 s3 → rose = refused_next keeper s0 s2 s3 both in

@@ -5,4 +5,4 @@ use Rattle.office_core_replay.proofs.replays.settle_watched.Goals as goal
 pub returns-then-is_ok-clause-settles : goal.returns-then-is_ok-clause-settles
 returns-then-is_ok-clause-settles g c =
     let e = c.settle-settled.ensures in
-    λ h. settles_call g.K.Keeper c.args.office.now c.settle-settled.new.self c.settle-settled.result _ (e.ready h.0 h.1) (e.finished h.0 h.1) (e.kept h.0 h.1) (e.grows h.0 h.1) e.setup (e.sound h.0 h.1) e.counted (sym c.is_ok.ensures.value ∙ c.if-is_ok.true)
+    λ h. settles_call g.K.Keeper c.args.office.now c.settle-settled.new.self c.settle-settled.result _ (e.ready h) (e.finished h) (e.kept h) (e.grows h) e.changes.carries.setup (e.changes.carries.sound h.0 h.1) e.changes.counted (sym c.is_ok.ensures.value ∙ c.if-is_ok.true)

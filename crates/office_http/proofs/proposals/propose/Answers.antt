@@ -14,5 +14,5 @@ returns-clause-tells g c = λ h.
     let e = c.in_ok-proposal.ensures in
     let s = state_of g.K.Keeper c.args.office.now in
     IfOk-weaker c.answer_proposed.result (λ (a : Answer). a ≡ proposal_answer proposal) (TellsProposal s c.args.terms sources)
-    (λ answer is. record { proposal = proposal; proposed = proposed_for s c.args.terms sources proposal (e.proposed h.0 h.1) (e.dated h.0 h.1); answer_is = is })
+    (λ answer is. record { proposal = proposal; proposed = proposed_for s c.args.terms sources proposal (e.proposed h) (e.dated h); answer_is = is })
     c.answer_proposed.ensures.answer

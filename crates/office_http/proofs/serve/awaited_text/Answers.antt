@@ -11,10 +11,10 @@ returns-clause-tells g c = λ h.
     let setup = g.K.Keeper.setup c.args.office.now in
     record {
       ready = waiting.progress.ready;
-      counts = e.ready h.0 h.1;
+      counts = e.ready h;
       awaited = waiting.awaited;
-      awaits = e.awaited h.0 h.1;
+      awaits = e.awaited h;
       text_is =
-          c.in_ok-waiting_text.ensures ∙ ap (λ (l : Lists). waiting_text l waiting) (c.setup.ensures.setup ∙ e.setup)
-          ∙ ap (λ (n : ℕ). waiting_text setup (record { progress = record { ready = waiting.progress.ready; finished = n }; awaited = waiting.awaited })) (e.finished h.0 h.1);
+          c.in_ok-waiting_text.ensures ∙ ap (λ (l : Lists). waiting_text l waiting) (c.setup.ensures.setup ∙ e.asks.asks.carries.setup)
+          ∙ ap (λ (n : ℕ). waiting_text setup (record { progress = record { ready = waiting.progress.ready; finished = n }; awaited = waiting.awaited })) (e.finished h);
     }

@@ -1,6 +1,6 @@
 use Rattle.office_core.specs.Preserves.{StoreRefused}
 use Rattle.office_core_facts.specs.State.{state_of}
-use Rattle.office_core.proofs.CarryFacts.{carries_delivery, holds_first, holds_next, refused_first, refused_next}
+use Rattle.office_core.proofs.CarryFacts.{holds_first, holds_next, refused_first, refused_next}
 use Rattle.office_core_replay.proofs.ReplayFacts.{leaves_call}
 use Rattle.office_http.proofs.ServeFacts.{delivered, place_delivery}
 use Rattle.office_http.proofs.serve.deliver_and_settle.Goals as goal
@@ -16,11 +16,11 @@ returns-clause-runs g c =
     let s2 = c.settle_behind.new.office in
     let r = c.deliver-reply.result in
     let e = c.deliver-reply.ensures in
-    let one = carries_delivery keeper s0 s1 r e.before e.sound e.setup e.counted e.lasts in
+    let one = e.carries in
     let two = c.settle_behind.ensures.carries in
     λ h.
     let h1 = holds_first keeper s0 s1 s2 two h in
     let h2 = holds_next keeper s0 s1 s2 one two h in
     delivered (StoreRefused keeper s0 s1) (StoreRefused keeper s1 s2) (StoreRefused keeper s0 s2) (state_of keeper s0) (state_of keeper s1) (state_of keeper s2) c.args.text.now r
-    (leaves_call keeper s0 s1 c.args.text.now r (e.answer h1.0 h1.1) (e.kept h1.0 h1.1) (e.finished h1.0 h1.1) (e.err h1.0 h1.1) e.setup e.counted) (refused_first keeper s0 s1 s2 two)
+    (leaves_call keeper s0 s1 c.args.text.now r (e.answer h1) (e.kept h1) (e.finished h1) (e.err h1) one.setup e.counted) (refused_first keeper s0 s1 s2 two)
     (c.settle_behind.ensures.settles h2) (refused_next keeper s0 s1 s2 one)

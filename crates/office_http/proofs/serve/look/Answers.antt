@@ -1,13 +1,8 @@
 use Rattle.office_core.specs.Preserves.{StoreRefused}
 use Rattle.office_core_facts.specs.State.{state_of}
-use Rattle.office_core.proofs.CarryFacts.{carries_delivery, risen_delivery, state_asked}
+use Rattle.office_core.proofs.CarryFacts.{risen_delivery, state_asked}
 use Rattle.office_http.proofs.ServeFacts.{looked, place_delivery}
 use Rattle.office_http.proofs.serve.look.Goals as goal
-
-pub returns-clause-carries : goal.returns-clause-carries
-returns-clause-carries g c =
-    let e = c.answer.ensures in
-    carries_delivery g.K.Keeper c.args.office.now c.answer.new.self c.answer.result e.before e.sound e.setup e.counted e.lasts
 
 pub returns-clause-place : goal.returns-clause-place
 returns-clause-place g c = rw c.delivery_answer.ensures (place_delivery (g.K.Keeper.setup c.args.office.now) c.answer.result c.answer.ensures.place)
@@ -19,6 +14,6 @@ returns-clause-runs g c =
     let s1 = c.answer.new.self in
     let r = c.answer.result in
     let e = c.answer.ensures in
-    λ h. rw c.delivery_answer.ensures (looked (StoreRefused keeper s0 s1) (state_of keeper s0) (state_of keeper s1) c.args.text.now r (e.answer h.0 h.1)
-    (state_asked keeper s0 s1 (record { carries = carries_delivery keeper s0 s1 r e.before e.sound e.setup e.counted e.lasts; same = e.same }) h.0)
+    λ h. rw c.delivery_answer.ensures (looked (StoreRefused keeper s0 s1) (state_of keeper s0) (state_of keeper s1) c.args.text.now r (e.answer h)
+    (state_asked keeper s0 s1 e.asks h.0)
     (risen_delivery (keeper.refusals s0) (keeper.refusals s1) r e.counted))

@@ -14,5 +14,5 @@ returns-clause-runs g c =
     let s1 = c.settle.new.self in
     let r = c.settle.result in
     let e = c.settle.ensures in
-    λ h. rw c.status_answer.ensures (settled (StoreRefused keeper s0 s1) (state_of keeper s0) (state_of keeper s1) c.args.text.now r (e.ready h.0 h.1) (e.finished h.0 h.1) e.setup (e.kept h.0 h.1) (e.grows h.0 h.1) (e.only_ready h.0 h.1)
-    (risen (keeper.refusals s0) (keeper.refusals s1) r e.counted))
+    λ h. rw c.status_answer.ensures (settled (StoreRefused keeper s0 s1) (state_of keeper s0) (state_of keeper s1) c.args.text.now r (e.ready h) (e.finished h) e.changes.carries.setup (e.kept h) (e.grows h) (e.only_ready h)
+    (risen (keeper.refusals s0) (keeper.refusals s1) r e.changes.counted))

@@ -14,7 +14,7 @@ returns-in-Status-clause-tells g c =
     let s1 = c.status.new.self in
     let r = c.status.result in
     let e = c.status.ensures in
-    λ h. rw (c.in-Status.is, c.status_answer.ensures) (told_status (StoreRefused keeper s0 s1) (state_of keeper s0) r (e.ready h.0 h.1) (e.finished h.0 h.1) (risen (keeper.refusals s0) (keeper.refusals s1) r e.counted))
+    λ h. rw (c.in-Status.is, c.status_answer.ensures) (told_status (StoreRefused keeper s0 s1) (state_of keeper s0) r (e.ready h) (e.finished h) (risen (keeper.refusals s0) (keeper.refusals s1) r e.asks.counted))
 
 pub returns-in-Testing-clause-place : goal.returns-in-Testing-clause-place
 returns-in-Testing-clause-place g c = rw c.text_answer.ensures (place_text (g.K.Keeper.setup c.args.office.now) c.testing_text.result)
@@ -26,7 +26,7 @@ returns-in-Testing-clause-tells g c =
     let s1 = c.testing_text.new.self in
     let r = c.testing_text.result in
     let e = c.testing_text.ensures in
-    λ h. rw (c.in-Testing.is, c.text_answer.ensures) (told_testing (StoreRefused keeper s0 s1) (state_of keeper s0) r (e.text h.0 h.1) (risen (keeper.refusals s0) (keeper.refusals s1) r e.counted))
+    λ h. rw (c.in-Testing.is, c.text_answer.ensures) (told_testing (StoreRefused keeper s0 s1) (state_of keeper s0) r (e.text h) (risen (keeper.refusals s0) (keeper.refusals s1) r e.asks.counted))
 
 pub returns-in-Excuses-clause-place : goal.returns-in-Excuses-clause-place
 returns-in-Excuses-clause-place g c = rw c.report_answer.ensures (place_report (g.K.Keeper.setup c.args.office.now) c.excuses_text.result)
@@ -38,7 +38,7 @@ returns-in-Excuses-clause-tells g c =
     let s1 = c.excuses_text.new.self in
     let r = c.excuses_text.result in
     let e = c.excuses_text.ensures in
-    λ h. rw (c.in-Excuses.is, c.report_answer.ensures) (told_excuses (StoreRefused keeper s0 s1) (state_of keeper s0) c.in-Excuses.run' r (e.text h.0 h.1) (risen (keeper.refusals s0) (keeper.refusals s1) r e.counted))
+    λ h. rw (c.in-Excuses.is, c.report_answer.ensures) (told_excuses (StoreRefused keeper s0 s1) (state_of keeper s0) c.in-Excuses.run' r (e.text h) (risen (keeper.refusals s0) (keeper.refusals s1) r e.asks.counted))
 
 pub returns-in-Update-clause-place : goal.returns-in-Update-clause-place
 returns-in-Update-clause-place g c = rw c.report_answer-in-Update.ensures (place_report (g.K.Keeper.setup c.args.office.now) c.update_text.result)
@@ -50,7 +50,7 @@ returns-in-Update-clause-tells g c =
     let s1 = c.update_text.new.self in
     let r = c.update_text.result in
     let e = c.update_text.ensures in
-    λ h. rw (c.in-Update.is, c.report_answer-in-Update.ensures) (told_update (StoreRefused keeper s0 s1) (state_of keeper s0) c.in-Update.run' r (e.text h.0 h.1) (risen (keeper.refusals s0) (keeper.refusals s1) r e.counted))
+    λ h. rw (c.in-Update.is, c.report_answer-in-Update.ensures) (told_update (StoreRefused keeper s0 s1) (state_of keeper s0) c.in-Update.run' r (e.text h) (risen (keeper.refusals s0) (keeper.refusals s1) r e.asks.counted))
 
 pub returns-in-Waiting-clause-place : goal.returns-in-Waiting-clause-place
 returns-in-Waiting-clause-place g c = rw c.text_answer-in-Waiting.ensures (place_text (g.K.Keeper.setup c.args.office.now) c.awaited_text.result)
@@ -98,7 +98,7 @@ returns-in-Letter-clause-tells g c =
     let s1 = c.kept_text.new.self in
     let r = c.kept_text.result in
     let e = c.kept_text.ensures in
-    λ h. rw (c.in-Letter.is, c.letter_answer.ensures) (told_letter (StoreRefused keeper s0 s1) (state_of keeper s0) c.in-Letter.sender c.in-Letter.number r (e.text h.0) (risen (keeper.refusals s0) (keeper.refusals s1) r e.counted))
+    λ h. rw (c.in-Letter.is, c.letter_answer.ensures) (told_letter (StoreRefused keeper s0 s1) (state_of keeper s0) c.in-Letter.sender c.in-Letter.number r (e.text h.0) (risen (keeper.refusals s0) (keeper.refusals s1) r e.asks.counted))
 
 pub returns-in-Bag-clause-place : goal.returns-in-Bag-clause-place
 returns-in-Bag-clause-place g c = rw c.part_answer.ensures (place_part (g.K.Keeper.setup c.args.office.now) c.bag_part.result)
@@ -146,7 +146,7 @@ returns-in-Hints-clause-tells g c =
     let s1 = c.hints_text.new.self in
     let r = c.hints_text.result in
     let e = c.hints_text.ensures in
-    λ h. rw (c.in-Hints.is, c.text_answer-in-Hints.ensures) (told_hints (StoreRefused keeper s0 s1) (state_of keeper s0) r (e.text h.0 h.1) (risen (keeper.refusals s0) (keeper.refusals s1) r e.counted))
+    λ h. rw (c.in-Hints.is, c.text_answer-in-Hints.ensures) (told_hints (StoreRefused keeper s0 s1) (state_of keeper s0) r (e.text h) (risen (keeper.refusals s0) (keeper.refusals s1) r e.asks.counted))
 
 pub returns-in-Unstable-clause-place : goal.returns-in-Unstable-clause-place
 returns-in-Unstable-clause-place g c = rw c.text_answer-in-Unstable.ensures (place_text (g.K.Keeper.setup c.args.office.now) c.unstable_text.result)
@@ -158,7 +158,7 @@ returns-in-Unstable-clause-tells g c =
     let s1 = c.unstable_text.new.self in
     let r = c.unstable_text.result in
     let e = c.unstable_text.ensures in
-    λ h. rw (c.in-Unstable.is, c.text_answer-in-Unstable.ensures) (told_unstable (StoreRefused keeper s0 s1) (state_of keeper s0) r (e.text h.0 h.1) (risen (keeper.refusals s0) (keeper.refusals s1) r e.counted))
+    λ h. rw (c.in-Unstable.is, c.text_answer-in-Unstable.ensures) (told_unstable (StoreRefused keeper s0 s1) (state_of keeper s0) r (e.text h) (risen (keeper.refusals s0) (keeper.refusals s1) r e.asks.counted))
 
 pub returns-in-Propose-clause-place : goal.returns-in-Propose-clause-place
 returns-in-Propose-clause-place g c = rw c.answer_or.ensures (place_or (g.K.Keeper.setup c.args.office.now) c.propose_groups.result c.propose_groups.ensures.place)

@@ -23,7 +23,8 @@ invariant_of-self g c =
     )
 
 pub returns-clause-step : goal.returns-clause-step
-returns-clause-step g c = λ trusted.
+returns-clause-step g c = λ holds.
+    let trusted = holds.0 in
     let keeper = g.K.Keeper in
     let new : Content = keeper.content c.deliver-reply.new.keeper in
     let done = c.deliver-reply.ensures in
@@ -31,4 +32,4 @@ returns-clause-step g c = λ trusted.
     subst (λ v. IsSound keeper v → Leads (keeper.setup v) (keeper.content v) steps new) c.self.view_is (λ sound.
     let old : Content = keeper.content c.self.inside.keeper in
     subst (λ (s : Lists). Leads s old steps new) (sym c.self.invariant.0)
-    (delivered c.self.inside.setup c.args.text.now c.deliver-reply.result old new (done.answer trusted) (done.kept trusted) (done.testing trusted sound.0) (done.reports trusted) (done.err trusted)))
+    (delivered c.self.inside.setup c.args.text.now c.deliver-reply.result old new (done.answer trusted) (done.kept trusted) (done.testing trusted sound.0) (done.reports trusted) (done.err trusted))) holds.1

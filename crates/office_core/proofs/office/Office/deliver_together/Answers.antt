@@ -23,7 +23,8 @@ invariant_of-self g c =
     )
 
 pub returns-clause-steps : goal.returns-clause-steps
-returns-clause-steps g c = λ trusted.
+returns-clause-steps g c = λ holds.
+    let trusted = holds.0 in
     let keeper = g.K.Keeper in
     let new : Content = keeper.content c.keep_texts-replies.new.keeper in
     let done = c.keep_texts-replies.ensures in
@@ -31,4 +32,4 @@ returns-clause-steps g c = λ trusted.
     subst (λ v. IsSound keeper v → IfOk answer (λ replies. IfSome replies (λ rs. Leads (keeper.setup v) (keeper.content v) (deliveries c.args.texts.now rs.items) new))) c.self.view_is (λ sound.
     let old : Content = keeper.content c.self.inside.keeper in
     subst (λ (s : Lists). IfOk answer (λ replies. IfSome replies (λ rs. Leads s old (deliveries c.args.texts.now rs.items) new))) (sym c.self.invariant.0)
-    (together c.self.inside.setup c.args.texts.now answer old new (done.answers trusted) (done.kept trusted) (done.reports trusted) (done.testing trusted sound.0)))
+    (together c.self.inside.setup c.args.texts.now answer old new (done.answers trusted) (done.kept trusted) (done.reports trusted) (done.testing trusted sound.0))) holds.1

@@ -6,9 +6,9 @@ use Rattle.office_core_facts.proofs.ReportFacts.{reports_at-is}
 use Rattle.office_core.proofs.office.Office.excuses_text.Goals as goal
 
 pub returns-clause-text : goal.returns-clause-text
-returns-clause-text g c = λ trusted sound.
+returns-clause-text g c = λ holds.
     let keeper = g.K.Keeper in
     let old = c.args.self.now in
     c.excuses_in.ensures
     ∙ ap (option_map (λ (r : Reports). r.excuses))
-    (c.in_ok-reports.ensures.value trusted ∙ ap (λ k. item_from_one c.args.run (keeper.content k).reports) c.self.view_is ∙ reports_at-is (keeper.setup old) (keeper.content old) c.args.run sound.1)
+    (c.in_ok-reports.ensures.value holds.0 ∙ ap (λ k. item_from_one c.args.run (keeper.content k).reports) c.self.view_is ∙ reports_at-is (keeper.setup old) (keeper.content old) c.args.run holds.1.1)

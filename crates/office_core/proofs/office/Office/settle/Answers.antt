@@ -10,7 +10,8 @@ use Rattle.office_core.proofs.HistoryFacts.{follow_stay, settled}
 use Rattle.office_core.proofs.office.Office.settle.Goals as goal
 
 pub returns-in_err-finished-clause-steps : goal.returns-in_err-finished-clause-steps
-returns-in_err-finished-clause-steps g c = λ trusted.
+returns-in_err-finished-clause-steps g c = λ holds.
+    let trusted = holds.0 in
     let keeper = g.K.Keeper in
     let new : Content = keeper.content c.settle.new.keeper in
     let answer = c.from_residual.result in
@@ -19,10 +20,11 @@ returns-in_err-finished-clause-steps g c = λ trusted.
     let office : IsOffice c.self.inside.setup old = subst (λ (s : Lists). IsOffice s old) c.self.invariant.0 sound.1 in
     let done = c.settle.ensures in
     subst (λ (s : Lists). Leads s old (settling (length new.reports - length old.reports) answer) new) (sym c.self.invariant.0)
-    (settled c.self.inside.setup answer old new office (done.office trusted sound.0 office) (done.kept trusted) (done.grows trusted) (IfOk-from_err answer _ c.from_residual.ensures.0)))
+    (settled c.self.inside.setup answer old new office (done.office trusted sound.0 office) (done.kept trusted) (done.grows trusted) (IfOk-from_err answer _ c.from_residual.ensures.0))) holds.1
 
 pub returns-clause-steps : goal.returns-clause-steps
-returns-clause-steps g c = λ trusted.
+returns-clause-steps g c = λ holds.
+    let trusted = holds.0 in
     let keeper = g.K.Keeper in
     let new : Content = keeper.content c.settle.new.keeper in
     let n : ℕ = c.in_ok-finished.finished in
@@ -35,10 +37,10 @@ returns-clause-steps g c = λ trusted.
     let count : IsReadyCount c.self.inside.setup old.kept (length new.reports) = subst (λ (m : ℕ). IsReadyCount c.self.inside.setup old.kept m) (sym (ok.finished trusted)) (ok.ready trusted sound.0 office) in
     subst (λ (s : Lists). Leads s old (settling (length new.reports - length old.reports) answer) new) (sym c.self.invariant.0)
     (settled c.self.inside.setup answer old new office (done.office trusted sound.0 office) (done.kept trusted) (done.grows trusted)
-    (subst (λ (k : Kept). IsReadyCount c.self.inside.setup k (length new.reports)) (sym (done.kept trusted)) count)))
+    (subst (λ (k : Kept). IsReadyCount c.self.inside.setup k (length new.reports)) (sym (done.kept trusted)) count))) holds.1
 
 pub returns-in_err-finished-clause-runs : goal.returns-in_err-finished-clause-runs
-returns-in_err-finished-clause-runs g c = λ trusted sound. follow_stay _ _ _ _ (returns-in_err-finished-clause-steps g c trusted sound)
+returns-in_err-finished-clause-runs g c = λ holds. follow_stay _ _ _ _ (returns-in_err-finished-clause-steps g c holds)
 
 pub returns-clause-runs : goal.returns-clause-runs
-returns-clause-runs g c = λ trusted sound. follow_stay _ _ _ _ (returns-clause-steps g c trusted sound)
+returns-clause-runs g c = λ holds. follow_stay _ _ _ _ (returns-clause-steps g c holds)
