@@ -5,6 +5,7 @@ ghost use Rattle.std.specs.Prelude.{is_ok, ◌≡◌, ◌≢◌, ◌<◌, ◌++�
 ghost use Rattle.std.specs.Option.{option_map};
 ghost use Rattle.office_store_keeper.specs.NewMail.{AreFree, with_letters, with_mail};
 ghost use Rattle.office_mail.specs.Kept.{kept_from, place_of, IsPlace, Within};
+ghost use Rattle.office_mail.specs.Lists.{Lists};
 ghost use Rattle.office_mail.specs.Read.{read};
 ghost use Rattle.office_core_orders.specs.Counted.{Counted};
 ghost use Rattle.office_core.specs.steps.Asked.{AreFreeFrom};
@@ -66,18 +67,15 @@ fn add_letter(
 /// Answers a message by the block's own letters, or else by what is kept. If its number is free, its letter is added.
 fn answer_message<K: Keeper>(
     alloc: Global,
-    setup: &Setup,
     keeper: &mut K,
     asked: &mut Vec<NextFree>,
     letters: &mut Vec<NewLetter>,
     message: &Message,
     text: &MailText,
 ) -> Result<Reply, StoreFault>
-    requires read { read setup.now text.now ≡ Ok message.now }
-    requires place { IsPlace setup.now (place_of message.now) }
-    ensures takes { K.is_trusted keeper.new → AreFreeFrom (K.content keeper.old).kept asked.old.items → IfOk result (λ reply. TakesText setup.now (K.content keeper.old).kept letters.old.items letters.new.items text.now reply) }
+    ensures takes { (setup : Lists) → read setup text.now ≡ Ok message.now → K.is_trusted keeper.new → AreFreeFrom (K.content keeper.old).kept asked.old.items → IfOk result (λ reply. TakesText setup (K.content keeper.old).kept letters.old.items letters.new.items text.now reply) }
     ensures asked { K.is_trusted keeper.new → AreFreeFrom (K.content keeper.old).kept asked.old.items → OnOk result (AreFreeFrom (K.content keeper.old).kept asked.new.items) }
-    ensures placed { ArePlaced setup.now letters.old.items → ArePlaced setup.now letters.new.items }
+    ensures placed { (setup : Lists) → IsPlace setup (place_of message.now) → ArePlaced setup letters.old.items → ArePlaced setup letters.new.items }
     ensures held { IfOk result (λ reply. IfOk reply (λ held. held.sender ≡ message.now.sender)) }
     ensures looks { ReadsStore K.Keeper keeper.old keeper.new result }
 {
@@ -124,7 +122,7 @@ fn gather<K: Keeper>(
 {
     match read_message(alloc, setup, text.as_slice()) {
         Ok(message) => {
-            let answer = answer_message(alloc, setup, keeper, asked, letters, &message, text);
+            let answer = answer_message(alloc, keeper, asked, letters, &message, text);
             drop(message);
             answer
         }

@@ -1,5 +1,16 @@
+use Rattle.office_mail.specs.Read.{read}
+use Rattle.office_core.proofs.AnsweringFacts.{read_is}
 use Rattle.office_core.proofs.GatherFacts.{takes_fault, fault_read}
 use Rattle.office_core.proofs.gathering.gather.Goals as goal
+
+pub returns-in-Ok-clause-takes : goal.returns-in-Ok-clause-takes
+returns-in-Ok-clause-takes g c =
+    let setup = c.args.setup.now in
+    let text = c.args.text.now in
+    c.answer_message-answer.ensures.takes setup (read_is (read setup text) c.in-Ok.message (rw c.as_slice.ensures at c.in-Ok.ensures.exact))
+
+pub returns-in-Ok-clause-placed : goal.returns-in-Ok-clause-placed
+returns-in-Ok-clause-placed g c = c.answer_message-answer.ensures.placed c.args.setup.now c.in-Ok.ensures.place
 
 pub returns-in-Err-2-clause-takes : goal.returns-in-Err-2-clause-takes
 returns-in-Err-2-clause-takes g c = λ trusted free.
