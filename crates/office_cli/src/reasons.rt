@@ -3,7 +3,8 @@
 
 ghost use Rattle.std.specs.Prelude.{◌≡◌, if◌then◌else◌, IfOk};
 ghost use Rattle.office_cli.specs.steps.Told.{IsAsked};
-ghost use Rattle.office_core_facts.specs.State.{IsSound, state_of};
+ghost use Rattle.office_core.specs.Preserves.{Holds};
+ghost use Rattle.office_core_facts.specs.State.{state_of};
 
 use crate::status::ExitStatus;
 use crate::tasks::{
@@ -318,7 +319,7 @@ fn tell_other_mail(rt: &HostRuntime) -> u8 {
 
 /// The run that is asked about.
 fn asked_run<K: Keeper>(office: &mut Office<K>, run: Option<u32>) -> Result<WhichRun, StoreFault>
-    ensures asked { K.is_trusted office.new → IsSound K.Keeper office.old → IfOk result (IsAsked (state_of K.Keeper office.old).finished run) }
+    ensures asked { Holds K.Keeper office.old office.new → IfOk result (IsAsked (state_of K.Keeper office.old).finished run) }
     // Nothing is finished and nothing else changes.
     ensures same { K.is_trusted office.new → K.content office.new ≡ K.content office.old }
 {

@@ -4,7 +4,8 @@
 ghost use Rattle.std.specs.Prelude.{◌≡◌, IfOk};
 ghost use Rattle.office_cli.specs.Told.{IsReportText};
 ghost use Rattle.office_cli.specs.steps.Told.{status_of_awaited};
-ghost use Rattle.office_core_facts.specs.State.{IsSound, state_of};
+ghost use Rattle.office_core.specs.Preserves.{Holds};
+ghost use Rattle.office_core_facts.specs.State.{state_of};
 
 use crate::status::ExitStatus;
 use deb_control::Text;
@@ -42,7 +43,7 @@ fn report_text<K: Keeper>(
     office: &mut Office<K>,
     report: Report,
 ) -> Result<Option<Text>, StoreFault>
-    ensures text { K.is_trusted office.new → IsSound K.Keeper office.old → IfOk result (IsReportText (state_of K.Keeper office.old) report) }
+    ensures text { Holds K.Keeper office.old office.new → IfOk result (IsReportText (state_of K.Keeper office.old) report) }
     // Nothing is finished and nothing else changes.
     ensures same { K.is_trusted office.new → K.content office.new ≡ K.content office.old }
 {

@@ -9,7 +9,8 @@ ghost use Rattle.office_core_orders.specs.Counted.{Counted};
 ghost use Rattle.office_core_orders.specs.declared.faults.StoreFault.TheVariants as fault;
 ghost use Rattle.office_core_orders.specs.steps.ReadsStore.{ReadsStore};
 ghost use Rattle.office_core_orders.specs.StaysTrusted.{StaysTrusted};
-ghost use Rattle.office_core_facts.specs.State.{IsSound, state_of};
+ghost use Rattle.office_core.specs.Preserves.{AsksOffice, Holds};
+ghost use Rattle.office_core_facts.specs.State.{state_of};
 ghost use Rattle.office_core_why.specs.declared.WhyText.{WhyText};
 ghost use Rattle.office_core_check.specs.steps.Comparing.{IsAnew, IsMadeAfter, IsMadeUpTo};
 ghost use Rattle.office_core_check.specs.Earlier.{IsAfter, IsBefore, IsToldAfter, IsToldOfRun};
@@ -167,13 +168,8 @@ pub fn why_of_run<K: Keeper>(
     run: u32,
     source: &str,
 ) -> Result<Option<WhyText>, StoreFault>
-    ensures why { K.is_trusted office.new → IsSound K.Keeper office.old → IfOk result (IsToldOfRun (K.setup office.old) (K.content office.old).kept (state_of K.Keeper office.old).finished run source.now) }
-    ensures same { K.is_trusted office.new → K.content office.new ≡ K.content office.old }
-    ensures setup { K.setup office.new ≡ K.setup office.old }
-    ensures sound { K.is_trusted office.new → IsSound K.Keeper office.old → IsSound K.Keeper office.new }
-    ensures before { K.is_trusted office.new → K.is_trusted office.old }
-    ensures lasts { StaysTrusted K.Keeper office.old office.new (is_ok result) }
-    ensures counted { Counted (K.refusals office.old) (K.refusals office.new) result }
+    ensures why { Holds K.Keeper office.old office.new → IfOk result (IsToldOfRun (K.setup office.old) (K.content office.old).kept (state_of K.Keeper office.old).finished run source.now) }
+    ensures asks { AsksOffice K.Keeper office.old office.new result }
 {
     let finished = office.finished()?;
     if finished == run {
