@@ -90,15 +90,7 @@ fn leave<K: Keeper>(
 {
     let testing = stored::next_testing(keeper)?;
     let (earlier, left) = run_beside(alloc, setup, run, date, &known.facts, testing)?;
-    match follow_testing(
-        alloc,
-        setup,
-        keeper,
-        &mut known.facts,
-        &known.taken,
-        &earlier,
-        &left.testing,
-    ) {
+    match follow_testing(alloc, setup, keeper, known, &earlier, &left.testing) {
         Ok(changes) => {
             drop(earlier);
             Ok(Finished {

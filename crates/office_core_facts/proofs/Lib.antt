@@ -1,4 +1,5 @@
 pub mod AgainFacts
+pub mod ChosenFacts
 pub mod CountFacts
 pub mod CoverFacts
 pub mod CoveredFacts

@@ -22,6 +22,10 @@ pub said_in-none : (setup : Lists) (sender : ℕ) (before : Covered) → said_in
 unfolding said_in
 said_in-none setup sender before = refl
 
+pub said_in-one : (setup : Lists) (sender : ℕ) (x : Letter) (before : Covered) → said_in setup sender (x ∷ []) before ≡ option_to_list (item_at setup ((sender, x.number), x.text)) ++ before
+unfolding said_in
+said_in-one setup sender x before = refl
+
 -- one letter more
 pub said_in-more : (setup : Lists) (sender : ℕ) (letters : List Letter) (x : Letter) (before : Covered) → said_in setup sender (letters ++ x ∷ []) before ≡ option_to_list (item_at setup ((sender, x.number), x.text)) ++ said_in setup sender letters before
 unfolding said_in
@@ -68,8 +72,3 @@ letters_own kept sender from to letters e x c =
     let n = given_by (letter_at kept sender) (range_with_len from (to + 1 - from)) x (subst (λ (ls : List Letter). Contains ls x) e c) in
     let at = at_number n.0 (get kept (sender, n.0)) x n.2 in
     ap (λ (k : ℕ). get kept (sender, k)) (sym at.0) ∙ at.1
-
--- and so the one at a place
-pub own_letter : (kept : Kept) (sender : ℕ) (letters : List Letter) (i : ℕ) (letter : Letter) (text : List ℕ) → i < length letters → letter ≡ get_or letters i letter → text ≡ letter.text → AreLettersOf kept sender letters → get kept (sender, letter.number) ≡ Some text
-own_letter kept sender letters i letter text low is same own =
-    own letter (subst (λ (l : Letter). Contains letters l) (sym is) (Contains-get_or letters i letter low)) ∙ ap Some (sym same)

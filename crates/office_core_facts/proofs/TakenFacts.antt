@@ -1,5 +1,5 @@
 -- What is known of the mail from one run to the next.
-use Rattle.std.proofs.Common.{◌≡◌, ◌≢◌, ◌⊎◌, ⊎_elim, inl, inr, ℕ, zero, suc, ◌<◌, ◌≤◌, List, [], ◌++◌, length, slice_index, Some, Result, Ok, Err, option_to_list, sym, ap, subst, ◌∙◌, refl, arith}
+use Rattle.std.proofs.Common.{◌≡◌, ◌≢◌, ◌⊎◌, ⊎_elim, inl, inr, ℕ, zero, suc, ◌<◌, ◌≤◌, List, [], ◌++◌, length, slice_index, Some, None, Result, Ok, Err, option_to_list, sym, ap, subst, ◌∙◌, refl, arith}
 use Rattle.std.specs.Prelude.{Contains}
 use Rattle.std.specs.FinMap.{get}
 use Rattle.std.proofs.lemmas.Bool.{cases_eq}
@@ -28,6 +28,7 @@ use Rattle.office_store_keeper.specs.Content.{Content}
 use Rattle.office_store_keeper.specs.FactSet.{count_in}
 use Rattle.office_core_facts.specs.Known.{AreUnderWay, said_all}
 use Rattle.office_core_facts.specs.Outcome.{item_at}
+use Rattle.office_core_facts.specs.steps.Taking.{Took}
 use Rattle.office_core_facts.specs.steps.Walk.{said_by, said_within}
 use Rattle.office_core_facts.proofs.SaidFacts.{said_at_place}
 use Rattle.office_core_facts.proofs.WalkFacts.{by_place, in_option, place_by, place_within, within_place, one_of_each}
@@ -109,6 +110,10 @@ way_more setup content p text old new stands tells moved by way = record {
   by_message = by way.by_message;
   rows = moved (count_in content.facts) way.rows;
 }
+
+-- facts took a message that says nothing
+pub took_nothing : (f : FactLists) → Took None f f
+took_nothing f = record { stand = λ s t h. h; tells = λ s h. h; moved = λ count h. h; by_message = λ h. h; kept = λ u c. c; there = λ m u is up. absurd (cc is) }
 
 -- what a text that is refused, but for want of memory, reads as
 pub err_read : (setup : Lists) (text : List ℕ) (fault : MailFault) → (Err fault ≡ read setup text) ⊎ (◌≡◌ {A = Result Message MailFault} (Err fault) (Err NoMemory)) → (fault ≡ NoMemory → ⊥) → read setup text ≡ Err fault

@@ -1,13 +1,11 @@
 //! A copy of what is known of the finished runs, taken on as far as covers reach: the original stays as it is.
 #![tactic(auto, using(office_core_orders::proofs::LastFacts::lasting))]
 
-ghost use Rattle.std.specs.Prelude.{◌≡◌, ◌≤◌, ◌<◌, ℕ, IfOk, IfErr, IfSome, length, slice_index};
-ghost use Rattle.testing_rules_model.specs.StandsFor.{StandsFor};
-ghost use Rattle.office_mail.specs.Runs.{cover_of, orders_to};
+ghost use Rattle.std.specs.Prelude.{◌≡◌, ◌≤◌, ◌<◌, ℕ, IfOk, IfSome, length, slice_index};
+ghost use Rattle.office_mail.specs.Runs.{cover_of};
 ghost use Rattle.office_core_orders.specs.steps.ReadsStore.{ReadsStore};
 ghost use Rattle.office_core_facts.specs.Known.{AreKnown};
-ghost use Rattle.office_core_facts.specs.State.{IsOffice};
-ghost use Rattle.office_core_facts.specs.steps.Walk.{said_within};
+ghost use Rattle.office_core_facts.specs.steps.Stands.{OfFinished, StandUpTo};
 
 use crate::covered::{KnownFacts, is_covered};
 use crate::finished::{facts_within, take_to};
@@ -39,9 +37,8 @@ fn copied_to<K: Keeper>(
     covers: &[u32],
 ) -> Result<KnownFacts, StoreFault>
     requires ahead { (s : ℕ) → s < length setup.now.senders → cover_of orders.now s ≤ slice_index covers.now s }
-    ensures stand { K.is_trusted keeper.new → IsOffice setup.now (K.content keeper.old) → orders.now ≡ orders_to setup.now (K.content keeper.old).kept (length (K.content keeper.old).reports)
-        → AreKnown setup.now (K.content keeper.old) known.now
-        → IfOk result (λ left. StandsFor left.facts (said_within setup.now (K.content keeper.old).kept (slice_index covers.now) (length setup.now.senders)) (K.content keeper.old).testing) }
+    ensures stand { K.is_trusted keeper.new → OfFinished setup.now (K.content keeper.old) orders.now (AreKnown setup.now (K.content keeper.old) known.now
+        → IfOk result (λ left. StandUpTo setup.now (K.content keeper.old) (slice_index covers.now) left.facts)) }
     ensures looks { ReadsStore K.Keeper keeper.old keeper.new result }
 {
     if !is_covered(&known.taken, orders) {
@@ -65,9 +62,8 @@ pub fn known_to<K: Keeper>(
     covers: &[u32],
 ) -> Result<KnownFacts, StoreFault>
     requires ahead { (s : ℕ) → s < length setup.now.senders → cover_of orders.now s ≤ slice_index covers.now s }
-    ensures stand { K.is_trusted keeper.new → IsOffice setup.now (K.content keeper.old) → orders.now ≡ orders_to setup.now (K.content keeper.old).kept (length (K.content keeper.old).reports)
-        → IfSome known.now (λ known. AreKnown setup.now (K.content keeper.old) known)
-        → IfOk result (λ left. StandsFor left.facts (said_within setup.now (K.content keeper.old).kept (slice_index covers.now) (length setup.now.senders)) (K.content keeper.old).testing) }
+    ensures stand { K.is_trusted keeper.new → OfFinished setup.now (K.content keeper.old) orders.now (IfSome known.now (λ known. AreKnown setup.now (K.content keeper.old) known)
+        → IfOk result (λ left. StandUpTo setup.now (K.content keeper.old) (slice_index covers.now) left.facts)) }
     ensures looks { ReadsStore K.Keeper keeper.old keeper.new result }
 {
     match known {

@@ -1,34 +1,29 @@
 //! The facts of a run's covered messages: those of the run before, with further messages from the store.
 #![tactic(auto, using(office_core_orders::proofs::LastFacts::lasting))]
 
-ghost use Rattle.std.specs.Prelude.{◌≡◌, ◌≢◌, ℕ, ◌+◌, ◌<◌, ◌≤◌, ◌++◌, [], Contains, Some, IsTrue, IfOk, IfErr, IfSome, OnOk, length, option_to_list, slice_index};
-ghost use Rattle.std.specs.FinMap.{get};
+ghost use Rattle.std.specs.Prelude.{◌≡◌, ◌≢◌, ℕ, ◌<◌, ◌≤◌, [], Some, IsTrue, IfOk, IfErr, IfSome, OnOk, length, slice_index};
 ghost use Rattle.testing_rules_model.specs.FactLists.{no_facts};
 ghost use Rattle.testing_rules_model.specs.FactRows.{rows_of};
-ghost use Rattle.testing_rules_model.specs.declared.facts.UploadIn.{UploadIn};
-ghost use Rattle.testing_rules_model.specs.Covered.{Covered, CoveredItem, upload_of};
 ghost use Rattle.testing_rules_model.specs.StandsFor.{StandsFor, StandsForNone};
 ghost use Rattle.testing_rules_facts.specs.Uploads.{AreByMessage};
 ghost use Rattle.testing_rules_model.specs.Suite.{Suite};
-ghost use Rattle.office_mail.specs.Runs.{cover_of, orders_to};
+ghost use Rattle.office_mail.specs.Runs.{cover_of};
 ghost use Rattle.office_store_keeper.specs.Content.{Content};
 ghost use Rattle.office_store_keeper.specs.FactSet.{rows_in};
 ghost use Rattle.office_core_facts.specs.Known.{AreKnown, AreUnderWay, said_all};
 ghost use Rattle.office_core_orders.specs.steps.ReadsStore.{ReadsStore};
-ghost use Rattle.office_core_facts.specs.Outcome.{item_at};
-ghost use Rattle.office_core_orders.specs.steps.Ready.{FirstOrders};
-ghost use Rattle.office_core_facts.specs.State.{IsOffice};
-ghost use Rattle.office_core_facts.specs.steps.Taking.{AreLettersOf, HavePutBack};
-ghost use Rattle.office_core_facts.specs.steps.Walk.{said_by, said_in, said_within};
+ghost use Rattle.office_core_facts.specs.steps.Taking.{HavePutBack};
+ghost use Rattle.office_core_facts.specs.steps.Walk.{said_within};
+ghost use Rattle.office_core_facts.specs.steps.Stands.{OfFinished, OfNext, StandUpTo};
 
+use crate::choice::Choice;
 use crate::restoring::put_back;
-use crate::stretch::Stretch;
-use crate::taking::{cover_of, take_body};
+use crate::taking::cover_of;
+use crate::walk::{Stretch, take_stretch};
 use office_core_orders::orders::make_room;
-use office_core_orders::stored::{BLOCK, block_end};
 use office_core_orders::{StoreFault, stored};
-use office_mail::{MailFault, RunOrder, Setup, read_message};
-use office_store_keeper::{Keeper, Letter};
+use office_mail::{RunOrder, Setup};
+use office_store_keeper::Keeper;
 use std::alloc::Global;
 use testing_rules_facts::Facts;
 use testing_rules_model::FactRow;
@@ -52,8 +47,8 @@ pub fn facts<K: Keeper>(
     requires known { K.is_trusted keeper.old → IfSome before (λ known. AreKnown setup.now (K.content keeper.old) known) }
     ensures taken { IfOk result (λ known. (s : ℕ) → s < length setup.now.senders → slice_index known.taken.items s ≡ cover_of orders.now s) }
     ensures way { K.is_trusted keeper.new → IfOk result (λ known. AreUnderWay setup.now (K.content keeper.old) known.facts) }
-    ensures stand { K.is_trusted keeper.new → IsOffice setup.now (K.content keeper.old) → FirstOrders setup.now (K.content keeper.old).kept orders.now → length orders.now ≡ length (K.content keeper.old).reports + 1
-        → IfOk result (λ known. StandsFor known.facts (said_within setup.now (K.content keeper.old).kept (cover_of orders.now) (length setup.now.senders)) (K.content keeper.old).testing) }
+    ensures stand { K.is_trusted keeper.new → OfNext setup.now (K.content keeper.old) orders.now
+        (IfOk result (λ known. StandUpTo setup.now (K.content keeper.old) (cover_of orders.now) known.facts)) }
     ensures looks { ReadsStore K.Keeper keeper.old keeper.new result }
 {
     let mut known = known_before(alloc, setup, keeper, before, orders)?;
@@ -76,8 +71,8 @@ fn known_before<K: Keeper>(
     requires known { K.is_trusted keeper.old → IfSome before (λ known. AreKnown setup.now (K.content keeper.old) known) }
     ensures within { IfOk result (λ known. (s : ℕ) → slice_index known.taken.items s ≤ cover_of orders.now s) }
     ensures way { K.is_trusted keeper.new → IfOk result (λ known. AreUnderWay setup.now (K.content keeper.old) known.facts) }
-    ensures stand { K.is_trusted keeper.new → IsOffice setup.now (K.content keeper.old) → FirstOrders setup.now (K.content keeper.old).kept orders.now → length orders.now ≡ length (K.content keeper.old).reports + 1
-        → IfOk result (λ known. StandsFor known.facts (said_within setup.now (K.content keeper.old).kept (slice_index known.taken.items) (length setup.now.senders)) (K.content keeper.old).testing) }
+    ensures stand { K.is_trusted keeper.new → OfNext setup.now (K.content keeper.old) orders.now
+        (IfOk result (λ known. StandUpTo setup.now (K.content keeper.old) (slice_index known.taken.items) known.facts)) }
     ensures looks { ReadsStore K.Keeper keeper.old keeper.new result }
 {
     match known_within(before, orders) {
@@ -111,8 +106,8 @@ fn begin<K: Keeper>(
 ) -> Result<KnownFacts, StoreFault>
     ensures within { IfOk result (λ known. (s : ℕ) → slice_index known.taken.items s ≤ cover_of orders.now s) }
     ensures way { K.is_trusted keeper.new → IfOk result (λ known. AreUnderWay setup.now (K.content keeper.old) known.facts) }
-    ensures stand { K.is_trusted keeper.new → IsOffice setup.now (K.content keeper.old) → FirstOrders setup.now (K.content keeper.old).kept orders.now → length orders.now ≡ length (K.content keeper.old).reports + 1
-        → IfOk result (λ known. StandsFor known.facts (said_within setup.now (K.content keeper.old).kept (slice_index known.taken.items) (length setup.now.senders)) (K.content keeper.old).testing) }
+    ensures stand { K.is_trusted keeper.new → OfNext setup.now (K.content keeper.old) orders.now
+        (IfOk result (λ known. StandUpTo setup.now (K.content keeper.old) (slice_index known.taken.items) known.facts)) }
     ensures looks { ReadsStore K.Keeper keeper.old keeper.new result }
 {
     finished_facts(
@@ -133,8 +128,8 @@ pub(crate) fn finished_facts<K: Keeper>(
 ) -> Result<KnownFacts, StoreFault>
     ensures within { IfOk result (λ known. (s : ℕ) → slice_index known.taken.items s ≤ cover_of orders.now s) }
     ensures way { K.is_trusted keeper.new → IfOk result (λ known. AreUnderWay setup.now (K.content keeper.old) known.facts) }
-    ensures stand { K.is_trusted keeper.new → IsOffice setup.now (K.content keeper.old) → orders.now ≡ orders_to setup.now (K.content keeper.old).kept (length (K.content keeper.old).reports)
-        → IfOk result (λ known. StandsFor known.facts (said_within setup.now (K.content keeper.old).kept (slice_index known.taken.items) (length setup.now.senders)) (K.content keeper.old).testing) }
+    ensures stand { K.is_trusted keeper.new → OfFinished setup.now (K.content keeper.old) orders.now
+        (IfOk result (λ known. StandUpTo setup.now (K.content keeper.old) (slice_index known.taken.items) known.facts)) }
     ensures looks { ReadsStore K.Keeper keeper.old keeper.new result }
 {
     let rows = stored::facts(keeper)?;
@@ -155,8 +150,7 @@ fn known_by(
     ensures way { IfOk result (λ known. (content : Content) → rows.now ≡ rows_in content.facts → HavePutBack (said_all setup.now content.kept) rows.now no_facts facts
         → AreUnderWay setup.now content known.facts) }
     ensures stand { IfOk result (λ known. (content : Content) → rows.now ≡ rows_in content.facts → HavePutBack (said_all setup.now content.kept) rows.now no_facts facts
-        → IsOffice setup.now content → orders.now ≡ orders_to setup.now content.kept (length content.reports)
-        → StandsFor known.facts (said_within setup.now content.kept (slice_index known.taken.items) (length setup.now.senders)) content.testing) }
+        → OfFinished setup.now content orders.now (StandUpTo setup.now content (slice_index known.taken.items) known.facts)) }
     ensures no_store { IfErr result (λ fault. fault ≡ StoreFault.NoMemory) }
 {
     if has_all(&facts, rows) {
@@ -263,103 +257,7 @@ pub fn take_on<K: Keeper>(
         done: taken,
         end: cover,
     };
-    take_sender(alloc, setup, keeper, &mut known.facts, stretch)?;
+    take_stretch(alloc, setup, keeper, &mut known.facts, stretch, Choice::All)?;
     known.taken[place] = cover;
     Ok(())
-}
-
-/// Adds the sender's messages in a stretch to the facts, which have all before it.
-fn take_sender<K: Keeper>(
-    alloc: Global,
-    setup: &Setup,
-    keeper: &mut K,
-    facts: &mut Facts,
-    stretch: Stretch,
-) -> Result<(), StoreFault>
-    requires within { stretch.done ≤ stretch.end }
-    ensures taken { K.is_trusted keeper.new → OnOk result ((s : Covered) (t : Suite) → StandsFor facts.old (said_by setup.now (K.content keeper.old).kept stretch.sender stretch.done ++ s) t → StandsFor facts.new (said_by setup.now (K.content keeper.old).kept stretch.sender stretch.end ++ s) t) }
-    ensures way { K.is_trusted keeper.new → OnOk result (AreUnderWay setup.now (K.content keeper.old) facts.old → AreUnderWay setup.now (K.content keeper.old) facts.new) }
-    ensures looks { ReadsStore K.Keeper keeper.old keeper.new result }
-{
-    let mut done = stretch.done;
-    'loads: while done < stretch.end {
-        let end = block_end(done, BLOCK, stretch.end);
-        let block = Stretch {
-            sender: stretch.sender,
-            done,
-            end,
-        };
-        take_block(alloc, setup, keeper, facts, block)?;
-        done = end;
-    }
-    Ok(())
-}
-
-/// Adds the sender's messages after one number, up to another, to the facts.
-fn take_block<K: Keeper>(
-    alloc: Global,
-    setup: &Setup,
-    keeper: &mut K,
-    facts: &mut Facts,
-    stretch: Stretch,
-) -> Result<(), StoreFault>
-    requires on { stretch.done < stretch.end }
-    requires block { stretch.end ≤ stretch.done + 256 }
-    ensures taken { K.is_trusted keeper.new → OnOk result ((s : Covered) (t : Suite) → StandsFor facts.old (said_by setup.now (K.content keeper.old).kept stretch.sender stretch.done ++ s) t → StandsFor facts.new (said_by setup.now (K.content keeper.old).kept stretch.sender stretch.end ++ s) t) }
-    ensures way { K.is_trusted keeper.new → OnOk result (AreUnderWay setup.now (K.content keeper.old) facts.old → AreUnderWay setup.now (K.content keeper.old) facts.new) }
-    ensures looks { ReadsStore K.Keeper keeper.old keeper.new result }
-{
-    let letters = stored::load(keeper, stretch.sender, stretch.done + 1, stretch.end)?;
-    take_letters(alloc, setup, facts, stretch.sender, &letters)
-}
-
-/// Adds what letters of a sender say to the facts. It fails only if memory runs out.
-pub fn take_letters(
-    alloc: Global,
-    setup: &Setup,
-    facts: &mut Facts,
-    sender: u32,
-    letters: &[Letter],
-) -> Result<(), StoreFault>
-    ensures taken { OnOk result ((s : Covered) (t : Suite) → StandsFor facts.old s t → StandsFor facts.new (said_in setup.now sender letters.now s) t) }
-    ensures way { OnOk result ((content : Content) → AreLettersOf content.kept sender letters.now → AreUnderWay setup.now content facts.old → AreUnderWay setup.now content facts.new) }
-    ensures no_store { IfErr result (λ fault. fault ≡ StoreFault.NoMemory) }
-{
-    'letters: for letter in letters {
-        let text = letter.text.as_slice();
-        take_text(alloc, setup, facts, sender, letter.number, text)?;
-    }
-    Ok(())
-}
-
-/// Adds what a text says under its sender and number to the facts. It fails only if memory runs out.
-pub(crate) fn take_text(
-    alloc: Global,
-    setup: &Setup,
-    facts: &mut Facts,
-    sender: u32,
-    number: u32,
-    text: &[u8],
-) -> Result<(), StoreFault>
-    ensures taken { OnOk result ((s : Covered) (t : Suite) → StandsFor facts.old s t → StandsFor facts.new (option_to_list (item_at setup.now ((sender, number), text.now)) ++ s) t) }
-    ensures kept { OnOk result ((u : UploadIn) → Contains facts.old.uploads u → Contains facts.new.uploads u) }
-    ensures there { OnOk result ((m : CoveredItem) (u : UploadIn) → item_at setup.now ((sender, number), text.now) ≡ Some m → upload_of m ≡ Some u → Contains facts.new.uploads u) }
-    ensures way { OnOk result ((content : Content) → get content.kept (sender, number) ≡ Some text.now → AreUnderWay setup.now content facts.old → AreUnderWay setup.now content facts.new) }
-    ensures no_store { IfErr result (λ fault. fault ≡ StoreFault.NoMemory) }
-{
-    match read_message(alloc, setup, text) {
-        Ok(message) => take_body(facts, sender, number, message.body),
-        Err(fault) => no_message(fault),
-    }
-}
-
-/// A refused text says nothing, unless memory ran out.
-fn no_message(fault: MailFault) -> Result<(), StoreFault>
-    ensures none { OnOk result (fault ≡ MailFault.NoMemory → ⊥) }
-    ensures no_store { IfErr result (λ fault. fault ≡ StoreFault.NoMemory) }
-{
-    match fault {
-        MailFault::NoMemory => Err(StoreFault::NoMemory),
-        _ => Ok(()),
-    }
 }

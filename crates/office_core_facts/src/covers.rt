@@ -2,10 +2,10 @@
 #![tactic(auto, using(office_core_orders::proofs::LastFacts::lasting))]
 
 ghost use Rattle.std.specs.Prelude.{◌≡◌, ◌≤◌, ◌<◌, ℕ, IfOk, length, slice_index};
-ghost use Rattle.office_mail.specs.Runs.{cover_of, orders_to};
+ghost use Rattle.office_mail.specs.Runs.{cover_of};
 ghost use Rattle.office_core_orders.specs.steps.ReadsStore.{ReadsStore};
-ghost use Rattle.office_core_facts.specs.State.{IsOffice};
 ghost use Rattle.office_core_facts.specs.Seen.{covers_all, release, IsTrialCover};
+ghost use Rattle.office_core_facts.specs.steps.Stands.{OfFinished};
 
 use crate::counting::count_on;
 use crate::release::release_place;
@@ -30,8 +30,8 @@ fn trial_cover<K: Keeper>(
     all: bool,
     sender: u32,
 ) -> Result<u32, StoreFault>
-    ensures cover { K.is_trusted keeper.new → IsOffice setup.now (K.content keeper.old) → orders.now ≡ orders_to setup.now (K.content keeper.old).kept (length (K.content keeper.old).reports)
-        → IfOk result (λ cover. IsTrialCover setup.now (K.content keeper.old).kept (length (K.content keeper.old).reports) all sender cover) }
+    ensures cover { K.is_trusted keeper.new → OfFinished setup.now (K.content keeper.old) orders.now
+        (IfOk result (λ cover. IsTrialCover setup.now (K.content keeper.old).kept (length (K.content keeper.old).reports) all sender cover)) }
     ensures ahead { IfOk result (λ cover. cover_of orders.now sender ≤ cover) }
     ensures looks { ReadsStore K.Keeper keeper.old keeper.new result }
 {
@@ -51,10 +51,10 @@ pub fn trial_covers<K: Keeper>(
     orders: &[RunOrder],
     all: bool,
 ) -> Result<Vec<u32>, StoreFault>
-    ensures covers { K.is_trusted keeper.new → IsOffice setup.now (K.content keeper.old) → orders.now ≡ orders_to setup.now (K.content keeper.old).kept (length (K.content keeper.old).reports)
-        → IfOk result (λ covers. (s : ℕ) → s < length setup.now.senders → IsTrialCover setup.now (K.content keeper.old).kept (length (K.content keeper.old).reports) all s (slice_index covers.items s)) }
-    ensures few { K.is_trusted keeper.new → IsOffice setup.now (K.content keeper.old) → orders.now ≡ orders_to setup.now (K.content keeper.old).kept (length (K.content keeper.old).reports)
-        → IfOk result (λ covers. (s : ℕ) → slice_index covers.items s ≤ 999_999_999) }
+    ensures covers { K.is_trusted keeper.new → OfFinished setup.now (K.content keeper.old) orders.now
+        (IfOk result (λ covers. (s : ℕ) → s < length setup.now.senders → IsTrialCover setup.now (K.content keeper.old).kept (length (K.content keeper.old).reports) all s (slice_index covers.items s))) }
+    ensures few { K.is_trusted keeper.new → OfFinished setup.now (K.content keeper.old) orders.now
+        (IfOk result (λ covers. (s : ℕ) → slice_index covers.items s ≤ 999_999_999)) }
     ensures ahead { IfOk result (λ covers. (s : ℕ) → s < length setup.now.senders → cover_of orders.now s ≤ slice_index covers.items s) }
     ensures looks { ReadsStore K.Keeper keeper.old keeper.new result }
 {

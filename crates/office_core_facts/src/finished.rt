@@ -14,6 +14,7 @@ ghost use Rattle.office_core_facts.specs.Known.{AreKnown, said_all};
 ghost use Rattle.office_core_facts.specs.State.{IsOffice};
 ghost use Rattle.office_core_facts.specs.steps.Taking.{HavePutBack};
 ghost use Rattle.office_core_facts.specs.steps.Walk.{said_within};
+ghost use Rattle.office_core_facts.specs.steps.Stands.{OfFinished, StandUpTo};
 
 use crate::covered::{KnownFacts, finished_facts, has_all, known_at, take_on};
 use crate::restoring::put_back;
@@ -80,8 +81,8 @@ pub fn facts_within<K: Keeper>(
     covers: &[u32],
 ) -> Result<KnownFacts, StoreFault>
     requires ahead { (s : ℕ) → s < length setup.now.senders → cover_of orders.now s ≤ slice_index covers.now s }
-    ensures stand { K.is_trusted keeper.new → IsOffice setup.now (K.content keeper.old) → orders.now ≡ orders_to setup.now (K.content keeper.old).kept (length (K.content keeper.old).reports)
-        → IfOk result (λ known. StandsFor known.facts (said_within setup.now (K.content keeper.old).kept (slice_index covers.now) (length setup.now.senders)) (K.content keeper.old).testing) }
+    ensures stand { K.is_trusted keeper.new → OfFinished setup.now (K.content keeper.old) orders.now
+        (IfOk result (λ known. StandUpTo setup.now (K.content keeper.old) (slice_index covers.now) known.facts)) }
     ensures looks { ReadsStore K.Keeper keeper.old keeper.new result }
 {
     let mut known = finished_facts(alloc, setup, keeper, orders)?;

@@ -1,6 +1,7 @@
 //! The facts of a run's mail: taken from the kept mail, put back from kept rows, and taken again.
 #![tactic(auto)]
 
+pub mod choice;
 pub mod copying;
 mod counting;
 pub mod covered;
@@ -10,5 +11,5 @@ pub mod release;
 pub mod restoring;
 pub mod retaking;
 pub mod seen;
-mod stretch;
 pub mod taking;
+pub mod walk;

@@ -22,6 +22,14 @@ use testing_rules_facts::Facts;
 use testing_rules_items::Item;
 use testing_rules_model::FactRow;
 
+/// The rows of a list from one place up to another.
+#[derive(Clone, Copy)]
+struct RowBlock<'a> {
+    rows: &'a [FactRow],
+    start: usize,
+    end: usize,
+}
+
 /// The facts of these rows, each put back with the message that it names. A row puts nothing back if it names no kept
 /// message, or one that doesn't give it.
 pub fn put_back<K: Keeper>(
@@ -57,7 +65,7 @@ fn put_rows<K: Keeper>(
     let mut start = 0;
     'loads: while start < rows.len() {
         let end = rows_end(rows, start, rows.len(), BLOCK);
-        put_block(alloc, setup, keeper, facts, rows, start, end)?;
+        put_block(alloc, setup, keeper, facts, RowBlock { rows, start, end })?;
         start = end;
     }
     Ok(())
@@ -102,51 +110,48 @@ fn last_loaded(first: u32, last: u32) -> u32
     }
 }
 
-/// Puts back the rows from one place to another, which are near the first of them.
+/// Puts back the rows of a block, which are near the first of them.
 fn put_block<K: Keeper>(
     alloc: Global,
     setup: &Setup,
     keeper: &mut K,
     facts: &mut Facts,
-    rows: &[FactRow],
-    start: usize,
-    end: usize,
+    block: RowBlock<'_>,
 ) -> Result<(), StoreFault>
-    requires some { start < end }
-    requires within { end ≤ length rows.now }
-    requires near { (d : ARow) → AreNear 256 (slice_index_or rows.now start d) rows.now start end }
+    requires some { block.start < block.end }
+    requires within { block.end ≤ length block.rows.now }
+    requires near { (d : ARow) → AreNear 256 (slice_index_or block.rows.now block.start d) block.rows.now block.start block.end }
     ensures back { K.is_trusted keeper.new → OnOk result ((first : FactLists) → let s : Covered = said_all setup.now (K.content keeper.old).kept in
-        HavePutBack s (take start rows.now) first facts.old → HavePutBack s (take end rows.now) first facts.new) }
+        HavePutBack s (take block.entry.start block.entry.rows.now) first facts.old → HavePutBack s (take block.entry.end block.entry.rows.now) first facts.new) }
     ensures looks { ReadsStore K.Keeper keeper.old keeper.new result }
 {
-    let row = rows[start];
-    let last = last_loaded(row.number, rows[end - 1].number);
+    let row = block.rows[block.start];
+    let last = last_loaded(row.number, block.rows[block.end - 1].number);
     let letters = stored::load(keeper, row.sender, row.number, last)?;
-    put_letters(alloc, setup, facts, &letters, rows, start, end)
+    put_letters(alloc, setup, facts, &letters, block)
 }
 
-/// Puts back the rows from one place to another, given their letters. It fails only if memory runs out.
+/// Puts back the rows of a block, given their letters. It fails only if memory runs out.
 fn put_letters(
     alloc: Global,
     setup: &Setup,
     facts: &mut Facts,
     letters: &[Letter],
-    rows: &[FactRow],
-    start: usize,
-    end: usize,
+    block: RowBlock<'_>,
 ) -> Result<(), StoreFault>
-    requires some { start < end }
-    requires within { end ≤ length rows.now }
-    requires near { (d : ARow) → AreNear 256 (slice_index_or rows.now start d) rows.now start end }
-    ensures back { OnOk result ((kept : Kept) (d : ARow) (first : FactLists) → let s : Covered = said_all setup.now kept in
-        AreLettersOf kept (slice_index_or rows.now start d).sender letters.now → HavePutBack s (take start rows.now) first facts.old → HavePutBack s (take end rows.now) first facts.new) }
+    requires some { block.start < block.end }
+    requires within { block.end ≤ length block.rows.now }
+    requires near { (d : ARow) → AreNear 256 (slice_index_or block.rows.now block.start d) block.rows.now block.start block.end }
+    ensures back { OnOk result ((kept : Kept) (d : ARow) (first : FactLists) → AreLettersOf kept (slice_index_or block.entry.rows.now block.entry.start d).sender letters.now
+        → HavePutBack (said_all setup.now kept) (take block.entry.start block.entry.rows.now) first facts.old
+        → HavePutBack (said_all setup.now kept) (take block.entry.end block.entry.rows.now) first facts.new) }
     ensures no_store { IfErr result (λ fault. fault ≡ StoreFault.NoMemory) }
 {
-    let mut place = start;
-    'messages: while place < end {
-        let next = rows_end(rows, place, end, 1);
-        let item = item_under(alloc, setup, letters, rows[place].number)?;
-        put_item(facts, item, rows, place, next)?;
+    let mut place = block.start;
+    'messages: while place < block.end {
+        let next = rows_end(block.rows, place, block.end, 1);
+        let item = item_under(alloc, setup, letters, block.rows[place].number)?;
+        put_item(facts, item, block.rows, place, next)?;
         place = next;
     }
     Ok(())

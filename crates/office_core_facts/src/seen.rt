@@ -5,11 +5,11 @@ ghost use Rattle.std.specs.Prelude.{◌≡◌, ◌≤◌, ◌<◌, ℕ, IfOk, If
 ghost use Rattle.testing_rules_model.specs.Covered.{Covered};
 ghost use Rattle.testing_rules_model.specs.StandsFor.{StandsFor};
 ghost use Rattle.office_mail.specs.Lists.{Lists};
-ghost use Rattle.office_mail.specs.Runs.{cover_of, orders_to};
+ghost use Rattle.office_mail.specs.Runs.{cover_of};
 ghost use Rattle.office_core_orders.specs.steps.ReadsStore.{ReadsStore};
 ghost use Rattle.office_core_facts.specs.Known.{AreKnown};
 ghost use Rattle.office_core_facts.specs.Seen.{IsSeen, IsUnbroken};
-ghost use Rattle.office_core_facts.specs.State.{IsOffice};
+ghost use Rattle.office_core_facts.specs.steps.Stands.{OfFinished};
 
 use crate::copying::known_to;
 use crate::counting::count_on;
@@ -27,8 +27,8 @@ fn seen_cover<K: Keeper>(
     orders: &[RunOrder],
     sender: u32,
 ) -> Result<u32, StoreFault>
-    ensures unbroken { (setup : Lists) → K.is_trusted keeper.new → IsOffice setup (K.content keeper.old) → orders.now ≡ orders_to setup (K.content keeper.old).kept (length (K.content keeper.old).reports)
-        → IfOk result (IsUnbroken (K.content keeper.old).kept sender) }
+    ensures unbroken { (setup : Lists) → K.is_trusted keeper.new → OfFinished setup (K.content keeper.old) orders.now
+        (IfOk result (IsUnbroken (K.content keeper.old).kept sender)) }
     ensures ahead { IfOk result (λ cover. cover_of orders.now sender ≤ cover) }
     ensures looks { ReadsStore K.Keeper keeper.old keeper.new result }
 {
@@ -43,8 +43,8 @@ fn seen_covers<K: Keeper>(
     keeper: &mut K,
     orders: &[RunOrder],
 ) -> Result<Vec<u32>, StoreFault>
-    ensures unbroken { K.is_trusted keeper.new → IsOffice setup.now (K.content keeper.old) → orders.now ≡ orders_to setup.now (K.content keeper.old).kept (length (K.content keeper.old).reports)
-        → IfOk result (λ covers. (s : ℕ) → s < length setup.now.senders → IsUnbroken (K.content keeper.old).kept s (slice_index covers.items s)) }
+    ensures unbroken { K.is_trusted keeper.new → OfFinished setup.now (K.content keeper.old) orders.now
+        (IfOk result (λ covers. (s : ℕ) → s < length setup.now.senders → IsUnbroken (K.content keeper.old).kept s (slice_index covers.items s))) }
     ensures ahead { IfOk result (λ covers. (s : ℕ) → s < length setup.now.senders → cover_of orders.now s ≤ slice_index covers.items s) }
     ensures looks { ReadsStore K.Keeper keeper.old keeper.new result }
 {
@@ -66,9 +66,8 @@ pub fn seen_facts<K: Keeper>(
     known: &Option<KnownFacts>,
     orders: &[RunOrder],
 ) -> Result<KnownFacts, StoreFault>
-    ensures stand { K.is_trusted keeper.new → IsOffice setup.now (K.content keeper.old) → orders.now ≡ orders_to setup.now (K.content keeper.old).kept (length (K.content keeper.old).reports)
-        → IfSome known.now (λ known. AreKnown setup.now (K.content keeper.old) known)
-        → IfOk result (λ left. (seen : Covered) × IsSeen setup.now (K.content keeper.old).kept seen × StandsFor left.facts seen (K.content keeper.old).testing) }
+    ensures stand { K.is_trusted keeper.new → OfFinished setup.now (K.content keeper.old) orders.now (IfSome known.now (λ known. AreKnown setup.now (K.content keeper.old) known)
+        → IfOk result (λ left. (seen : Covered) × IsSeen setup.now (K.content keeper.old).kept seen × StandsFor left.facts seen (K.content keeper.old).testing)) }
     ensures looks { ReadsStore K.Keeper keeper.old keeper.new result }
 {
     let covers = seen_covers(alloc, setup, keeper, orders)?;

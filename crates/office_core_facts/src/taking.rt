@@ -1,30 +1,49 @@
 //! What the facts take from a message, and how far orders cover a sender.
-ghost use Rattle.std.specs.Prelude.{◌≡◌, ℕ, ◌∷◌, ◌++◌, Some, Contains, IfErr, OnOk, max, option_to_list};
-ghost use Rattle.office_core_facts.specs.Outcome.{item_in_body};
-ghost use Rattle.testing_rules_model.specs.Covered.{Covered, CoveredItem, upload_of};
-ghost use Rattle.testing_rules_model.specs.FactDifference.{IsChangedFrom};
-ghost use Rattle.testing_rules_model.specs.declared.fact_row.FactRow.{FactRow};
-ghost use Rattle.testing_rules_model.specs.declared.facts.UploadIn.{UploadIn};
-ghost use Rattle.testing_rules_facts.specs.Uploads.{AreByMessage};
-ghost use Rattle.testing_rules_model.specs.StandsFor.{StandsFor};
-ghost use Rattle.testing_rules_model.specs.Suite.{Suite};
-ghost use Rattle.testing_rules_model.specs.Tells.{Tells};
+ghost use Rattle.std.specs.Prelude.{◌≡◌, Some, IfErr, OnOk, max};
+ghost use Rattle.testing_rules_facts.specs.Restored.{said};
 ghost use Rattle.office_mail.specs.Runs.{cover_of};
+ghost use Rattle.office_core_facts.specs.Outcome.{item_at, item_in_body};
+ghost use Rattle.office_core_facts.specs.steps.Taking.{Took};
 
 use office_core_orders::StoreFault;
 use office_core_orders::orders::stated_for;
-use office_mail::{Body, RunOrder};
+use office_mail::{Body, MailFault, RunOrder, Setup, read_message};
+use std::alloc::Global;
 use testing_rules_facts::Facts;
 use testing_rules_items::Item;
 
+/// Adds what a text says under its sender and number to the facts. It fails only if memory runs out.
+pub(crate) fn take_text(
+    alloc: Global,
+    setup: &Setup,
+    facts: &mut Facts,
+    sender: u32,
+    number: u32,
+    text: &[u8],
+) -> Result<(), StoreFault>
+    ensures took { OnOk result (Took (item_at setup.now ((sender, number), text.now)) facts.old facts.new) }
+    ensures no_store { IfErr result (λ fault. fault ≡ StoreFault.NoMemory) }
+{
+    match read_message(alloc, setup, text) {
+        Ok(message) => take_body(facts, sender, number, message.body),
+        Err(fault) => no_message(fault),
+    }
+}
+
+/// A refused text says nothing, unless memory ran out.
+fn no_message(fault: MailFault) -> Result<(), StoreFault>
+    ensures none { OnOk result (fault ≡ MailFault.NoMemory → ⊥) }
+    ensures no_store { IfErr result (λ fault. fault ≡ StoreFault.NoMemory) }
+{
+    match fault {
+        MailFault::NoMemory => Err(StoreFault::NoMemory),
+        _ => Ok(()),
+    }
+}
+
 /// Adds to the facts what a message says to the rules, and its texts. It fails only if memory runs out.
 pub fn take_body(facts: &mut Facts, sender: u32, number: u32, body: Body) -> Result<(), StoreFault>
-    ensures stand { OnOk result ((s : Covered) (t : Suite) → StandsFor facts.old s t → StandsFor facts.new (option_to_list (item_in_body (sender, number) body) ++ s) t) }
-    ensures tells { OnOk result ((s : Covered) → Tells facts.old s → Tells facts.new (option_to_list (item_in_body (sender, number) body) ++ s)) }
-    ensures moved { OnOk result ((count : FactRow → ℕ) → IsChangedFrom count facts.old → IsChangedFrom count facts.new) }
-    ensures by_message { OnOk result (AreByMessage facts.old.uploads → AreByMessage facts.new.uploads) }
-    ensures kept { OnOk result ((u : UploadIn) → Contains facts.old.uploads u → Contains facts.new.uploads u) }
-    ensures there { OnOk result ((m : CoveredItem) (u : UploadIn) → item_in_body (sender, number) body ≡ Some m → upload_of m ≡ Some u → Contains facts.new.uploads u) }
+    ensures took { OnOk result (Took (item_in_body (sender, number) body) facts.old facts.new) }
     ensures no_store { IfErr result (λ fault. fault ≡ StoreFault.NoMemory) }
 {
     match body {
@@ -38,12 +57,7 @@ pub fn take_body(facts: &mut Facts, sender: u32, number: u32, body: Body) -> Res
 
 /// Adds an item of a message to the facts. It fails only if memory runs out.
 fn take_item(facts: &mut Facts, sender: u32, number: u32, item: Item) -> Result<(), StoreFault>
-    ensures stand { OnOk result ((s : Covered) (t : Suite) → let m : CoveredItem = record { sender = sender; number = number; item = item } in StandsFor facts.old s t → StandsFor facts.new (m ∷ s) t) }
-    ensures tells { OnOk result ((s : Covered) → let m : CoveredItem = record { sender = sender; number = number; item = item } in Tells facts.old s → Tells facts.new (m ∷ s)) }
-    ensures moved { OnOk result ((count : FactRow → ℕ) → IsChangedFrom count facts.old → IsChangedFrom count facts.new) }
-    ensures by_message { OnOk result (AreByMessage facts.new.uploads) }
-    ensures kept { OnOk result ((u : UploadIn) → Contains facts.old.uploads u → Contains facts.new.uploads u) }
-    ensures there { OnOk result ((u : UploadIn) → let m : CoveredItem = record { sender = sender; number = number; item = item } in upload_of m ≡ Some u → Contains facts.new.uploads u) }
+    ensures took { OnOk result (Took (Some (said sender number item)) facts.old facts.new) }
     ensures no_store { IfErr result (λ fault. fault ≡ StoreFault.NoMemory) }
 {
     facts.take_owned(sender, number, item)?;

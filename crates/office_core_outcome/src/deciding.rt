@@ -18,8 +18,9 @@ use crate::settling::keep_suites;
 use crate::{RunOutcome, run_beside};
 use deb_control::{NoMemory, Text};
 use jiff_core::civil::Date;
-use office_core_facts::covered::take_letters;
+use office_core_facts::choice::Choice;
 use office_core_facts::release::release_place;
+use office_core_facts::walk::take_letters;
 use office_core_orders::{StoreFault, name_at};
 use office_mail::Setup;
 use office_store_keeper::Letter;
@@ -127,7 +128,7 @@ pub(crate) fn take_all(
     ensures no_store { IfErr result (λ fault. fault ≡ StoreFault.NoMemory) }
 {
     let place = release_place(setup);
-    take_letters(alloc, setup, facts, place, letters)
+    take_letters(alloc, setup, facts, place, letters, Choice::All)
 }
 
 /// Why a run refuses hints: from what it decides, over the facts and the testing before it.

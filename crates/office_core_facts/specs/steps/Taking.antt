@@ -1,5 +1,5 @@
 -- Facts put back from their rows, and uploads taken again.
-use Rattle.std.specs.Prelude.{◌≡◌, ◌≤◌, ◌<◌, ◌+◌, ◌⊎◌, ℕ, List, Option, Some, None, map, slice_index_or, Contains}
+use Rattle.std.specs.Prelude.{◌≡◌, ◌≤◌, ◌<◌, ◌+◌, ◌⊎◌, ℕ, List, ◌++◌, Option, Some, None, map, option_to_list, slice_index_or, Contains}
 use Rattle.std.specs.FinMap.{get}
 use Rattle.testing_rules_items.specs.Words.{Text}
 use Rattle.testing_rules_items.specs.declared.item.Item.{Item}
@@ -7,12 +7,14 @@ use Rattle.testing_rules_items.specs.declared.item.Item.TheVariants.{Nothing}
 use Rattle.testing_rules_model.specs.declared.fact_row.FactRow.{FactRow}
 use Rattle.testing_rules_model.specs.declared.facts.UploadIn.{UploadIn}
 use Rattle.testing_rules_model.specs.FactLists.{FactLists}
-use Rattle.testing_rules_model.specs.Covered.{Covered, CoveredItem, uploads_in}
+use Rattle.testing_rules_model.specs.Covered.{Covered, CoveredItem, upload_of, uploads_in}
+use Rattle.testing_rules_model.specs.FactDifference.{IsChangedFrom}
 use Rattle.testing_rules_model.specs.SameMessages.{HasOneOfEach}
 use Rattle.testing_rules_model.specs.StandsFor.{StandsFor}
 use Rattle.testing_rules_model.specs.Suite.{Suite}
 use Rattle.testing_rules_model.specs.Tells.{Tells}
 use Rattle.testing_rules_facts.specs.Restored.{Given, said}
+use Rattle.testing_rules_facts.specs.Uploads.{AreByMessage}
 use Rattle.testing_rules_laws.specs.steps.Restored.{restored_all}
 use Rattle.office_mail.specs.Kept.{Kept}
 use Rattle.office_store_keeper.specs.declared.values.Letter.{Letter}
@@ -38,6 +40,15 @@ pub record IsNear (span : ℕ) (first row : FactRow) : Type 0 where
 -- the rows from one place up to another are near this one
 abbrev pub AreNear : ℕ → FactRow → List FactRow → ℕ → ℕ → Type 0
 AreNear span first rows start end = (k : ℕ) (d : FactRow) → start ≤ k → k < end → IsNear span first (slice_index_or rows k d)
+
+-- The facts took what a message says, if it says something: they stand for it, too, and have its upload.
+pub record Took (says : Option CoveredItem) (old new : FactLists) : Type 0 where
+  pub stand : (s : Covered) (t : Suite) → StandsFor old s t → StandsFor new (option_to_list says ++ s) t
+  pub tells : (s : Covered) → Tells old s → Tells new (option_to_list says ++ s)
+  pub moved : (count : FactRow → ℕ) → IsChangedFrom count old → IsChangedFrom count new
+  pub by_message : AreByMessage old.uploads → AreByMessage new.uploads
+  pub kept : (u : UploadIn) → Contains old.uploads u → Contains new.uploads u
+  pub there : (m : CoveredItem) (u : UploadIn) → says ≡ Some m → upload_of m ≡ Some u → Contains new.uploads u
 
 -- These rows were put back into the facts, each with the item of its message or one that says nothing; so messages that
 -- said the facts still say them.

@@ -1,4 +1,5 @@
-use Rattle.std.proofs.Common.{◌≡◌, ℕ, List, length, slice_index, sym, ap, subst, ◌∙◌, refl}
+use Rattle.std.proofs.Common.{◌≡◌, ℕ, length, slice_index, sym, ap, subst, ◌∙◌, refl}
+use Rattle.testing_rules_laws.specs.Covered.{Covered}
 use Rattle.testing_rules_laws.specs.KeptFacts.{KeptFacts}
 use Rattle.testing_rules_laws.specs.StandsFor.{StandsFor}
 use Rattle.testing_rules_laws.specs.Suite.{Suite}
@@ -54,12 +55,10 @@ returns-in-Ok-clause-kept g c = λ trusted legible stands.
     let t2 = c.in-Ok.ensures.looks.before trusted in
     let same : g.K.Keeper.content c.next_testing.new.keeper ≡ content = c.in_ok-testing.ensures.looks.same t2 in
     let testing : c.in_ok-earlier.earlier ≡ content.testing = c.in_ok-earlier.ensures.before ∙ c.in_ok-testing.ensures.value t2 (c.in_ok-testing.ensures.looks.legible t2 legible) in
-    let stood : StandsFor f (said_within setup content.kept (slice_index c.deref.result.now) n) c.in_ok-earlier.earlier =
-    subst (λ (t : Suite). StandsFor f (said_within setup content.kept (slice_index c.deref.result.now) n) t) (sym testing)
-    (subst (λ (xs : List ℕ). StandsFor f (said_within setup content.kept (slice_index xs) n) content.testing) (sym c.deref.ensures.value) stands) in
-    subst (λ (xs : List ℕ). KeptFacts c.follow_testing.new.facts (said_within setup content.kept (slice_index xs) n) c.in_ok-earlier.left.testing) c.deref.ensures.value
-    (subst (λ (m : Content). StandsFor f (said_within setup m.kept (slice_index c.deref.result.now) n) c.in_ok-earlier.earlier → KeptFacts c.follow_testing.new.facts (said_within setup m.kept (slice_index c.deref.result.now) n) c.in_ok-earlier.left.testing) same
-    (c.in-Ok.ensures.kept trusted) stood)
+    let s : Covered = said_within setup content.kept (slice_index c.args.known.now.taken.items) n in
+    subst (λ (m : Content). let l : Covered = said_within setup m.kept (slice_index c.args.known.now.taken.items) n in
+    StandsFor f l c.in_ok-earlier.earlier → KeptFacts c.follow_testing.new.known.facts l c.in_ok-earlier.left.testing) same
+    (c.in-Ok.ensures.kept trusted) (subst (StandsFor f s) (sym testing) stands)
 
 pub returns-in-Ok-clause-way : goal.returns-in-Ok-clause-way
 returns-in-Ok-clause-way g c = λ trusted was.
@@ -67,7 +66,7 @@ returns-in-Ok-clause-way g c = λ trusted was.
     let content : Content = g.K.Keeper.content c.args.keeper.now in
     let t2 = c.in-Ok.ensures.looks.before trusted in
     let same : g.K.Keeper.content c.next_testing.new.keeper ≡ content = c.in_ok-testing.ensures.looks.same t2 in
-    subst (λ (m : Content). AreUnderWay setup m c.args.known.now.facts → AreUnderWay setup m c.follow_testing.new.facts) same (c.in-Ok.ensures.way trusted) was
+    subst (λ (m : Content). AreUnderWay setup m c.args.known.now.facts → AreUnderWay setup m c.follow_testing.new.known.facts) same (c.in-Ok.ensures.way trusted) was
 
 pub returns-in-Ok-clause-held : goal.returns-in-Ok-clause-held
 returns-in-Ok-clause-held g c = λ trusted way own.

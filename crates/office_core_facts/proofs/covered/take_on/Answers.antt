@@ -25,11 +25,11 @@ returns-clause-stand g c = λ trusted t low was.
     } in
     let before : Covered = said_within setup content.kept a n in
     let taken : c.index-taken.result.now ≡ a sender = c.index-taken.ensures ∙ get_or_default items sender c.index-taken.result.now 0 room.room ∙ room.same sender in
-    stand_more setup content.kept c.take_sender.new.facts a b sender n t low grows
-    (subst (λ (k : ℕ). StandsFor c.take_sender.new.facts (said_by setup content.kept sender k ++ before) t) (sym own)
-    (c.in_ok-take_sender.ensures.taken trusted before t
+    stand_more setup content.kept c.take_stretch.new.facts a b sender n t low grows
+    (subst (λ (k : ℕ). StandsFor c.take_stretch.new.facts (said_by setup content.kept sender k ++ before) t) (sym own)
+    ((c.in_ok-take_stretch.ensures.took trusted).taken t c.args.known.now.facts before
     (subst (λ (k : ℕ). StandsFor c.args.known.now.facts (said_by setup content.kept sender k ++ before) t) (sym taken)
     (stand_again setup content.kept c.args.known.now.facts a sender n t low was))))
 
 pub returns-clause-way : goal.returns-clause-way
-returns-clause-way g c = c.in_ok-take_sender.ensures.way
+returns-clause-way g c = λ trusted. (c.in_ok-take_stretch.ensures.took trusted).way

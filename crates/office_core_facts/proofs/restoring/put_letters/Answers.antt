@@ -17,7 +17,7 @@ pub messages-preserved : goal.messages-preserved
 messages-preserved c =
     let so = c.messages.invariant in
     let end = c.rows_end-next.ensures in
-    let rows : List FactRow = c.args.rows.now in
+    let rows : List FactRow = c.args.block.rows.now in
     let place = c.messages.place in
     record {
       from = omega (arith, so.from, end.on);
@@ -25,11 +25,11 @@ messages-preserved c =
       back = λ kept d first own was.
           let s : Covered = said_all c.args.setup.now kept in
           c.in_ok-put_item.ensures.back s first
-          (items_near s rows c.args.start c.args.end place c.rows_end-next.result d _ c.in_ok-item.item c.requires.near end.near so.from end.within (c.in_ok-item.ensures.item kept (get_or rows c.args.start d).sender own))
+          (items_near s rows c.args.block.start c.args.block.end place c.rows_end-next.result d _ c.in_ok-item.item c.requires.near end.near so.from end.within (c.in_ok-item.ensures.item kept (get_or rows c.args.block.start d).sender own))
           (so.back kept d first own was);
     }
 
 pub returns-clause-back : goal.returns-clause-back
 returns-clause-back c = λ kept d first own was.
-    let all : c.messages.place ≡ c.args.end = omega (arith, c.messages-test.false, c.messages.invariant.within) in
-    subst (λ (n : ℕ). HavePutBack (said_all c.args.setup.now kept) (take n c.args.rows.now) first c.messages.facts) all (c.messages.invariant.back kept d first own was)
+    let all : c.messages.place ≡ c.args.block.end = omega (arith, c.messages-test.false, c.messages.invariant.within) in
+    subst (λ (n : ℕ). HavePutBack (said_all c.args.setup.now kept) (take n c.args.block.rows.now) first c.messages.facts) all (c.messages.invariant.back kept d first own was)

@@ -8,11 +8,11 @@ use Rattle.office_core_facts.proofs.restoring.put_letters.Given as goal
 
 abbrev pub invariant-messages : goal.invariant-messages
 invariant-messages l = record {
-  from : l.start ≤ l.place;
-  within : l.place ≤ l.end;
-  back : (kept : Kept) (d : FactRow) (first : FactLists) → AreLettersOf kept (get_or l.rows l.start d).sender l.letters
-      → HavePutBack (said_all l.setup kept) (take l.start l.rows) first l.fn.facts → HavePutBack (said_all l.setup kept) (take l.place l.rows) first l.facts;
+  from : l.block.start ≤ l.place;
+  within : l.place ≤ l.block.end;
+  back : (kept : Kept) (d : FactRow) (first : FactLists) → AreLettersOf kept (get_or l.block.rows.now l.block.start d).sender l.letters
+      → HavePutBack (said_all l.setup kept) (take l.block.start l.block.rows.now) first l.fn.facts → HavePutBack (said_all l.setup kept) (take l.place l.block.rows.now) first l.facts;
 }
 
 abbrev pub decreases-messages : goal.decreases-messages
-decreases-messages l = l.end - l.place
+decreases-messages l = l.block.end - l.place

@@ -2,7 +2,7 @@ use Rattle.std.proofs.Common.{◌≡◌, false, sym, ap, ◌∙◌}
 use Rattle.std.specs.Str.{bytes_eq}
 use Rattle.testing_rules_items.specs.Words.{Text}
 use Rattle.office_core_facts.proofs.AgainFacts.{name_later}
-use Rattle.office_core_facts.proofs.retaking.has_name.Goals as goal
+use Rattle.office_core_facts.proofs.choice.has_name.Goals as goal
 
 pub names-preserved : goal.names-preserved
 names-preserved c = λ h.

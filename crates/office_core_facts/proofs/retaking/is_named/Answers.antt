@@ -1,5 +1,5 @@
 use Rattle.office_core_facts.proofs.AgainFacts.{said_upload}
-use Rattle.office_core_facts.proofs.retaking.is_named.Goals as goal
+use Rattle.office_core_facts.proofs.choice.is_named.Goals as goal
 
 pub returns-clause-named : goal.returns-clause-named
 returns-clause-named c = λ p m u is says name.

@@ -1,10 +1,12 @@
 use Rattle.std.proofs.Common.{◌≡◌, ℕ, ◌++◌, length, slice_index, ap, subst, ◌∙◌, arith}
 use Rattle.testing_rules_model.specs.Covered.{Covered}
 use Rattle.office_store_keeper.specs.Content.{Content}
-use Rattle.office_core_facts.specs.Known.{AreUnderWay}
+use Rattle.office_core_facts.specs.declared.choice.Choice.TheVariants.{UploadsOf}
+use Rattle.office_core_facts.specs.steps.Chosen.{TookStretch}
 use Rattle.office_core_facts.specs.steps.Taking.{TookAgain}
 use Rattle.office_core_facts.specs.steps.Walk.{said_by, said_within}
 use Rattle.office_core_facts.proofs.AgainFacts.{again_none}
+use Rattle.office_core_facts.proofs.ChosenFacts.{again_by}
 use Rattle.office_core_orders.proofs.LookFacts.{looked_none, looked_then}
 use Rattle.office_core_facts.proofs.WalkFacts.{said_within-none, said_within-more}
 use Rattle.office_core_facts.proofs.retaking.retake_all.Goals as goal
@@ -21,7 +23,7 @@ senders-init g c =
 pub senders-preserved : goal.senders-preserved
 senders-preserved g c =
     let so = c.senders.invariant in
-    let next = c.in_ok-retake_sender.ensures in
+    let next = c.in_ok-take_stretch.ensures in
     let setup = c.args.setup.now in
     let names = c.args.names.now in
     let content : Content = g.K.Keeper.content c.args.keeper.now in
@@ -29,17 +31,16 @@ senders-preserved g c =
     let n = c.senders.sender in
     let first = c.args.facts.now in
     let before : Covered = said_within setup content.kept covers n in
+    let end = c.cover_at-end.result in
+    let took : g.K.Keeper.is_trusted c.take_stretch.new.keeper → TookStretch (UploadsOf c.args.names) setup content n 0 end c.senders.facts c.take_stretch.new.facts = λ trusted.
+    subst (λ (m : Content). TookStretch (UploadsOf c.args.names) setup m n 0 end c.senders.facts c.take_stretch.new.facts) (so.looks.same (next.looks.before trusted)) (next.took trusted) in
     record {
       again = λ trusted.
-          let earlier = next.looks.before trusted in
-          subst (λ (l : Covered). TookAgain names l first c.retake_sender.new.facts)
-          (ap (λ (k : ℕ). said_by setup content.kept n k ++ before) c.number_at-cover.ensures ∙ said_within-more setup content.kept covers n)
-          (subst (λ (m : Content). TookAgain names before first c.senders.facts → TookAgain names (said_by setup m.kept n c.number_at-cover.result ++ before) first c.retake_sender.new.facts) (so.looks.same earlier)
-          (next.again trusted first before) (so.again earlier));
-      way = λ trusted was.
-          let earlier = next.looks.before trusted in
-          subst (λ (m : Content). AreUnderWay setup m c.senders.facts → AreUnderWay setup m c.retake_sender.new.facts) (so.looks.same earlier) (next.way trusted) (so.way earlier was);
-      looks = looked_then g.K.Keeper c.args.keeper.now c.senders.keeper c.retake_sender.new.keeper so.looks next.looks;
+          subst (λ (l : Covered). TookAgain names l first c.take_stretch.new.facts)
+          (ap (λ (k : ℕ). said_by setup content.kept n k ++ before) c.cover_at-end.ensures ∙ said_within-more setup content.kept covers n)
+          (again_by c.args.names setup content n end first c.senders.facts c.take_stretch.new.facts before (took trusted) (so.again (next.looks.before trusted)));
+      way = λ trusted was. (took trusted).way (so.way (next.looks.before trusted) was);
+      looks = looked_then g.K.Keeper c.args.keeper.now c.senders.keeper c.take_stretch.new.keeper so.looks next.looks;
     }
 
 pub returns-clause-again : goal.returns-clause-again

@@ -1,18 +1,18 @@
-use Rattle.std.proofs.Common.{sym, ◌∙◌}
-use Rattle.std.proofs.lemmas.Bool.{false≢true}
+use Rattle.std.proofs.Common.{subst}
 use Rattle.office_mail.specs.Kept.{Place}
 use Rattle.office_core_facts.specs.Outcome.{item_at}
-use Rattle.office_core_facts.proofs.AgainFacts.{again_passed, again_taken}
-use Rattle.office_core_facts.proofs.retaking.retake_text.Goals as goal
+use Rattle.office_core_facts.specs.steps.Chosen.{IsChosen}
+use Rattle.office_core_facts.proofs.ChosenFacts.{letter_passed, letter_taken}
+use Rattle.office_core_facts.proofs.walk.take_letter.Goals as goal
 
-pub returns-clause-again : goal.returns-clause-again
-returns-clause-again c = λ first s h.
-    let p : Place = (c.args.sender, c.args.number) in
-    let took = c.in_ok-take_text.ensures in
-    again_taken c.args.names.now (item_at c.args.setup.now (p, c.args.text.now)) s first c.args.facts.now c.take_text.new.facts took.taken took.kept took.there h
+pub returns-clause-took : goal.returns-clause-took
+returns-clause-took c =
+    letter_taken c.args.choice c.args.setup.now c.args.sender c.args.letter.now c.as_slice-text.result.now c.args.facts.now c.take_text.new.facts c.as_slice-text.ensures c.in_ok-take_text.ensures.took
 
-pub returns-then-not-named-clause-again : goal.returns-then-not-named-clause-again
-returns-then-not-named-clause-again c = λ first s h.
-    let p : Place = (c.args.sender, c.args.number) in
-    again_passed c.args.names.now (item_at c.args.setup.now (p, c.args.text.now)) s first c.args.facts.now
-    (λ m u is says name. false≢true (sym c.if-not-named.true ∙ c.in_ok-named.ensures.named p m u is says name)) h
+pub returns-then-not-chosen-clause-took : goal.returns-then-not-chosen-clause-took
+returns-then-not-chosen-clause-took c =
+    let setup = c.args.setup.now in
+    let text = c.as_slice-text.result.now in
+    let p : Place = (c.args.sender, c.args.letter.now.number) in
+    letter_passed c.args.choice setup c.args.sender c.args.letter.now text c.args.facts.now c.as_slice-text.ensures
+    (subst (IsChosen c.args.choice (item_at setup (p, text))) c.if-not-chosen.true (c.in_ok-chosen.ensures.chosen p))

@@ -12,6 +12,6 @@ returns-clause-taken c =
     let setup = c.args.setup.now in
     let letters = c.args.letters.now in
     on_ok_weaker c.take_letters.result
-    (λ taken s t h. subst (λ (l : Covered). StandsFor c.take_letters.new.facts l t)
-    (ap (λ (r : ℕ). said_in setup r letters s) c.release_place-place.ensures ∙ letters_said setup (release setup) letters s) (taken s t h))
-    c.take_letters.ensures.taken
+    (λ took s t h. subst (λ (l : Covered). StandsFor c.take_letters.new.facts l t)
+    (ap (λ (r : ℕ). said_in setup r letters s) c.release_place-place.ensures ∙ letters_said setup (release setup) letters s) (took.taken t c.args.facts.now s h))
+    c.take_letters.ensures.took
