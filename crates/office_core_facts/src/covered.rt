@@ -14,7 +14,7 @@ ghost use Rattle.office_core_facts.specs.Known.{AreKnown, AreUnderWay, said_all}
 ghost use Rattle.office_core_orders.specs.steps.ReadsStore.{ReadsStore};
 ghost use Rattle.office_core_facts.specs.steps.Taking.{HavePutBack};
 ghost use Rattle.office_core_facts.specs.steps.Walk.{said_within};
-ghost use Rattle.office_core_facts.specs.steps.Stands.{OfFinished, OfNext, StandUpTo};
+ghost use Rattle.office_core_facts.specs.steps.Stands.{AreCovered, AreFound, OfFinished, OfNext, StandUpTo};
 
 use crate::choice::Choice;
 use crate::restoring::put_back;
@@ -69,10 +69,8 @@ fn known_before<K: Keeper>(
     orders: &[RunOrder],
 ) -> Result<KnownFacts, StoreFault>
     requires known { K.is_trusted keeper.old → IfSome before (λ known. AreKnown setup.now (K.content keeper.old) known) }
-    ensures within { IfOk result (λ known. (s : ℕ) → slice_index known.taken.items s ≤ cover_of orders.now s) }
-    ensures way { K.is_trusted keeper.new → IfOk result (λ known. AreUnderWay setup.now (K.content keeper.old) known.facts) }
-    ensures stand { K.is_trusted keeper.new → OfNext setup.now (K.content keeper.old) orders.now
-        (IfOk result (λ known. StandUpTo setup.now (K.content keeper.old) (slice_index known.taken.items) known.facts)) }
+    ensures within { IfOk result (λ known. AreCovered orders.now known.taken.items) }
+    ensures found { K.is_trusted keeper.new → IfOk result (AreFound setup.now (K.content keeper.old) (OfNext setup.now (K.content keeper.old) orders.now)) }
     ensures looks { ReadsStore K.Keeper keeper.old keeper.new result }
 {
     match known_within(before, orders) {
@@ -85,7 +83,7 @@ fn known_before<K: Keeper>(
 /// more.
 fn known_within(before: Option<KnownFacts>, orders: &[RunOrder]) -> Option<KnownFacts>
     ensures same { IfSome result (λ known. before ≡ Some known) }
-    ensures within { IfSome result (λ known. (s : ℕ) → slice_index known.taken.items s ≤ cover_of orders.now s) }
+    ensures within { IfSome result (λ known. AreCovered orders.now known.taken.items) }
 {
     let known = before?;
     if is_covered(&known.taken, orders) {
@@ -104,10 +102,8 @@ fn begin<K: Keeper>(
     keeper: &mut K,
     orders: &[RunOrder],
 ) -> Result<KnownFacts, StoreFault>
-    ensures within { IfOk result (λ known. (s : ℕ) → slice_index known.taken.items s ≤ cover_of orders.now s) }
-    ensures way { K.is_trusted keeper.new → IfOk result (λ known. AreUnderWay setup.now (K.content keeper.old) known.facts) }
-    ensures stand { K.is_trusted keeper.new → OfNext setup.now (K.content keeper.old) orders.now
-        (IfOk result (λ known. StandUpTo setup.now (K.content keeper.old) (slice_index known.taken.items) known.facts)) }
+    ensures within { IfOk result (λ known. AreCovered orders.now known.taken.items) }
+    ensures found { K.is_trusted keeper.new → IfOk result (AreFound setup.now (K.content keeper.old) (OfNext setup.now (K.content keeper.old) orders.now)) }
     ensures looks { ReadsStore K.Keeper keeper.old keeper.new result }
 {
     finished_facts(
@@ -126,10 +122,8 @@ pub(crate) fn finished_facts<K: Keeper>(
     keeper: &mut K,
     orders: &[RunOrder],
 ) -> Result<KnownFacts, StoreFault>
-    ensures within { IfOk result (λ known. (s : ℕ) → slice_index known.taken.items s ≤ cover_of orders.now s) }
-    ensures way { K.is_trusted keeper.new → IfOk result (λ known. AreUnderWay setup.now (K.content keeper.old) known.facts) }
-    ensures stand { K.is_trusted keeper.new → OfFinished setup.now (K.content keeper.old) orders.now
-        (IfOk result (λ known. StandUpTo setup.now (K.content keeper.old) (slice_index known.taken.items) known.facts)) }
+    ensures within { IfOk result (λ known. AreCovered orders.now known.taken.items) }
+    ensures found { K.is_trusted keeper.new → IfOk result (AreFound setup.now (K.content keeper.old) (OfFinished setup.now (K.content keeper.old) orders.now)) }
     ensures looks { ReadsStore K.Keeper keeper.old keeper.new result }
 {
     let rows = stored::facts(keeper)?;
@@ -146,11 +140,9 @@ fn known_by(
     rows: &[FactRow],
     facts: Facts,
 ) -> Result<KnownFacts, StoreFault>
-    ensures within { IfOk result (λ known. (s : ℕ) → slice_index known.taken.items s ≤ cover_of orders.now s) }
-    ensures way { IfOk result (λ known. (content : Content) → rows.now ≡ rows_in content.facts → HavePutBack (said_all setup.now content.kept) rows.now no_facts facts
-        → AreUnderWay setup.now content known.facts) }
-    ensures stand { IfOk result (λ known. (content : Content) → rows.now ≡ rows_in content.facts → HavePutBack (said_all setup.now content.kept) rows.now no_facts facts
-        → OfFinished setup.now content orders.now (StandUpTo setup.now content (slice_index known.taken.items) known.facts)) }
+    ensures within { IfOk result (λ known. AreCovered orders.now known.taken.items) }
+    ensures found { IfOk result (λ known. (content : Content) → rows.now ≡ rows_in content.facts → HavePutBack (said_all setup.now content.kept) rows.now no_facts facts
+        → AreFound setup.now content (OfFinished setup.now content orders.now) known) }
     ensures no_store { IfErr result (λ fault. fault ≡ StoreFault.NoMemory) }
 {
     if has_all(&facts, rows) {
@@ -171,7 +163,7 @@ pub(crate) fn known_at(
     ensures same { IfOk result (λ known. known.facts ≡ facts) }
     ensures by_message { IfOk result (λ known. AreByMessage known.facts.uploads) }
     ensures taken { IfOk result (λ known. (s : ℕ) → s < length setup.now.senders → slice_index known.taken.items s ≡ cover_of orders.now s) }
-    ensures within { IfOk result (λ known. (s : ℕ) → slice_index known.taken.items s ≤ cover_of orders.now s) }
+    ensures within { IfOk result (λ known. AreCovered orders.now known.taken.items) }
     ensures no_store { IfErr result (λ fault. fault ≡ StoreFault.NoMemory) }
 {
     let _ = facts.uploads();
@@ -194,7 +186,7 @@ pub fn has_all(facts: &Facts, rows: &[FactRow]) -> bool
 /// The covers of these orders, sender by sender. It fails only if memory runs out.
 pub fn covers(alloc: Global, setup: &Setup, orders: &[RunOrder]) -> Result<Vec<u32>, StoreFault>
     ensures covers { IfOk result (λ taken. (s : ℕ) → s < length setup.now.senders → slice_index taken.items s ≡ cover_of orders.now s) }
-    ensures within { IfOk result (λ taken. (s : ℕ) → slice_index taken.items s ≤ cover_of orders.now s) }
+    ensures within { IfOk result (λ taken. AreCovered orders.now taken.items) }
     ensures no_store { IfErr result (λ fault. fault ≡ StoreFault.NoMemory) }
 {
     let mut taken = Vec::new(alloc);
@@ -222,7 +214,7 @@ pub fn known_without(alloc: Global, rows: &[FactRow]) -> Result<KnownFacts, Stor
 
 /// Whether none of these numbers is greater than what the orders cover of its sender.
 pub(crate) fn is_covered(taken: &[u32], orders: &[RunOrder]) -> bool
-    ensures { IsTrue result → (s : ℕ) → slice_index taken.now s ≤ cover_of orders.now s }
+    ensures { IsTrue result → AreCovered orders.now taken.now }
 {
     'senders: for sender in 0..taken.len() {
         if taken[sender] > cover_of(orders, sender) {

@@ -15,8 +15,8 @@ pub senders-init : goal.senders-init
 senders-init g c =
     let known = c.in_ok-known.ensures in
     record {
-      way = known.way;
-      stand = known.stand;
+      way = λ trusted. (known.found trusted).way;
+      stand = λ trusted. (known.found trusted).stand;
       done = λ s low. absurd (omega (arith, low));
       ahead = known.within;
       looks = looked_then g.K.Keeper c.args.keeper.now c.args.keeper.now c.known_before.new.keeper (looked_none g.K.Keeper c.args.keeper.now) known.looks;

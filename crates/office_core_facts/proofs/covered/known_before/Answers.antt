@@ -4,13 +4,9 @@ use Rattle.office_core_facts.specs.Known.{AreKnown}
 use Rattle.office_core_facts.proofs.KnownStand.{known_stand}
 use Rattle.office_core_facts.proofs.covered.known_before.Goals as goal
 
-pub returns-in-Some-clause-way : goal.returns-in-Some-clause-way
-returns-in-Some-clause-way g c = λ trusted.
+pub returns-in-Some-clause-found : goal.returns-in-Some-clause-found
+returns-in-Some-clause-found g c = λ trusted.
+    let setup = c.args.setup.now in
     let content : Content = g.K.Keeper.content c.args.keeper.now in
-    (subst (λ o. IfSome o (λ known. AreKnown c.args.setup.now content known)) c.in-Some.ensures.same (c.requires.known trusted)).facts
-
-pub returns-in-Some-clause-stand : goal.returns-in-Some-clause-stand
-returns-in-Some-clause-stand g c = λ trusted office first size.
-    let content : Content = g.K.Keeper.content c.args.keeper.now in
-    known_stand c.args.setup.now content c.in-Some.known office
-    (subst (λ o. IfSome o (λ known. AreKnown c.args.setup.now content known)) c.in-Some.ensures.same (c.requires.known trusted))
+    let known : AreKnown setup content c.in-Some.known = subst (λ o. IfSome o (λ known. AreKnown setup content known)) c.in-Some.ensures.same (c.requires.known trusted) in
+    record { way = known.facts; stand = λ office first size. known_stand setup content c.in-Some.known office known }

@@ -16,4 +16,4 @@ returns-clause-stand g c = λ trusted office are.
     let earlier = c.in_ok-take_to.ensures.looks.before trusted in
     subst (λ (m : Content). StandsFor known.facts (said_within setup m.kept (slice_index known.taken.items) n) content.testing
     → StandsFor c.take_to.new.known.facts (said_within setup m.kept (slice_index c.args.covers.now) n) content.testing)
-    (c.in_ok-known.ensures.looks.same earlier) (c.in_ok-take_to.ensures.stand trusted content.testing) (c.in_ok-known.ensures.stand earlier office are)
+    (c.in_ok-known.ensures.looks.same earlier) (c.in_ok-take_to.ensures.stand trusted content.testing) ((c.in_ok-known.ensures.found earlier).stand office are)
