@@ -107,7 +107,14 @@ fn retake_all<K: Keeper>(
             done: 0,
             end,
         };
-        take_stretch(alloc, setup, keeper, facts, stretch, Choice::UploadsOf(names))?;
+        take_stretch(
+            alloc,
+            setup,
+            keeper,
+            facts,
+            stretch,
+            Choice::UploadsOf(names),
+        )?;
     }
     Ok(())
 }
