@@ -14,7 +14,7 @@ ghost use Rattle.office_store_tables.specs.Layout.{schema_before};
 ghost use Rattle.office_store_tables.specs.Tables.{IsTrusted, IsOurs, IsWhole, number_in, kept_rows};
 ghost use Rattle.office_store_tables.specs.steps.Tables.{Lasts};
 ghost use Rattle.office_store_tables.specs.TableSteps.{IsCrowded, SaysMore, is_between, letter_columns, office_columns};
-ghost use Rattle.office_store_tables.specs.StepsWithin.{StepsWithin, BeginsInside, Yields, LeavesAll, Does};
+ghost use Rattle.office_store_tables.specs.StepsWithin.{StepsWithin, BeginsInside, Yields, LeavesAll, Performs};
 ghost use Rattle.office_store_tables.specs.TableContent.{release_place};
 ghost use Rattle.office_store_tables.specs.steps.CreatingSteps.{IsBuilding};
 ghost use Rattle.office_store_tables.specs.SetupText.{setup_text as text_of};
@@ -327,7 +327,7 @@ fn find_last<S: Alter>(
 /// Adds the number of the last delays, if there is one.
 fn put_last<S: Alter>(tx: &mut Transaction<'_, S>, last: Option<u32>) -> Result<(), Error>
     requires { BeginsInside S.Store tx.old.conn }
-    ensures { Does S.Store tx.old.conn tx.new.conn result (λ db next _. PutsLast db next last) }
+    ensures { Performs S.Store tx.old.conn tx.new.conn result (λ db next _. PutsLast db next last) }
 {
     match last {
         None => Ok(()),
@@ -345,7 +345,7 @@ fn add_migrated<S: Alter>(
     finished: u32,
 ) -> Result<usize, Error>
     requires { BeginsInside S.Store tx.old.conn }
-    ensures { Does S.Store tx.old.conn tx.new.conn result (λ db next _. SaysMore db next (record { schema = 2; setup = setup.now; finished = finished })) }
+    ensures { Performs S.Store tx.old.conn tx.new.conn result (λ db next _. SaysMore db next (record { schema = 2; setup = setup.now; finished = finished })) }
 {
     add_office(tx, 2, setup, finished)
 }

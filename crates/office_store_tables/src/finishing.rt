@@ -7,7 +7,7 @@ ghost use Rattle.office_store_testing_tables.specs.Tables.{IsTrusted, IsOurs};
 ghost use Rattle.office_store_testing_tables.specs.steps.ReadsOnly.{BeginsOurs};
 ghost use Rattle.office_store_testing_tables.specs.steps.Faults.{NeverBad};
 ghost use Rattle.office_store_testing_tables.specs.steps.Tables.{Lasts};
-ghost use Rattle.office_store_testing_tables.specs.steps.StepsWithin.{BeginsInside, DoesWell};
+ghost use Rattle.office_store_testing_tables.specs.steps.StepsWithin.{BeginsInside, PerformsWell};
 ghost use Rattle.office_store_testing_tables.specs.Legible.{SaysOnce};
 ghost use Rattle.testing_rules_model.specs.steps.InOrder.{IsInOrder};
 ghost use Rattle.office_store_testing_tables.specs.TableContent.{release_place};
@@ -31,7 +31,7 @@ fn write_run<S: Alter>(
     said: &Said,
 ) -> Result<usize, KeepFault>
     requires { BeginsInside S.Store tx.old.conn }
-    ensures does { DoesWell S.Store tx.old.conn tx.new.conn result (λ db next _. WritesRun release db next run done.now (with_count run said.now)) }
+    ensures does { PerformsWell S.Store tx.old.conn tx.new.conn result (λ db next _. WritesRun release db next run done.now (with_count run said.now)) }
     ensures ordered { OnOk result (IsInOrder done.now.testing.sources done.now.testing.rows) }
     ensures texts { OnOk result (IsUtf8 done.now.excuses × IsUtf8 done.now.updates) }
 {

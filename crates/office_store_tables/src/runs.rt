@@ -15,7 +15,7 @@ ghost use Rattle.office_store_testing_tables.specs.Tables.{IsTrusted, said_in as
 ghost use Rattle.office_store_testing_tables.specs.steps.TableSteps.{IsOnlyOffice, IsOnlyRun, AddsRun, Silences, SaysMore, RecordsRun, office_columns, is_run, run_columns, rowid_column};
 ghost use Rattle.office_store_tables.specs.steps.Reading.{IsRecorded};
 ghost use Rattle.office_store_testing_tables.specs.steps.ReadsOnly.{ReadsOnly, BeginsOurs, Finds};
-ghost use Rattle.office_store_testing_tables.specs.steps.StepsWithin.{BeginsInside, Does};
+ghost use Rattle.office_store_testing_tables.specs.steps.StepsWithin.{BeginsInside, Performs};
 
 use deb_control::Text;
 use office_store_keeper::{Cause, KeepFault, Reports};
@@ -235,7 +235,7 @@ fn add_run<S: Alter>(
     updates: &str,
 ) -> Result<usize, Error>
     requires { BeginsInside S.Store tx.old.conn }
-    ensures { Does S.Store tx.old.conn tx.new.conn result (λ db next _. AddsRun db next number (record { excuses = excuses.now; updates = updates.now })) }
+    ensures { Performs S.Store tx.old.conn tx.new.conn result (λ db next _. AddsRun db next number (record { excuses = excuses.now; updates = updates.now })) }
 {
     tx.execute(
         "INSERT INTO run (number, excuses, updates) VALUES (?1, ?2, ?3)",
@@ -246,7 +246,7 @@ fn add_run<S: Alter>(
 /// Removes the office's row.
 pub fn clear_office<S: Alter>(tx: &mut Transaction<'_, S>) -> Result<usize, Error>
     requires { BeginsInside S.Store tx.old.conn }
-    ensures { Does S.Store tx.old.conn tx.new.conn result (λ db next _. Silences db next) }
+    ensures { Performs S.Store tx.old.conn tx.new.conn result (λ db next _. Silences db next) }
 {
     tx.execute("DELETE FROM office", &[])
 }
@@ -259,7 +259,7 @@ pub fn add_office<S: Alter>(
     finished: u32,
 ) -> Result<usize, Error>
     requires { BeginsInside S.Store tx.old.conn }
-    ensures { Does S.Store tx.old.conn tx.new.conn result (λ db next _. SaysMore db next (record { schema = schema; setup = setup.now; finished = finished })) }
+    ensures { Performs S.Store tx.old.conn tx.new.conn result (λ db next _. SaysMore db next (record { schema = schema; setup = setup.now; finished = finished })) }
 {
     tx.execute(
         "INSERT INTO office (id, schema, setup, finished) VALUES (1, ?1, ?2, ?3)",
@@ -277,7 +277,7 @@ pub(crate) fn record_run<S: Alter>(
     setup: &str,
 ) -> Result<usize, Error>
     requires { BeginsInside S.Store tx.old.conn }
-    ensures { Does S.Store tx.old.conn tx.new.conn result (λ db next _. RecordsRun db next number (record { excuses = excuses.now; updates = updates.now }) (record { schema = schema; setup = setup.now; finished = number })) }
+    ensures { Performs S.Store tx.old.conn tx.new.conn result (λ db next _. RecordsRun db next number (record { excuses = excuses.now; updates = updates.now }) (record { schema = schema; setup = setup.now; finished = number })) }
 {
     let _reports = add_run(tx, number, excuses, updates)?;
     let _old = clear_office(tx)?;

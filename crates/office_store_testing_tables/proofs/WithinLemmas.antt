@@ -16,7 +16,7 @@ use Rattle.office_store_testing_tables.specs.Tables.{IsTrusted}
 use Rattle.office_store_testing_tables.specs.steps.Tables.{Lasts}
 use Rattle.office_store_testing_tables.specs.steps.TableSteps.{IsInside}
 use Rattle.office_store_testing_tables.specs.steps.Faults.{NeverBad}
-use Rattle.office_store_testing_tables.specs.steps.StepsWithin.{StepsWithin, BeginsInside, Does, DoesWell, Looks}
+use Rattle.office_store_testing_tables.specs.steps.StepsWithin.{StepsWithin, BeginsInside, Performs, PerformsWell, Looks}
 use Rattle.office_store_testing_tables.proofs.StateLemmas.{lasts_same, lasts_then, clean_before}
 use Rattle.office_store_testing_tables.proofs.StepLemmas.{Stepped, step_before, step_open, step_counts_on, step_counts, step_err}
 use Rattle.office_store_testing_tables.proofs.InsideLemmas.{AskedInside, inside_before, inside_open, inside_on, inside_err, inside_same, inside_rows}
@@ -25,7 +25,7 @@ use Rattle.office_store_testing_tables.proofs.InsideLemmas.{AskedInside, inside_
 abbrev pub WentWithin : {S : Type 0} → Ghosts S → MutBor (Held S) → MutBor (Held S) → Type 0
 WentWithin store old new = StepsWithin {T = Bool} {E = Error} store old new (Ok true)
 
-committed_stays : (sql : List ℕ) (params : Row) (old new : State) (result : Result ℕ Error) → Stepped sql params old new result → IsTrue old.in_transaction → IsTrusted new → OnErr result (new.committed ≡ old.committed)
+pub committed_stays : (sql : List ℕ) (params : Row) (old new : State) (result : Result ℕ Error) → Stepped sql params old new result → IsTrue old.in_transaction → IsTrusted new → OnErr result (new.committed ≡ old.committed)
 committed_stays sql params old new (Ok count) h begun trusted = tt
 committed_stays sql params old new (Err e) h begun trusted = step_err sql params old new e h begun trusted
 
@@ -75,11 +75,11 @@ module _ {S : Type 0} {store : Ghosts S} where
   idle_within {old = old} result inside = kept_within result (none_within {T = Bool} {E = Error} old true inside)
 
   -- what a failed call leaves is all that it does
-  pub failed_does : {U F : Type 0} {old new : MutBor (Held S)} {made : Trees → Trees → U → Type 0} (result : Result U F) → IsErr result → StepsWithin store old new result → Does store old new result made
+  pub failed_does : {U F : Type 0} {old new : MutBor (Held S)} {made : Trees → Trees → U → Type 0} (result : Result U F) → IsErr result → StepsWithin store old new result → Performs store old new result made
   failed_does (Ok y) is steps = absurd (true≢false (sym is))
   failed_does (Err f) is steps = record { steps = steps; yields = λ _. tt }
 
-  pub failed_well : {U : Type 0} {old new : MutBor (Held S)} {made : Trees → Trees → U → Type 0} (result : Result U KeepFault) → IsErr result → NeverBad result → StepsWithin store old new result → DoesWell store old new result made
+  pub failed_well : {U : Type 0} {old new : MutBor (Held S)} {made : Trees → Trees → U → Type 0} (result : Result U KeepFault) → IsErr result → NeverBad result → StepsWithin store old new result → PerformsWell store old new result made
   failed_well (Ok y) is bad steps = absurd (true≢false (sym is))
   failed_well (Err f) is bad steps = record { steps = steps; yields = λ _. tt; bad = bad }
 
@@ -123,7 +123,7 @@ module _ {S : Type 0} {store : Ghosts S} where
   pub stepped_does : (sql : List ℕ) (params : Row) (old new : MutBor (Held S)) (made : Trees → Trees → ℕ → Type 0) (result : Result ℕ Error) → Stepped sql params (state store old.now) (state store new.now) result
       → new.ghost_name ≡ old.ghost_name → (old.now.in_transaction ≡ false → new.now ≡ old.now) → Lasts (state store old.now) (state store new.now) → BeginsInside store old
       → ((count : ℕ) → IsInside (state store old.now) → Executes sql params (state store old.now) (state store new.now) (Ok count) → ((state store new.now).now.schema ≡ office_schema) × made (state store old.now).now.trees (state store new.now).now.trees count)
-      → Does store old new result made
+      → Performs store old new result made
   stepped_does sql params old new made result h same idle lasts inside gives =
       let P = made (state store old.now).now.trees (state store new.now).now.trees in
       record { steps = stepped_within sql params old new P result h same idle lasts inside gives; yields = λ trusted. step_counts _ _ _ _ P result h trusted inside gives }

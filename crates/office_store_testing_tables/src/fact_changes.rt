@@ -4,7 +4,7 @@ ghost use Rattle.std.specs.List.{AllByRecursion, list_all};
 ghost use Rattle.std.specs.List.Sorted.{IsPermutation};
 ghost use Rattle.sqlite.specs.Values.{bound};
 ghost use Rattle.office_store_testing_tables.specs.steps.Faults.{NeverBad};
-ghost use Rattle.office_store_testing_tables.specs.steps.StepsWithin.{BeginsInside, Does, DoesWell, Looks};
+ghost use Rattle.office_store_testing_tables.specs.steps.StepsWithin.{BeginsInside, Performs, PerformsWell, Looks};
 ghost use Rattle.office_store_testing_tables.specs.steps.FactSteps.{is_fact, is_delays, id_columns, IsFound, TakesFact, TakesDelays, AddsFact, AddsFacts, AddsDelays, fact_parameters, FitsFact, is_no_delays, DropsFact, DropsDelays, DropsOne, AddsOne, DropsEach, AddsEach};
 
 use crate::rowids::{alone, only_id};
@@ -45,7 +45,7 @@ fn delays_ids<S: Alter>(tx: &mut Transaction<'_, S>, number: u32) -> Result<Vec<
 /// Removes the facts with a rowid, and counts them.
 fn take_fact<S: Alter>(tx: &mut Transaction<'_, S>, id: i64) -> Result<usize, Error>
     requires { BeginsInside S.Store tx.old.conn }
-    ensures { Does S.Store tx.old.conn tx.new.conn result (λ db next count. TakesFact db next id count) }
+    ensures { Performs S.Store tx.old.conn tx.new.conn result (λ db next count. TakesFact db next id count) }
 {
     tx.execute("DELETE FROM fact WHERE rowid = ?1", params![id])
 }
@@ -53,7 +53,7 @@ fn take_fact<S: Alter>(tx: &mut Transaction<'_, S>, id: i64) -> Result<usize, Er
 /// Removes the delays with a rowid, and counts them.
 fn take_delays<S: Alter>(tx: &mut Transaction<'_, S>, id: i64) -> Result<usize, Error>
     requires { BeginsInside S.Store tx.old.conn }
-    ensures { Does S.Store tx.old.conn tx.new.conn result (λ db next count. TakesDelays db next id count) }
+    ensures { Performs S.Store tx.old.conn tx.new.conn result (λ db next count. TakesDelays db next id count) }
 {
     tx.execute("DELETE FROM fact_delays WHERE id = ?1", params![id])
 }
@@ -67,7 +67,7 @@ fn add_fact<S: Alter>(
     place: u32,
 ) -> Result<usize, Error>
     requires { BeginsInside S.Store tx.old.conn }
-    ensures { Does S.Store tx.old.conn tx.new.conn result (λ db next _. AddsFact db next (record { kind = kind; sender = sender; number = number; place = place })) }
+    ensures { Performs S.Store tx.old.conn tx.new.conn result (λ db next _. AddsFact db next (record { kind = kind; sender = sender; number = number; place = place })) }
 {
     let kind = kind.number();
     tx.execute(
@@ -79,7 +79,7 @@ fn add_fact<S: Alter>(
 /// Adds the number of the last delays.
 pub fn add_delays<S: Alter>(tx: &mut Transaction<'_, S>, number: u32) -> Result<usize, Error>
     requires { BeginsInside S.Store tx.old.conn }
-    ensures { Does S.Store tx.old.conn tx.new.conn result (λ db next _. AddsDelays db next number) }
+    ensures { Performs S.Store tx.old.conn tx.new.conn result (λ db next _. AddsDelays db next number) }
 {
     tx.execute(
         "INSERT INTO fact_delays (id, number) VALUES (1, ?1)",
@@ -104,7 +104,7 @@ fn found_fact<S: Alter>(
 /// Removes the one fact with a rowid.
 fn take_one_fact<S: Alter>(tx: &mut Transaction<'_, S>, id: i64) -> Result<(), KeepFault>
     requires { BeginsInside S.Store tx.old.conn }
-    ensures { DoesWell S.Store tx.old.conn tx.new.conn result (λ db next _. TakesFact db next id 1) }
+    ensures { PerformsWell S.Store tx.old.conn tx.new.conn result (λ db next _. TakesFact db next id 1) }
 {
     let count = take_fact(tx, id)?;
     alone(count)?;
@@ -114,7 +114,7 @@ fn take_one_fact<S: Alter>(tx: &mut Transaction<'_, S>, id: i64) -> Result<(), K
 /// Removes a fact from the table of facts, if it is there.
 fn drop_fact<S: Alter>(tx: &mut Transaction<'_, S>, fact: &FactRow) -> Result<(), KeepFault>
     requires { BeginsInside S.Store tx.old.conn }
-    ensures { DoesWell S.Store tx.old.conn tx.new.conn result (λ db next _. DropsFact db next fact.now) }
+    ensures { PerformsWell S.Store tx.old.conn tx.new.conn result (λ db next _. DropsFact db next fact.now) }
 {
     let found = found_fact(tx, fact)?;
     match found {
@@ -143,7 +143,7 @@ fn found_delays<S: Alter>(
 /// Removes the one row of delays with a rowid.
 fn take_one_delays<S: Alter>(tx: &mut Transaction<'_, S>, id: i64) -> Result<(), KeepFault>
     requires { BeginsInside S.Store tx.old.conn }
-    ensures { DoesWell S.Store tx.old.conn tx.new.conn result (λ db next _. TakesDelays db next id 1) }
+    ensures { PerformsWell S.Store tx.old.conn tx.new.conn result (λ db next _. TakesDelays db next id 1) }
 {
     let count = take_delays(tx, id)?;
     alone(count)?;
@@ -153,7 +153,7 @@ fn take_one_delays<S: Alter>(tx: &mut Transaction<'_, S>, id: i64) -> Result<(),
 /// Removes the delays under a number from their table, if they are there.
 fn drop_delays<S: Alter>(tx: &mut Transaction<'_, S>, number: u32) -> Result<(), KeepFault>
     requires { BeginsInside S.Store tx.old.conn }
-    ensures { DoesWell S.Store tx.old.conn tx.new.conn result (λ db next _. DropsDelays db next number) }
+    ensures { PerformsWell S.Store tx.old.conn tx.new.conn result (λ db next _. DropsDelays db next number) }
 {
     let found = found_delays(tx, number)?;
     match found {
@@ -179,7 +179,7 @@ fn drop_one<S: Alter>(
     fact: &FactRow,
 ) -> Result<(), KeepFault>
     requires { BeginsInside S.Store tx.old.conn }
-    ensures { DoesWell S.Store tx.old.conn tx.new.conn result (λ db next _. DropsOne release db next fact.now) }
+    ensures { PerformsWell S.Store tx.old.conn tx.new.conn result (λ db next _. DropsOne release db next fact.now) }
 {
     if is_no_delays(fact) {
         drop_fact(tx, fact)?;
@@ -202,7 +202,7 @@ fn add_one<S: Alter>(
     fact: &FactRow,
 ) -> Result<usize, Error>
     requires { BeginsInside S.Store tx.old.conn }
-    ensures { Does S.Store tx.old.conn tx.new.conn result (λ db next _. AddsOne release db next fact.now) }
+    ensures { Performs S.Store tx.old.conn tx.new.conn result (λ db next _. AddsOne release db next fact.now) }
 {
     if is_no_delays(fact) {
         let added = add_fact(tx, fact.kind, fact.sender, fact.number, fact.place)?;
@@ -219,7 +219,7 @@ pub fn drop_each<S: Alter>(
     facts: &[FactRow],
 ) -> Result<(), KeepFault>
     requires { BeginsInside S.Store tx.old.conn }
-    ensures { DoesWell S.Store tx.old.conn tx.new.conn result (λ db next _. DropsEach release db next facts.now) }
+    ensures { PerformsWell S.Store tx.old.conn tx.new.conn result (λ db next _. DropsEach release db next facts.now) }
 {
     'facts: for fact in facts {
         drop_one(tx, release, fact)?;
@@ -274,7 +274,7 @@ fn eight_values(facts: &[FactRow]) -> [[ValueRef<'static>; 4]; 8]
 fn add_eight<S: Alter>(tx: &mut Transaction<'_, S>, facts: &[FactRow]) -> Result<usize, Error>
     requires inside { BeginsInside S.Store tx.old.conn }
     requires eight { length facts.now ≡ 8 }
-    ensures { Does S.Store tx.old.conn tx.new.conn result (λ db next _. AddsFacts db next facts.now) }
+    ensures { Performs S.Store tx.old.conn tx.new.conn result (λ db next _. AddsFacts db next facts.now) }
 {
     let values = eight_values(facts);
     tx.execute(
@@ -298,7 +298,7 @@ fn add_first<S: Alter>(
 ) -> Result<usize, Error>
     requires inside { BeginsInside S.Store tx.old.conn }
     requires some { 0 < length facts.now }
-    ensures does { Does S.Store tx.old.conn tx.new.conn result (λ db next count. AddsEach release db next (take count facts.now)) }
+    ensures does { Performs S.Store tx.old.conn tx.new.conn result (λ db next count. AddsEach release db next (take count facts.now)) }
     ensures count { IfOk result (λ count. (0 < count) × (count ≤ length facts.now)) }
 {
     if facts.len() >= 8 && are_no_delays(&facts[..8]) {
@@ -316,7 +316,7 @@ pub fn add_each<S: Alter>(
     facts: &[FactRow],
 ) -> Result<(), Error>
     requires { BeginsInside S.Store tx.old.conn }
-    ensures { Does S.Store tx.old.conn tx.new.conn result (λ db next _. AddsEach release db next facts.now) }
+    ensures { Performs S.Store tx.old.conn tx.new.conn result (λ db next _. AddsEach release db next facts.now) }
 {
     let mut at = 0;
     'facts: while at < facts.len() {

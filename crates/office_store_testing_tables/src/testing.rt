@@ -7,7 +7,7 @@ ghost use Rattle.sqlite.specs.Values.{bound};
 ghost use Rattle.sqlite.specs.Tree.{Trees};
 ghost use Rattle.testing_rules_model.specs.InOrder.{AreByName, AreByKey};
 ghost use Rattle.office_store_testing_tables.specs.Tables.{IsTrusted};
-ghost use Rattle.office_store_testing_tables.specs.steps.StepsWithin.{BeginsInside, Does, DoesWell, Looks};
+ghost use Rattle.office_store_testing_tables.specs.steps.StepsWithin.{BeginsInside, Performs, PerformsWell, Looks};
 ghost use Rattle.office_store_testing_tables.specs.steps.EntrySteps.{source_columns, entry_columns, TakesSource, AddsSource, AddsSources, source_parameters, FitsSource, SetsSources, TakesRow, AddsRow, AddsRows, row_parameters, FitsRow, SetsRows};
 ghost use Rattle.office_store_testing_tables.specs.steps.Differences.{GoesOn, SourcesCompared, RowsCompared};
 
@@ -43,7 +43,7 @@ fn sources_in_order(rows: Vec<Row>) -> Vec<Row>
 /// Removes the sources with a rowid, and counts them.
 fn take_source<S: Alter>(tx: &mut Transaction<'_, S>, id: i64) -> Result<usize, Error>
     requires { BeginsInside S.Store tx.old.conn }
-    ensures { Does S.Store tx.old.conn tx.new.conn result (λ db next count. TakesSource db next id count) }
+    ensures { Performs S.Store tx.old.conn tx.new.conn result (λ db next count. TakesSource db next id count) }
 {
     tx.execute("DELETE FROM testing_source WHERE rowid = ?1", params![id])
 }
@@ -51,7 +51,7 @@ fn take_source<S: Alter>(tx: &mut Transaction<'_, S>, id: i64) -> Result<usize, 
 /// Removes the one source with a rowid.
 fn take_one_source<S: Alter>(tx: &mut Transaction<'_, S>, id: i64) -> Result<(), KeepFault>
     requires { BeginsInside S.Store tx.old.conn }
-    ensures { DoesWell S.Store tx.old.conn tx.new.conn result (λ db next _. TakesSource db next id 1) }
+    ensures { PerformsWell S.Store tx.old.conn tx.new.conn result (λ db next _. TakesSource db next id 1) }
 {
     let count = take_source(tx, id)?;
     alone(count)?;
@@ -66,7 +66,7 @@ fn add_source<S: Alter>(
     number: u32,
 ) -> Result<usize, Error>
     requires { BeginsInside S.Store tx.old.conn }
-    ensures { Does S.Store tx.old.conn tx.new.conn result (λ db next _. AddsSource db next name.now sender number) }
+    ensures { Performs S.Store tx.old.conn tx.new.conn result (λ db next _. AddsSource db next name.now sender number) }
 {
     tx.execute(
         "INSERT INTO testing_source (name, sender, number) VALUES (?1, ?2, ?3)",
@@ -118,7 +118,7 @@ fn add_eight_sources<S: Alter>(
 ) -> Result<usize, Error>
     requires inside { BeginsInside S.Store tx.old.conn }
     requires eight { length sources.now ≡ 8 }
-    ensures { Does S.Store tx.old.conn tx.new.conn result (λ db next _. AddsSources db next sources.now) }
+    ensures { Performs S.Store tx.old.conn tx.new.conn result (λ db next _. AddsSources db next sources.now) }
 {
     let values = eight_source_values(sources);
     tx.execute(
@@ -137,7 +137,7 @@ fn change_source<S: Alter>(
     requires inside { BeginsInside S.Store tx.old.conn }
     requires within { (at.shown ≤ length shown.now) × (at.entries ≤ length sources.now) }
     requires left { (at.shown < length shown.now) ⊎ (at.entries < length sources.now) }
-    ensures does { DoesWell S.Store tx.old.conn tx.new.conn result (λ db next to. (first : Trees) → SourcesCompared first db shown.now sources.now at.shown at.entries → SourcesCompared first next shown.now sources.now to.shown to.entries) }
+    ensures does { PerformsWell S.Store tx.old.conn tx.new.conn result (λ db next to. (first : Trees) → SourcesCompared first db shown.now sources.now at.shown at.entries → SourcesCompared first next shown.now sources.now to.shown to.entries) }
     ensures further { IfOk result (λ to. GoesOn (length shown.now) (length sources.now) at.shown at.entries to.shown to.entries) }
 {
     match source_change(shown, sources, at)? {
@@ -175,7 +175,7 @@ fn change_source_or_more<S: Alter>(
     requires inside { BeginsInside S.Store tx.old.conn }
     requires within { (at.shown ≤ length shown.now) × (at.entries ≤ length sources.now) }
     requires left { (at.shown < length shown.now) ⊎ (at.entries < length sources.now) }
-    ensures does { DoesWell S.Store tx.old.conn tx.new.conn result (λ db next to. (first : Trees) → SourcesCompared first db shown.now sources.now at.shown at.entries → SourcesCompared first next shown.now sources.now to.shown to.entries) }
+    ensures does { PerformsWell S.Store tx.old.conn tx.new.conn result (λ db next to. (first : Trees) → SourcesCompared first db shown.now sources.now at.shown at.entries → SourcesCompared first next shown.now sources.now to.shown to.entries) }
     ensures further { IfOk result (λ to. GoesOn (length shown.now) (length sources.now) at.shown at.entries to.shown to.entries) }
 {
     if at.shown < shown.len() || sources.len() - at.entries < 8 {
@@ -198,7 +198,7 @@ fn change_sources<S: Alter>(
     requires inside { BeginsInside S.Store tx.old.conn }
     requires shown { IsTrusted (state S.Store tx.old.conn.now) → IsPermutation (map source_columns ((state S.Store tx.old.conn.now).now.trees 4)) shown.now }
     requires ordered { AreByName sources.now }
-    ensures { DoesWell S.Store tx.old.conn tx.new.conn result (λ db next _. SetsSources db next sources.now) }
+    ensures { PerformsWell S.Store tx.old.conn tx.new.conn result (λ db next _. SetsSources db next sources.now) }
 {
     let mut at = Compared {
         shown: 0,
@@ -217,7 +217,7 @@ pub fn set_sources<S: Alter>(
 ) -> Result<(), KeepFault>
     requires inside { BeginsInside S.Store tx.old.conn }
     requires ordered { AreByName sources.now }
-    ensures { DoesWell S.Store tx.old.conn tx.new.conn result (λ db next _. SetsSources db next sources.now) }
+    ensures { PerformsWell S.Store tx.old.conn tx.new.conn result (λ db next _. SetsSources db next sources.now) }
 {
     let listed = listed_sources(tx)?;
     let shown = sources_in_order(listed);
@@ -251,7 +251,7 @@ fn rows_in_order(rows: Vec<Row>) -> Vec<Row>
 /// Removes the rows with a rowid, and counts them.
 fn take_row<S: Alter>(tx: &mut Transaction<'_, S>, id: i64) -> Result<usize, Error>
     requires { BeginsInside S.Store tx.old.conn }
-    ensures { Does S.Store tx.old.conn tx.new.conn result (λ db next count. TakesRow db next id count) }
+    ensures { Performs S.Store tx.old.conn tx.new.conn result (λ db next count. TakesRow db next id count) }
 {
     tx.execute("DELETE FROM testing_row WHERE rowid = ?1", params![id])
 }
@@ -259,7 +259,7 @@ fn take_row<S: Alter>(tx: &mut Transaction<'_, S>, id: i64) -> Result<usize, Err
 /// Removes the one row with a rowid.
 fn take_one_row<S: Alter>(tx: &mut Transaction<'_, S>, id: i64) -> Result<(), KeepFault>
     requires { BeginsInside S.Store tx.old.conn }
-    ensures { DoesWell S.Store tx.old.conn tx.new.conn result (λ db next _. TakesRow db next id 1) }
+    ensures { PerformsWell S.Store tx.old.conn tx.new.conn result (λ db next _. TakesRow db next id 1) }
 {
     let count = take_row(tx, id)?;
     alone(count)?;
@@ -276,7 +276,7 @@ fn add_row<S: Alter>(
     place: u32,
 ) -> Result<usize, Error>
     requires { BeginsInside S.Store tx.old.conn }
-    ensures { Does S.Store tx.old.conn tx.new.conn result (λ db next _. AddsRow db next arch name.now sender number place) }
+    ensures { Performs S.Store tx.old.conn tx.new.conn result (λ db next _. AddsRow db next arch name.now sender number place) }
 {
     tx.execute(
         "INSERT INTO testing_row (arch, name, sender, number, place) VALUES (?1, ?2, ?3, ?4, ?5)",
@@ -332,7 +332,7 @@ fn eight_row_values(rows: &[RowIn]) -> [[ValueRef<'_>; 5]; 8]
 fn add_eight_rows<S: Alter>(tx: &mut Transaction<'_, S>, rows: &[RowIn]) -> Result<usize, Error>
     requires inside { BeginsInside S.Store tx.old.conn }
     requires eight { length rows.now ≡ 8 }
-    ensures { Does S.Store tx.old.conn tx.new.conn result (λ db next _. AddsRows db next rows.now) }
+    ensures { Performs S.Store tx.old.conn tx.new.conn result (λ db next _. AddsRows db next rows.now) }
 {
     let values = eight_row_values(rows);
     tx.execute(
@@ -351,7 +351,7 @@ fn change_row<S: Alter>(
     requires inside { BeginsInside S.Store tx.old.conn }
     requires within { (at.shown ≤ length shown.now) × (at.entries ≤ length rows.now) }
     requires left { (at.shown < length shown.now) ⊎ (at.entries < length rows.now) }
-    ensures does { DoesWell S.Store tx.old.conn tx.new.conn result (λ db next to. (first : Trees) → RowsCompared first db shown.now rows.now at.shown at.entries → RowsCompared first next shown.now rows.now to.shown to.entries) }
+    ensures does { PerformsWell S.Store tx.old.conn tx.new.conn result (λ db next to. (first : Trees) → RowsCompared first db shown.now rows.now at.shown at.entries → RowsCompared first next shown.now rows.now to.shown to.entries) }
     ensures further { IfOk result (λ to. GoesOn (length shown.now) (length rows.now) at.shown at.entries to.shown to.entries) }
 {
     match row_change(shown, rows, at)? {
@@ -389,7 +389,7 @@ fn change_row_or_more<S: Alter>(
     requires inside { BeginsInside S.Store tx.old.conn }
     requires within { (at.shown ≤ length shown.now) × (at.entries ≤ length rows.now) }
     requires left { (at.shown < length shown.now) ⊎ (at.entries < length rows.now) }
-    ensures does { DoesWell S.Store tx.old.conn tx.new.conn result (λ db next to. (first : Trees) → RowsCompared first db shown.now rows.now at.shown at.entries → RowsCompared first next shown.now rows.now to.shown to.entries) }
+    ensures does { PerformsWell S.Store tx.old.conn tx.new.conn result (λ db next to. (first : Trees) → RowsCompared first db shown.now rows.now at.shown at.entries → RowsCompared first next shown.now rows.now to.shown to.entries) }
     ensures further { IfOk result (λ to. GoesOn (length shown.now) (length rows.now) at.shown at.entries to.shown to.entries) }
 {
     if at.shown < shown.len() || rows.len() - at.entries < 8 {
@@ -412,7 +412,7 @@ fn change_rows<S: Alter>(
     requires inside { BeginsInside S.Store tx.old.conn }
     requires shown { IsTrusted (state S.Store tx.old.conn.now) → IsPermutation (map entry_columns ((state S.Store tx.old.conn.now).now.trees 6)) shown.now }
     requires ordered { AreByKey rows.now }
-    ensures { DoesWell S.Store tx.old.conn tx.new.conn result (λ db next _. SetsRows db next rows.now) }
+    ensures { PerformsWell S.Store tx.old.conn tx.new.conn result (λ db next _. SetsRows db next rows.now) }
 {
     let mut at = Compared {
         shown: 0,
@@ -428,7 +428,7 @@ fn change_rows<S: Alter>(
 pub fn set_rows<S: Alter>(tx: &mut Transaction<'_, S>, rows: &[RowIn]) -> Result<(), KeepFault>
     requires inside { BeginsInside S.Store tx.old.conn }
     requires ordered { AreByKey rows.now }
-    ensures { DoesWell S.Store tx.old.conn tx.new.conn result (λ db next _. SetsRows db next rows.now) }
+    ensures { PerformsWell S.Store tx.old.conn tx.new.conn result (λ db next _. SetsRows db next rows.now) }
 {
     let listed = listed_rows(tx)?;
     let shown = rows_in_order(listed);

@@ -35,12 +35,12 @@ abbrev pub LeavesAll : {S T E : Type 0} → Ghosts S → MutBor (Held S) → Mut
 LeavesAll store old new result = IsTrusted (state store new.now) → OnOk result ((state store new.now).now ≡ (state store old.now).now)
 
 -- what a step leaves, and what it makes of the tables or shows of them
-pub record Does {S T E : Type 0} (store : Ghosts S) (old new : MutBor (Held S)) (result : Result T E) (made : Trees → Trees → T → Type 0) : Type 0 where
+pub record Performs {S T E : Type 0} (store : Ghosts S) (old new : MutBor (Held S)) (result : Result T E) (made : Trees → Trees → T → Type 0) : Type 0 where
   pub steps : StepsWithin store old new result
   pub yields : Yields store old new result made
 
 -- the same of a step that doesn't report a bad row
-pub record DoesWell {S T : Type 0} (store : Ghosts S) (old new : MutBor (Held S)) (result : Result T KeepFault) (made : Trees → Trees → T → Type 0) : Type 0 where
+pub record PerformsWell {S T : Type 0} (store : Ghosts S) (old new : MutBor (Held S)) (result : Result T KeepFault) (made : Trees → Trees → T → Type 0) : Type 0 where
   pub steps : StepsWithin store old new result
   pub yields : Yields store old new result made
   pub bad : NeverBad result
