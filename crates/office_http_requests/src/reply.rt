@@ -2,11 +2,11 @@
 ghost use Rattle.std.specs.Prelude.{◌≡◌, Ok, Err, ◌≤◌, ◌<◌, ◌+◌, ◌++◌, ◌∷◌, ℕ, List, [], OnOk, OnErr, IfOk, length, decimal, codes, unwrap_or, if◌then◌else◌, true};
 ghost use Rattle.std.specs.Io.KnownBytes.{Appends};
 ghost use Rattle.http.specs.StatusCode.{reason_phrase};
-ghost use Rattle.office_mail.specs.Counts.{HasRisen};
 ghost use Rattle.office_http_requests.specs.Reply.{Reply, delivery_code, refusal_status, refusal_allow, refused, reply_in, reply_with, reply_bytes, front_bytes, continue_bytes};
 ghost use Rattle.office_http_requests.specs.steps.Reply.{HasPlace};
+ghost use Rattle.office_core_orders.specs.Counted.{CountsFailure};
 ghost use Rattle.office_core_orders.specs.Replies.{status_line};
-ghost use Rattle.office_core_orders.specs.Written.{AppendsFront};
+ghost use Rattle.office_core_orders.specs.Written.{AppendsFront, Writes};
 ghost use Rattle.office_core_orders.specs.steps.Written.{joined};
 
 use deb_control::Text;
@@ -153,10 +153,7 @@ fn write_front<W: Sink>(
     size: usize,
     writer: &mut W,
 ) -> Result<(), WriteFault>
-    ensures ok { OnOk result (Appends (W.written writer.old) (W.written writer.new) (front_bytes status allow.now size)) }
-    ensures err { OnErr result (AppendsFront (W.written writer.old) (W.written writer.new) (front_bytes status allow.now size)) }
-    ensures cause { OnErr result (HasRisen (W.failures writer.old) (W.failures writer.new)) }
-    ensures clean { OnOk result (W.failures writer.new ≡ W.failures writer.old) }
+    ensures { Writes W.Sink writer.old writer.new (front_bytes status allow.now size) result }
 {
     let code = Digits::of(u64::from(status.as_u16()));
     let phrase = phrase_of(&status);
@@ -185,11 +182,8 @@ fn write_whole<W: Sink>(
     writer: &mut W,
 ) -> Result<u16, WriteFault>
     requires { size ≡ length (joined body.now) }
-    ensures ok { OnOk result (Appends (W.written writer.old) (W.written writer.new) (reply_bytes (record { code = status; allow = allow.now; body = joined body.now }) is_head)) }
+    ensures writes { Writes W.Sink writer.old writer.new (reply_bytes (record { code = status; allow = allow.now; body = joined body.now }) is_head) result }
     ensures code { IfOk result (λ code. code ≡ status) }
-    ensures err { OnErr result (AppendsFront (W.written writer.old) (W.written writer.new) (reply_bytes (record { code = status; allow = allow.now; body = joined body.now }) is_head)) }
-    ensures cause { OnErr result (HasRisen (W.failures writer.old) (W.failures writer.new)) }
-    ensures clean { OnOk result (W.failures writer.new ≡ W.failures writer.old) }
 {
     write_front(status, allow, size, writer)?;
     write_parts(writer, shown(body, is_head))?;
@@ -208,11 +202,8 @@ fn write_refused<W: Sink>(
     is_head: bool,
     writer: &mut W,
 ) -> Result<u16, WriteFault>
-    ensures ok { OnOk result (Appends (W.written writer.old) (W.written writer.new) (reply_bytes (refused refusal) is_head)) }
+    ensures writes { Writes W.Sink writer.old writer.new (reply_bytes (refused refusal) is_head) result }
     ensures code { IfOk result (λ code. code ≡ (refusal_status refusal).0) }
-    ensures err { OnErr result (AppendsFront (W.written writer.old) (W.written writer.new) (reply_bytes (refused refusal) is_head)) }
-    ensures cause { OnErr result (HasRisen (W.failures writer.old) (W.failures writer.new)) }
-    ensures clean { OnOk result (W.failures writer.new ≡ W.failures writer.old) }
 {
     let name = refusal.name();
     let body = [b"refused ".as_slice(), name.as_bytes(), b"\n".as_slice()];
@@ -235,11 +226,8 @@ fn write_held<W: Sink>(
     writer: &mut W,
 ) -> Result<u16, WriteFault>
     requires { held.sender < length setup.now.senders }
-    ensures ok { OnOk result (Appends (W.written writer.old) (W.written writer.new) (reply_bytes (reply_in setup.now (Answer.Delivered (Ok held))) is_head)) }
+    ensures writes { Writes W.Sink writer.old writer.new (reply_bytes (reply_in setup.now (Answer.Delivered (Ok held))) is_head) result }
     ensures code { IfOk result (λ code. code ≡ 200) }
-    ensures err { OnErr result (AppendsFront (W.written writer.old) (W.written writer.new) (reply_bytes (reply_in setup.now (Answer.Delivered (Ok held))) is_head)) }
-    ensures cause { OnErr result (HasRisen (W.failures writer.old) (W.failures writer.new)) }
-    ensures clean { OnOk result (W.failures writer.new ≡ W.failures writer.old) }
 {
     let digits = Digits::of(u64::from(held.number));
     let name = setup.senders()[held.sender as usize].name.as_str();
@@ -261,11 +249,8 @@ fn write_fault<W: Sink>(
     is_head: bool,
     writer: &mut W,
 ) -> Result<u16, WriteFault>
-    ensures ok { OnOk result (Appends (W.written writer.old) (W.written writer.new) (reply_bytes (reply_in setup.now (Answer.Delivered (Err fault))) is_head)) }
+    ensures writes { Writes W.Sink writer.old writer.new (reply_bytes (reply_in setup.now (Answer.Delivered (Err fault))) is_head) result }
     ensures code { IfOk result (λ code. code ≡ delivery_code (Err fault)) }
-    ensures err { OnErr result (AppendsFront (W.written writer.old) (W.written writer.new) (reply_bytes (reply_in setup.now (Answer.Delivered (Err fault))) is_head)) }
-    ensures cause { OnErr result (HasRisen (W.failures writer.old) (W.failures writer.new)) }
-    ensures clean { OnOk result (W.failures writer.new ≡ W.failures writer.old) }
 {
     let (word, field) = fault_words(fault);
     let body = [
@@ -283,11 +268,8 @@ fn write_progress<W: Sink>(
     is_head: bool,
     writer: &mut W,
 ) -> Result<u16, WriteFault>
-    ensures ok { OnOk result (Appends (W.written writer.old) (W.written writer.new) (reply_bytes (reply_with 200 (status_line progress.ready progress.finished)) is_head)) }
+    ensures writes { Writes W.Sink writer.old writer.new (reply_bytes (reply_with 200 (status_line progress.ready progress.finished)) is_head) result }
     ensures code { IfOk result (λ code. code ≡ 200) }
-    ensures err { OnErr result (AppendsFront (W.written writer.old) (W.written writer.new) (reply_bytes (reply_with 200 (status_line progress.ready progress.finished)) is_head)) }
-    ensures cause { OnErr result (HasRisen (W.failures writer.old) (W.failures writer.new)) }
-    ensures clean { OnOk result (W.failures writer.new ≡ W.failures writer.old) }
 {
     let ready = Digits::of(u64::from(progress.ready));
     let finished = Digits::of(u64::from(progress.finished));
@@ -303,22 +285,16 @@ fn write_progress<W: Sink>(
 }
 
 fn write_text<W: Sink>(text: &[u8], is_head: bool, writer: &mut W) -> Result<u16, WriteFault>
-    ensures ok { OnOk result (Appends (W.written writer.old) (W.written writer.new) (reply_bytes (reply_with 200 text.now) is_head)) }
+    ensures writes { Writes W.Sink writer.old writer.new (reply_bytes (reply_with 200 text.now) is_head) result }
     ensures code { IfOk result (λ code. code ≡ 200) }
-    ensures err { OnErr result (AppendsFront (W.written writer.old) (W.written writer.new) (reply_bytes (reply_with 200 text.now) is_head)) }
-    ensures cause { OnErr result (HasRisen (W.failures writer.old) (W.failures writer.new)) }
-    ensures clean { OnOk result (W.failures writer.new ≡ W.failures writer.old) }
 {
     let body = [text];
     write_whole(StatusCode::OK, "", &body, text.len(), is_head, writer)
 }
 
 fn write_bad_hint<W: Sink>(text: &[u8], is_head: bool, writer: &mut W) -> Result<u16, WriteFault>
-    ensures ok { OnOk result (Appends (W.written writer.old) (W.written writer.new) (reply_bytes (reply_with 400 text.now) is_head)) }
+    ensures writes { Writes W.Sink writer.old writer.new (reply_bytes (reply_with 400 text.now) is_head) result }
     ensures code { IfOk result (λ code. code ≡ 400) }
-    ensures err { OnErr result (AppendsFront (W.written writer.old) (W.written writer.new) (reply_bytes (reply_with 400 text.now) is_head)) }
-    ensures cause { OnErr result (HasRisen (W.failures writer.old) (W.failures writer.new)) }
-    ensures clean { OnOk result (W.failures writer.new ≡ W.failures writer.old) }
 {
     let body = [text];
     write_whole(
@@ -339,11 +315,8 @@ pub fn write_answer<W: Sink>(
     writer: &mut W,
 ) -> Result<u16, WriteFault>
     requires { HasPlace setup.now answer.now }
-    ensures ok { OnOk result (Appends (W.written writer.old) (W.written writer.new) (reply_bytes (reply_in setup.now answer.now) is_head)) }
+    ensures writes { Writes W.Sink writer.old writer.new (reply_bytes (reply_in setup.now answer.now) is_head) result }
     ensures code { IfOk result (λ code. code ≡ (reply_in setup.now answer.now).code) }
-    ensures err { OnErr result (AppendsFront (W.written writer.old) (W.written writer.new) (reply_bytes (reply_in setup.now answer.now) is_head)) }
-    ensures cause { OnErr result (HasRisen (W.failures writer.old) (W.failures writer.new)) }
-    ensures clean { OnOk result (W.failures writer.new ≡ W.failures writer.old) }
 {
     match answer {
         Answer::Refused(refusal) => write_refused(*refusal, is_head, writer),
@@ -362,8 +335,7 @@ pub fn write_continue<W: Sink>(waits: bool, writer: &mut W) -> Result<(), WriteF
     ensures ok { OnOk result (Appends (W.written writer.old) (W.written writer.new) (if waits then continue_bytes else [])) }
     ensures err { OnErr result (AppendsFront (W.written writer.old) (W.written writer.new) continue_bytes) }
     ensures waits { OnErr result (waits ≡ true) }
-    ensures cause { OnErr result (HasRisen (W.failures writer.old) (W.failures writer.new)) }
-    ensures clean { OnOk result (W.failures writer.new ≡ W.failures writer.old) }
+    ensures failures { CountsFailure (W.failures writer.old) (W.failures writer.new) result }
 {
     if waits {
         return write_all(writer, b"HTTP/1.1 100 Continue\r\n\r\n");
