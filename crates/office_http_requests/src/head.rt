@@ -1,11 +1,11 @@
 //! The head of a request, as it comes (RFC 9112, sections 2 to 5).
-ghost use Rattle.std.specs.Prelude.{◌≡◌, ◌⊎◌, ◌≤◌, ◌<◌, ◌+◌, ◌-◌, ◌++◌, [], List, ℕ, length, Option, None, IfOk, IfSome, OnOk, OnErr};
+ghost use Rattle.std.specs.Prelude.{◌≡◌, ◌⊎◌, ◌≤◌, ◌<◌, ◌+◌, ◌-◌, ◌++◌, [], List, ℕ, length, Option, None, IfOk, IfSome, OnErr};
 ghost use Rattle.httparse.specs.Grammar.{HasNoRequest};
-ghost use Rattle.office_mail.specs.Counts.{HasRisen};
 ghost use Rattle.std.specs.Io.KnownBytes.{IsAtEnd, Keeps};
 ghost use Rattle.httparse.specs.declared.spans.HeaderSpan.{HeaderSpan};
 ghost use Rattle.office_http_requests.specs.Request.{head_room, field_room};
 ghost use Rattle.office_http_requests.specs.steps.RequestSteps.{IsHeadScan, IsEnd, Came, Draws, Heads, Fills};
+ghost use Rattle.office_core_orders.specs.Counted.{CountsFailure};
 
 use httparse::Status;
 use httparse::spans::{HeaderSpan, RequestSpans, parse_request};
@@ -40,8 +40,7 @@ fn read_more<R: Feed>(
     ensures drawn { IfOk result (λ drawn. Draws (R.left reader.old) (R.left reader.new) seen.old.items seen.new.items most drawn) }
     ensures failed { OnErr result (Keeps (R.left reader.old) (R.left reader.new)) }
     ensures calls { R.calls reader.new ≤ R.calls reader.old + 1 }
-    ensures cause { OnErr result (HasRisen (R.failures reader.old) (R.failures reader.new)) }
-    ensures clean { OnOk result (R.failures reader.new ≡ R.failures reader.old) }
+    ensures failures { CountsFailure (R.failures reader.old) (R.failures reader.new) result }
 {
     let mut chunk = [0u8; CHUNK];
     let room = min(most - seen.len(), CHUNK);
@@ -130,8 +129,7 @@ pub fn read_head<R: Feed>(
     ensures failed { OnErr result (Came (R.left reader.old) (R.left reader.new) head_room) }
     // Each read but the last gives a byte.
     ensures calls { R.calls reader.new ≤ R.calls reader.old + head_room }
-    ensures cause { OnErr result (HasRisen (R.failures reader.old) (R.failures reader.new)) }
-    ensures clean { OnOk result (R.failures reader.new ≡ R.failures reader.old) }
+    ensures failures { CountsFailure (R.failures reader.old) (R.failures reader.new) result }
 {
     'reads: while seen.len() < HEAD_ROOM {
         match read_more(reader, seen, HEAD_ROOM)? {
@@ -164,8 +162,7 @@ pub fn read_up_to<R: Feed>(
     ensures filled { IfOk result (λ filled. Fills (R.left reader.old) (R.left reader.new) seen.old.items seen.new.items end filled) }
     ensures failed { OnErr result (Came (R.left reader.old) (R.left reader.new) (end - length seen.old.items)) }
     ensures calls { R.calls reader.new ≤ R.calls reader.old + (end - length seen.old.items) }
-    ensures cause { OnErr result (HasRisen (R.failures reader.old) (R.failures reader.new)) }
-    ensures clean { OnOk result (R.failures reader.new ≡ R.failures reader.old) }
+    ensures failures { CountsFailure (R.failures reader.old) (R.failures reader.new) result }
 {
     'reads: while seen.len() < end {
         match read_more(reader, seen, end)? {
