@@ -426,18 +426,26 @@ pub(crate) fn tell_asked(page: Page, method: &[u8]) -> Asked
     Asked::Refused(Refusal::OnlyGet)
 }
 
-/// What is asked for on a route. It fails only if memory runs out.
+/// The parts of a request line (RFC 9112, section 3), with the minor version of HTTP/1.
+#[derive(Clone, Copy)]
+struct RequestLine<'a> {
+    method: &'a [u8],
+    target: &'a str,
+    minor: u8,
+}
+
+/// What is asked for on a route, given the path in the request line. It fails only if memory runs out.
 fn asked_at(
     alloc: Global,
     setup: &Setup,
     route: Route,
-    method: &[u8],
+    line: RequestLine<'_>,
     path: &str,
-    minor: u8,
     framing: Framing,
 ) -> Result<Asked, AllocError>
-    ensures { IfOk result (λ asked. asked ≡ asked_at setup.now (Some route) method.now path.now minor framing) }
+    ensures { IfOk result (λ asked. asked ≡ asked_at setup.now (Some route) line.entry.method.now path.now line.entry.minor framing) }
 {
+    let (method, minor) = (line.method, line.minor);
     match route {
         Route::Mail => Ok(post_asked(Action::Deliver, method, minor, framing)),
         Route::MailOf => Ok(mail_of_asked(setup, behind(path, 6), method, minor, framing)),
@@ -476,26 +484,24 @@ fn names_host(minor: u8, hosts: HostFields) -> bool
     }
 }
 
-/// What is asked for, by the parts of the head. It fails for want of memory alone.
+/// What is asked for, by the request line and the fields. It fails only if memory runs out.
 #[tactic(auto, unfolding(crate::specs::Asked::asked_by))]
 fn asked_by(
     alloc: Global,
     router: &Router<Route>,
     setup: &Setup,
-    method: &[u8],
-    target: &str,
-    minor: u8,
+    line: RequestLine<'_>,
     framing: Framing,
 ) -> Result<Asked, AllocError>
     requires { router.now ≡ office_routes }
-    ensures { IfOk result (λ asked. asked ≡ asked_by setup.now method.now target.now minor framing) }
+    ensures { IfOk result (λ asked. asked ≡ asked_by setup.now line.entry.method.now line.entry.target.now line.entry.minor framing) }
 {
-    if !names_host(minor, framing.hosts) {
+    if !names_host(line.minor, framing.hosts) {
         return Ok(Asked::Refused(Refusal::BadRequest));
     }
-    let path = path_of(target);
+    let path = path_of(line.target);
     match find_route(router, path) {
-        Some(route) => asked_at(alloc, setup, route, method, path, minor, framing),
+        Some(route) => asked_at(alloc, setup, route, line, path, framing),
         None => Ok(Asked::Refused(Refusal::NoRoute)),
     }
 }
@@ -518,15 +524,12 @@ pub fn asked_of(
     let Ok(target) = str::from_utf8(spans.path.of(seen)) else {
         return Ok(Asked::Refused(Refusal::BadRequest));
     };
-    asked_by(
-        alloc,
-        router,
-        setup,
-        spans.method.of(seen),
+    let line = RequestLine {
+        method: spans.method.of(seen),
         target,
-        spans.version,
-        framing,
-    )
+        minor: spans.version,
+    };
+    asked_by(alloc, router, setup, line, framing)
 }
 
 /// Whether the method is HEAD, whose reply has no body (RFC 9110, section 9.3.2).
