@@ -37,6 +37,13 @@ pub(crate) enum Subject {
     Unstable,
 }
 
+/// What the first line of a text says: what it is about, and how many runs are finished.
+#[derive(Clone, Copy)]
+struct Heading {
+    subject: Subject,
+    finished: u32,
+}
+
 /// The hints as the facts give them. It fails only if memory runs out.
 fn hints_beside(
     alloc: Global,
@@ -78,16 +85,15 @@ fn tell_by<K: Keeper>(
     keeper: &mut K,
     orders: &[RunOrder],
     facts: &Facts,
-    finished: u32,
-    subject: Subject,
+    heading: Heading,
 ) -> Result<Text, StoreFault>
     ensures text { K.is_trusted keeper.new → K.is_legible keeper.old → IfOk result (λ text. (s : Covered) → StandsFor facts.now s (K.content keeper.old).testing
-        → text ≡ text_over subject setup.now finished (cover_of orders.now) s (K.content keeper.old).testing) }
+        → text ≡ text_over heading.subject setup.now heading.finished (cover_of orders.now) s (K.content keeper.old).testing) }
     ensures looks { ReadsStore K.Keeper keeper.old keeper.new result }
 {
-    match subject {
-        Subject::Hints => tell_hints(alloc, setup, keeper, orders, facts, finished),
-        Subject::Unstable => Ok(unstable_over(alloc, setup.archs(), facts, finished)?),
+    match heading.subject {
+        Subject::Hints => tell_hints(alloc, setup, keeper, orders, facts, heading.finished),
+        Subject::Unstable => Ok(unstable_over(alloc, setup.archs(), facts, heading.finished)?),
     }
 }
 
@@ -99,16 +105,15 @@ fn tell_seen<K: Keeper>(
     keeper: &mut K,
     known: &Option<KnownFacts>,
     orders: &[RunOrder],
-    finished: u32,
-    subject: Subject,
+    heading: Heading,
 ) -> Result<Text, StoreFault>
-    ensures text { K.is_trusted keeper.new → K.is_legible keeper.old → IsOffice setup.now (K.content keeper.old) → orders.now ≡ orders_to setup.now (K.content keeper.old).kept (length (K.content keeper.old).reports) → finished ≡ length (K.content keeper.old).reports
+    ensures text { K.is_trusted keeper.new → K.is_legible keeper.old → IsOffice setup.now (K.content keeper.old) → orders.now ≡ orders_to setup.now (K.content keeper.old).kept (length (K.content keeper.old).reports) → heading.finished ≡ length (K.content keeper.old).reports
         → IfSome known.now (λ known. AreKnown setup.now (K.content keeper.old) known)
-        → IfOk result (IsSeenText subject setup.now (K.content keeper.old).kept (length (K.content keeper.old).reports)) }
+        → IfOk result (IsSeenText heading.subject setup.now (K.content keeper.old).kept (length (K.content keeper.old).reports)) }
     ensures looks { ReadsStore K.Keeper keeper.old keeper.new result }
 {
     let seen = seen_facts(alloc, setup, keeper, known, orders)?;
-    let told = tell_by(alloc, setup, keeper, orders, &seen.facts, finished, subject);
+    let told = tell_by(alloc, setup, keeper, orders, &seen.facts, heading);
     drop(seen);
     told
 }
@@ -121,19 +126,18 @@ fn tell_after<K: Keeper>(
     keeper: &mut K,
     known: &mut Option<KnownFacts>,
     orders: &[RunOrder],
-    finished: u32,
-    subject: Subject,
+    heading: Heading,
 ) -> Result<Text, StoreFault>
-    ensures known { K.is_trusted keeper.new → FirstOrders setup.now (K.content keeper.old).kept orders.now → finished ≡ length (K.content keeper.old).reports
+    ensures known { K.is_trusted keeper.new → FirstOrders setup.now (K.content keeper.old).kept orders.now → heading.finished ≡ length (K.content keeper.old).reports
         → IfSome known.old (λ known. AreKnown setup.now (K.content keeper.old) known) → IfSome known.new (λ known. AreKnown setup.now (K.content keeper.old) known) }
     ensures text { K.is_trusted keeper.new → K.is_legible keeper.old → IsOffice setup.now (K.content keeper.old) → FirstOrders setup.now (K.content keeper.old).kept orders.now
-        → orders.now ≡ orders_to setup.now (K.content keeper.old).kept (length (K.content keeper.old).reports) → finished ≡ length (K.content keeper.old).reports
+        → orders.now ≡ orders_to setup.now (K.content keeper.old).kept (length (K.content keeper.old).reports) → heading.finished ≡ length (K.content keeper.old).reports
         → IfSome known.old (λ known. AreKnown setup.now (K.content keeper.old) known)
-        → IfOk result (IsSeenText subject setup.now (K.content keeper.old).kept (length (K.content keeper.old).reports)) }
+        → IfOk result (IsSeenText heading.subject setup.now (K.content keeper.old).kept (length (K.content keeper.old).reports)) }
     ensures looks { ReadsStore K.Keeper keeper.old keeper.new result }
 {
-    remember(alloc, setup, keeper, known, orders, finished)?;
-    tell_seen(alloc, setup, keeper, known, orders, finished, subject)
+    remember(alloc, setup, keeper, known, orders, heading.finished)?;
+    tell_seen(alloc, setup, keeper, known, orders, heading)
 }
 
 /// The text over all mail without a gap of an office with this store. What is known of the mail is used, or else
@@ -152,7 +156,8 @@ fn seen_text<K: Keeper>(
 {
     let finished = stored::finished(keeper)?;
     let orders = finished_orders(alloc, setup, keeper, finished)?;
-    tell_after(alloc, setup, keeper, known, &orders, finished, subject)
+    let heading = Heading { subject, finished };
+    tell_after(alloc, setup, keeper, known, &orders, heading)
 }
 
 /// The hints in force of an office with this store, over all mail without a gap. Each item of a hint has a line, with

@@ -16,6 +16,6 @@ returns-clause-text g c = λ trusted legible office first are is was.
     let setup = a.setup.now in
     let earlier = c.tell_seen.ensures.looks.before trusted in
     let known : Option KnownFacts = c.remember.new.known in
-    subst (λ (m : Content). IsOffice setup m → a.orders.now ≡ orders_to setup m.kept (length m.reports) → a.finished ≡ length m.reports → IfSome known (λ (k : KnownFacts). AreKnown setup m k)
-    → IfOk c.tell_seen.result (IsSeenText a.subject setup m.kept (length m.reports)))
+    subst (λ (m : Content). IsOffice setup m → a.orders.now ≡ orders_to setup m.kept (length m.reports) → a.heading.finished ≡ length m.reports → IfSome known (λ (k : KnownFacts). AreKnown setup m k)
+    → IfOk c.tell_seen.result (IsSeenText a.heading.subject setup m.kept (length m.reports)))
     (c.in_ok-remember.ensures.looks.same earlier) (c.tell_seen.ensures.text trusted (c.in_ok-remember.ensures.looks.legible earlier legible)) office are is (c.in_ok-remember.ensures.known earlier first is was)

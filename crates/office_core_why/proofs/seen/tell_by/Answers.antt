@@ -12,5 +12,5 @@ returns-in_ok-unstable_over-in-Unstable-clause-text g c = λ trusted legible s s
     let a = c.args in
     let content : Content = g.K.Keeper.content a.keeper.now in
     let text : Text = c.in_ok-unstable_over-in-Unstable.field-0 in
-    subst (λ (x : Subject). text ≡ text_over x a.setup.now a.finished (cover_of a.orders.now) s content.testing) (sym c.in-Unstable.is)
-    (subst (λ (archs : List Text). text ≡ unstable_text archs a.finished s) c.archs.ensures.same (c.in_ok-unstable_over-in-Unstable.ensures s content.testing stands))
+    subst (λ (x : Subject). text ≡ text_over x a.setup.now a.heading.finished (cover_of a.orders.now) s content.testing) (sym c.in-Unstable.is)
+    (subst (λ (archs : List Text). text ≡ unstable_text archs a.heading.finished s) c.archs.ensures.same (c.in_ok-unstable_over-in-Unstable.ensures s content.testing stands))

@@ -17,8 +17,8 @@ returns-clause-text g c = λ trusted legible office are is was.
     let earlier = c.tell_by-told.ensures.looks.before trusted in
     let stands = c.in_ok-seen.ensures.stand earlier office are was in
     IfOk-weaker c.tell_by-told.result
-    (λ text. (s : Covered) → StandsFor facts s content.testing → text ≡ text_over a.subject setup a.finished (cover_of a.orders.now) s content.testing)
-    (IsSeenText a.subject setup content.kept (length content.reports))
-    (λ text told. seen_told a.subject setup content a.orders.now a.finished stands.0 text office are is stands.1 (told stands.0 stands.2))
-    (subst (λ (m : Content). IfOk c.tell_by-told.result (λ text. (s : Covered) → StandsFor facts s m.testing → text ≡ text_over a.subject setup a.finished (cover_of a.orders.now) s m.testing))
+    (λ text. (s : Covered) → StandsFor facts s content.testing → text ≡ text_over a.heading.subject setup a.heading.finished (cover_of a.orders.now) s content.testing)
+    (IsSeenText a.heading.subject setup content.kept (length content.reports))
+    (λ text told. seen_told a.heading.subject setup content a.orders.now a.heading.finished stands.0 text office are is stands.1 (told stands.0 stands.2))
+    (subst (λ (m : Content). IfOk c.tell_by-told.result (λ text. (s : Covered) → StandsFor facts s m.testing → text ≡ text_over a.heading.subject setup a.heading.finished (cover_of a.orders.now) s m.testing))
     (c.in_ok-seen.ensures.looks.same earlier) (c.tell_by-told.ensures.text trusted (c.in_ok-seen.ensures.looks.legible earlier legible)))
