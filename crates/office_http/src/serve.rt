@@ -22,7 +22,7 @@ ghost use Rattle.office_core_why.specs.Why.{IsWhy};
 ghost use Rattle.office_http.specs.steps.ServeSteps.{answer_or, part_answer, status_answer, text_answer, Tells, TellsAwaited, TellsShort, Runs, Answers, StopsRequest, ServesHead};
 ghost use Rattle.office_http.specs.Trials.{has_many_hints, terms_of};
 ghost use Rattle.office_core_facts.specs.State.{state_of};
-ghost use Rattle.office_core_orders.specs.Counted.{Counted};
+ghost use Rattle.office_core_orders.specs.Counted.{Counted, CountsFailure};
 ghost use Rattle.office_core_orders.specs.Written.{AppendsFront};
 
 use crate::breaks::{breaks_body, breaks_of};
@@ -526,8 +526,7 @@ fn refuse<W: Sink>(setup: &Setup, refusal: Refusal, writer: &mut W) -> Result<Se
     ensures code { IfOk result (λ served. served.code ≡ Some (refused refusal).code) }
     ensures ok { OnOk result (Appends (W.written writer.old) (W.written writer.new) (reply_bytes (refused refusal) false)) }
     ensures err { IfErr result (λ fault. (fault ≡ ServeFault.Write) × AppendsFront (W.written writer.old) (W.written writer.new) (reply_bytes (refused refusal) false)) }
-    ensures cause { OnErr result (HasRisen (W.failures writer.old) (W.failures writer.new)) }
-    ensures clean { OnOk result (W.failures writer.new ≡ W.failures writer.old) }
+    ensures failures { CountsFailure (W.failures writer.old) (W.failures writer.new) result }
 {
     let code = write_answer(setup, &Answer::Refused(refusal), false, writer)?;
     Ok(Served { code: Some(code) })

@@ -1,7 +1,7 @@
 use Rattle.office_http.proofs.serve.refuse.Goals as goal
 
 pub returns-clause-ok : goal.returns-clause-ok
-returns-clause-ok g c = c.in_ok-code.ensures.ok
+returns-clause-ok g c = c.in_ok-code.ensures.writes.ok
 
-pub returns-clause-clean : goal.returns-clause-clean
-returns-clause-clean g c = c.in_ok-code.ensures.clean
+pub returns-clause-failures : goal.returns-clause-failures
+returns-clause-failures g c = record { cause = tt; clean = c.in_ok-code.ensures.writes.clean }

@@ -26,7 +26,7 @@ returns-in_err-write_answer-clause-err g c =
     let is_head = (rw c.as_slice.ensures.value at c.is_head_method-is_head.ensures) c.args.head.headers.now h.head h.parts in
     let p = err_from_is_err_and c.from_residual-in_err-write_answer.result c.from_residual-in_err-write_answer.ensures.1 in
     λ t. rw (p.1, p.2) (inr (served_front (StoreRefused keeper s0 s1) (state_of keeper s0) (state_of keeper s1) (left c.args.reader.now) (left c.answer_request.new.reader) (written c.args.writer.now) (written c.answer_request.new.writer) (written c.write_answer.new.writer)
-    c.args.seen.now.items c.args.head.headers.now c.args.head.spans c.setup-2.result.now c.in_ok-answer.answer c.is_head_method-is_head.result h (c.in_ok-answer.ensures.ok t (asked_of (g.K.Keeper.setup c.args.office.now) h.head) asked) is_head same c.in_err-write_answer.ensures.err))
+    c.args.seen.now.items c.args.head.headers.now c.args.head.spans c.setup-2.result.now c.in_ok-answer.answer c.is_head_method-is_head.result h (c.in_ok-answer.ensures.ok t (asked_of (g.K.Keeper.setup c.args.office.now) h.head) asked) is_head same c.in_err-write_answer.ensures.writes.err))
 
 pub returns-clause-ok : goal.returns-clause-ok
 returns-clause-ok g c =
@@ -40,7 +40,7 @@ returns-clause-ok g c =
     let same = c.setup-2.ensures.setup ∙ c.in_ok-answer.ensures.carries.setup in
     let is_head = (rw c.as_slice.ensures.value at c.is_head_method-is_head.ensures) c.args.head.headers.now h.head h.parts in
     λ t. served_head (StoreRefused keeper s0 s1) (state_of keeper s0) (state_of keeper s1) (left c.args.reader.now) (left c.answer_request.new.reader) (written c.args.writer.now) (written c.answer_request.new.writer) (written c.write_answer.new.writer)
-    c.args.seen.now.items c.args.head.headers.now c.args.head.spans c.setup-2.result.now c.in_ok-answer.answer c.is_head_method-is_head.result c.in_ok-write_answer.field-0 h (c.in_ok-answer.ensures.ok t (asked_of (g.K.Keeper.setup c.args.office.now) h.head) asked) is_head same c.in_ok-write_answer.ensures.code c.in_ok-write_answer.ensures.ok
+    c.args.seen.now.items c.args.head.headers.now c.args.head.spans c.setup-2.result.now c.in_ok-answer.answer c.is_head_method-is_head.result c.in_ok-write_answer.field-0 h (c.in_ok-answer.ensures.ok t (asked_of (g.K.Keeper.setup c.args.office.now) h.head) asked) is_head same c.in_ok-write_answer.ensures.code c.in_ok-write_answer.ensures.writes.ok
 
 pub returns-in_err-answer-clause-err : goal.returns-in_err-answer-clause-err
 returns-in_err-answer-clause-err g c =
