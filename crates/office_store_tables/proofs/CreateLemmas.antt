@@ -1,5 +1,6 @@
 -- What CREATE TABLE makes of a database.
-use Rattle.std.proofs.Common.{◌≡◌, ℕ, List, [], false, None, Ok, Err, Result, OnOk, refl, sym, ap, subst, ◌∙◌}
+use Rattle.std.proofs.Common.{◌≡◌, ℕ, List, [], false, None, Ok, Err, Result, OnOk, IsTrue, inl, inr, refl, sym, ap, subst, ◌∙◌}
+use Rattle.std.proofs.lemmas.Bool.{cases_Bool}
 use Rattle.std.specs.Borrow.{MutBor}
 use Rattle.sqlite.specs.Store.{Ghosts}
 use Rattle.sqlite.specs.Held.{Held, state}
@@ -12,7 +13,7 @@ use Rattle.sqlite.specs.declared.error.Error.{Error}
 use Rattle.sqlite.specs.Effect.{Database}
 use Rattle.sqlite.specs.Does.{Tally, lacks_sequence}
 use Rattle.sqlite.specs.Listing.{understood}
-use Rattle.sqlite.specs.State.{State, HasCleanDisk, Writes, Executes}
+use Rattle.sqlite.specs.State.{State, HasCleanDisk, Writes, Executes, ExecutesInside, Survives}
 use Rattle.sqlite.proofs.Callers.{IsPlain, command_of, statement_of, runs_as}
 use Rattle.sqlite_tied.specs.Compute.{everything}
 use Rattle.office_store_tables.specs.Layout.{no_schema, office, mail, run, testing_source, testing_row, fact, fact_delays}
@@ -20,14 +21,14 @@ use Rattle.office_store_tables.specs.Texts.{create_office_text, create_mail_text
 use Rattle.sqlite.specs.Tree.{Trees, put_row}
 use Rattle.office_store_testing_tables.specs.declared.said.Said.{Said}
 use Rattle.office_store_tables.specs.Tables.{IsTrusted, said_in}
-use Rattle.office_store_tables.specs.steps.Tables.{Lasts}
 use Rattle.office_store_tables.specs.TableSteps.{Rows, SaysMore}
 use Rattle.office_store_tables.proofs.RunLemmas.{said_one}
 use Rattle.office_store_tables.specs.Creating.{IsBlank}
-use Rattle.office_store_tables.specs.steps.CreatingSteps.{IsBuilding, Makes, MakesAll, schema_of_one, schema_of_two, schema_of_three, schema_of_four, schema_of_five, schema_of_six}
-use Rattle.office_store_tables.proofs.StepLemmas.{Stepped, step_before, step_on, begun_ok}
+use Rattle.office_store_tables.specs.steps.CreatingSteps.{Creates, IsBuilding, Makes, MakesAll, schema_of_one, schema_of_two, schema_of_three, schema_of_four, schema_of_five, schema_of_six}
+use Rattle.office_store_tables.proofs.StateLemmas.{lasts_survived}
+use Rattle.office_store_tables.proofs.StepLemmas.{Stepped, step_before, step_on, step_open, begun_ok}
 use Rattle.office_store_tables.proofs.WriteLemmas.{went, same_value}
-use Rattle.office_store_tables.proofs.WithinLemmas.{WentWithin}
+use Rattle.office_store_tables.proofs.WithinLemmas.{WentWithin, committed_stays}
 
 -- the table is there, with no row, and the other tables have theirs
 pub record Defined (schema : Schema) (table : Table) (old new : Database) : Type 0 where
@@ -98,9 +99,29 @@ made_by schema text table old new count it h trusted building =
     let made = defines schema text table old new count was.schema_is it.command it.whole it.plain it.table_is it.simple ran.0 in
     record { schema_is = made.schema_is; begun = ran.2; committed = ran.1; empty = made.empty; others = made.others }
 
-pub makes : (schema : Schema) (text : List ℕ) (table : Table) (old new : State) (result : Result ℕ Error) → IsDefinition schema text table → Stepped text [] old new result → IsTrusted new → (IsTrusted old → IsBuilding schema old) → OnOk result (Makes schema table old new)
+makes : (schema : Schema) (text : List ℕ) (table : Table) (old new : State) (result : Result ℕ Error) → IsDefinition schema text table → Stepped text [] old new result → IsTrusted new → (IsTrusted old → IsBuilding schema old) → OnOk result (Makes schema table old new)
 makes schema text table old new (Ok count) it h trusted building = made_by schema text table old new count it h trusted building
 makes schema text table old new (Err e) it h trusted building = tt
+
+-- what the statement of a table leaves
+pub creates : {S : Type 0} {store : Ghosts S} {schema : Schema} {text : List ℕ} {table : Table} {e : Error} → IsDefinition schema text table → (old new : MutBor (Held S)) (result : Result ℕ Error) → new.ghost_name ≡ old.ghost_name
+    → ((state store old.now).in_transaction ≡ false → (result ≡ Err e) × (new.now ≡ old.now)) → Survives (state store old.now) (state store new.now) (λ _. ⊥)
+    → (HasCleanDisk (state store new.now) → IsTrue (state store old.now).in_transaction → ExecutesInside 0 text [] (state store old.now) (state store new.now) result)
+    → (IsTrusted (state store old.now) → IsBuilding schema (state store old.now)) → Creates store old new result (Makes schema table)
+creates {S} {store} {schema} {text} {table} it old new result same ended survives runs building =
+    let h : Stepped text [] (state store old.now) (state store new.now) result = record { clean = survives.clean; limit = survives.limit; ended = λ idle. (_, (ended idle).0); runs = runs } in
+    let before : IsTrusted (state store new.now) → IsTrusted (state store old.now) = λ trusted. elim (cases_Bool (state store old.now).in_transaction) [
+      | inl begun ↦ step_before _ _ _ _ result h begun trusted
+      | inr idle ↦ subst (λ (s : Held S). IsTrusted (state store s)) (ended idle).1 trusted
+    ] in
+    record {
+      same_reference = same;
+      before = before;
+      lasts = lasts_survived _ _ survives;
+      stays = λ clean trusted. step_open _ _ _ _ result h clean trusted;
+      made = λ trusted. makes schema text table (state store old.now) (state store new.now) result it h trusted building;
+      err = λ trusted. committed_stays _ _ _ _ result h (building (before trusted)).begun trusted;
+    }
 
 pub makes_all : (a b c d e f g h : State) → Makes no_schema office a b → Makes schema_of_one mail b c → Makes schema_of_two run c d → Makes schema_of_three testing_source d e → Makes schema_of_four testing_row e f
     → Makes schema_of_five fact f g → Makes schema_of_six fact_delays g h → MakesAll a h
@@ -133,13 +154,12 @@ blank a b next said made spoken = record {
 }
 
 -- the tables stand, so the steps that made them went well
-pub built_within : {S : Type 0} {store : Ghosts S} {old new : MutBor (Held S)} → new.ghost_name ≡ old.ghost_name → (IsTrusted (state store new.now) → IsTrusted (state store old.now)) → Lasts (state store old.now) (state store new.now)
-    → (HasCleanDisk (state store new.now) → IsTrusted (state store old.now) → IsTrusted (state store new.now)) → (IsTrusted (state store new.now) → MakesAll (state store old.now) (state store new.now)) → WentWithin store old new
-built_within same before lasts stays made = record {
-  same_reference = same;
-  before = before;
-  lasts = lasts;
-  stays = stays;
-  on = λ trusted. let all = made trusted in record { inside = record { schema = all.schema_is; begun = all.begun }; committed = all.committed };
+pub built_within : {S : Type 0} {store : Ghosts S} {old new : MutBor (Held S)} {count : ℕ} → Creates store old new (Ok count) MakesAll → WentWithin store old new
+built_within step = record {
+  same_reference = step.same_reference;
+  before = step.before;
+  lasts = step.lasts;
+  stays = step.stays;
+  on = λ trusted. let all = step.made trusted in record { inside = record { schema = all.schema_is; begun = all.begun }; committed = all.committed };
   err = λ _. tt;
 }

@@ -8,7 +8,7 @@ ghost use Rattle.office_store_tables.specs.steps.Tables.{Lasts};
 ghost use Rattle.office_store_tables.specs.StepsWithin.{StepsWithin, Yields};
 ghost use Rattle.office_store_tables.specs.Unchanged.{IsAsItWas};
 ghost use Rattle.office_store_tables.specs.Creating.{IsBlank};
-ghost use Rattle.office_store_tables.specs.steps.CreatingSteps.{IsBuilding, Makes, MakesAll, schema_of_one, schema_of_two, schema_of_three, schema_of_four, schema_of_five, schema_of_six};
+ghost use Rattle.office_store_tables.specs.steps.CreatingSteps.{Creates, IsBuilding, Makes, MakesAll, schema_of_one, schema_of_two, schema_of_three, schema_of_four, schema_of_five, schema_of_six};
 
 use crate::runs::add_office;
 use office_store_keeper::{Cause, KeepFault};
@@ -17,12 +17,7 @@ use sqlite::{Alter, Connection, Error, Transaction};
 /// Makes the table of the office.
 fn create_office<S: Alter>(tx: &mut Transaction<'_, S>) -> Result<usize, Error>
     requires building { IsTrusted (state S.Store tx.old.conn.now) → IsBuilding no_schema (state S.Store tx.old.conn.now) }
-    ensures same_reference { tx.new.conn.ghost_name ≡ tx.old.conn.ghost_name }
-    ensures before { IsTrusted (state S.Store tx.new.conn.now) → IsTrusted (state S.Store tx.old.conn.now) }
-    ensures lasts { Lasts (state S.Store tx.old.conn.now) (state S.Store tx.new.conn.now) }
-    ensures open { HasCleanDisk (state S.Store tx.new.conn.now) → IsTrusted (state S.Store tx.old.conn.now) → OnOk result (IsTrusted (state S.Store tx.new.conn.now)) }
-    ensures made { IsTrusted (state S.Store tx.new.conn.now) → OnOk result (Makes no_schema office (state S.Store tx.old.conn.now) (state S.Store tx.new.conn.now)) }
-    ensures err { IsTrusted (state S.Store tx.new.conn.now) → OnErr result ((state S.Store tx.new.conn.now).committed ≡ (state S.Store tx.old.conn.now).committed) }
+    ensures { Creates S.Store tx.old.conn tx.new.conn result (Makes no_schema office) }
 {
     tx.execute(
         "CREATE TABLE office (id INTEGER PRIMARY KEY, schema INTEGER NOT NULL, setup TEXT NOT NULL, finished INTEGER NOT NULL) STRICT",
@@ -33,12 +28,7 @@ fn create_office<S: Alter>(tx: &mut Transaction<'_, S>) -> Result<usize, Error>
 /// Makes the table of mail.
 fn create_mail<S: Alter>(tx: &mut Transaction<'_, S>) -> Result<usize, Error>
     requires building { IsTrusted (state S.Store tx.old.conn.now) → IsBuilding schema_of_one (state S.Store tx.old.conn.now) }
-    ensures same_reference { tx.new.conn.ghost_name ≡ tx.old.conn.ghost_name }
-    ensures before { IsTrusted (state S.Store tx.new.conn.now) → IsTrusted (state S.Store tx.old.conn.now) }
-    ensures lasts { Lasts (state S.Store tx.old.conn.now) (state S.Store tx.new.conn.now) }
-    ensures open { HasCleanDisk (state S.Store tx.new.conn.now) → IsTrusted (state S.Store tx.old.conn.now) → OnOk result (IsTrusted (state S.Store tx.new.conn.now)) }
-    ensures made { IsTrusted (state S.Store tx.new.conn.now) → OnOk result (Makes schema_of_one mail (state S.Store tx.old.conn.now) (state S.Store tx.new.conn.now)) }
-    ensures err { IsTrusted (state S.Store tx.new.conn.now) → OnErr result ((state S.Store tx.new.conn.now).committed ≡ (state S.Store tx.old.conn.now).committed) }
+    ensures { Creates S.Store tx.old.conn tx.new.conn result (Makes schema_of_one mail) }
 {
     tx.execute(
         "CREATE TABLE mail (sender INTEGER NOT NULL, number INTEGER NOT NULL, body BLOB NOT NULL, PRIMARY KEY (sender, number)) STRICT",
@@ -49,12 +39,7 @@ fn create_mail<S: Alter>(tx: &mut Transaction<'_, S>) -> Result<usize, Error>
 /// Makes the table of finished runs.
 fn create_run<S: Alter>(tx: &mut Transaction<'_, S>) -> Result<usize, Error>
     requires building { IsTrusted (state S.Store tx.old.conn.now) → IsBuilding schema_of_two (state S.Store tx.old.conn.now) }
-    ensures same_reference { tx.new.conn.ghost_name ≡ tx.old.conn.ghost_name }
-    ensures before { IsTrusted (state S.Store tx.new.conn.now) → IsTrusted (state S.Store tx.old.conn.now) }
-    ensures lasts { Lasts (state S.Store tx.old.conn.now) (state S.Store tx.new.conn.now) }
-    ensures open { HasCleanDisk (state S.Store tx.new.conn.now) → IsTrusted (state S.Store tx.old.conn.now) → OnOk result (IsTrusted (state S.Store tx.new.conn.now)) }
-    ensures made { IsTrusted (state S.Store tx.new.conn.now) → OnOk result (Makes schema_of_two run (state S.Store tx.old.conn.now) (state S.Store tx.new.conn.now)) }
-    ensures err { IsTrusted (state S.Store tx.new.conn.now) → OnErr result ((state S.Store tx.new.conn.now).committed ≡ (state S.Store tx.old.conn.now).committed) }
+    ensures { Creates S.Store tx.old.conn tx.new.conn result (Makes schema_of_two run) }
 {
     tx.execute(
         "CREATE TABLE run (number INTEGER PRIMARY KEY, excuses TEXT NOT NULL, updates TEXT NOT NULL) STRICT",
@@ -65,12 +50,7 @@ fn create_run<S: Alter>(tx: &mut Transaction<'_, S>) -> Result<usize, Error>
 /// Makes the table of testing's sources.
 fn create_testing_source<S: Alter>(tx: &mut Transaction<'_, S>) -> Result<usize, Error>
     requires building { IsTrusted (state S.Store tx.old.conn.now) → IsBuilding schema_of_three (state S.Store tx.old.conn.now) }
-    ensures same_reference { tx.new.conn.ghost_name ≡ tx.old.conn.ghost_name }
-    ensures before { IsTrusted (state S.Store tx.new.conn.now) → IsTrusted (state S.Store tx.old.conn.now) }
-    ensures lasts { Lasts (state S.Store tx.old.conn.now) (state S.Store tx.new.conn.now) }
-    ensures open { HasCleanDisk (state S.Store tx.new.conn.now) → IsTrusted (state S.Store tx.old.conn.now) → OnOk result (IsTrusted (state S.Store tx.new.conn.now)) }
-    ensures made { IsTrusted (state S.Store tx.new.conn.now) → OnOk result (Makes schema_of_three testing_source (state S.Store tx.old.conn.now) (state S.Store tx.new.conn.now)) }
-    ensures err { IsTrusted (state S.Store tx.new.conn.now) → OnErr result ((state S.Store tx.new.conn.now).committed ≡ (state S.Store tx.old.conn.now).committed) }
+    ensures { Creates S.Store tx.old.conn tx.new.conn result (Makes schema_of_three testing_source) }
 {
     tx.execute(
         "CREATE TABLE testing_source (name TEXT NOT NULL PRIMARY KEY, sender INTEGER NOT NULL, number INTEGER NOT NULL, FOREIGN KEY (sender, number) REFERENCES mail (sender, number)) STRICT",
@@ -81,12 +61,7 @@ fn create_testing_source<S: Alter>(tx: &mut Transaction<'_, S>) -> Result<usize,
 /// Makes the table of testing's rows.
 fn create_testing_row<S: Alter>(tx: &mut Transaction<'_, S>) -> Result<usize, Error>
     requires building { IsTrusted (state S.Store tx.old.conn.now) → IsBuilding schema_of_four (state S.Store tx.old.conn.now) }
-    ensures same_reference { tx.new.conn.ghost_name ≡ tx.old.conn.ghost_name }
-    ensures before { IsTrusted (state S.Store tx.new.conn.now) → IsTrusted (state S.Store tx.old.conn.now) }
-    ensures lasts { Lasts (state S.Store tx.old.conn.now) (state S.Store tx.new.conn.now) }
-    ensures open { HasCleanDisk (state S.Store tx.new.conn.now) → IsTrusted (state S.Store tx.old.conn.now) → OnOk result (IsTrusted (state S.Store tx.new.conn.now)) }
-    ensures made { IsTrusted (state S.Store tx.new.conn.now) → OnOk result (Makes schema_of_four testing_row (state S.Store tx.old.conn.now) (state S.Store tx.new.conn.now)) }
-    ensures err { IsTrusted (state S.Store tx.new.conn.now) → OnErr result ((state S.Store tx.new.conn.now).committed ≡ (state S.Store tx.old.conn.now).committed) }
+    ensures { Creates S.Store tx.old.conn tx.new.conn result (Makes schema_of_four testing_row) }
 {
     tx.execute(
         "CREATE TABLE testing_row (arch INTEGER NOT NULL, name TEXT NOT NULL, sender INTEGER NOT NULL, number INTEGER NOT NULL, place INTEGER NOT NULL, PRIMARY KEY (arch, name), FOREIGN KEY (sender, number) REFERENCES mail (sender, number)) STRICT",
@@ -97,12 +72,7 @@ fn create_testing_row<S: Alter>(tx: &mut Transaction<'_, S>) -> Result<usize, Er
 /// Makes the table of facts.
 fn create_fact<S: Alter>(tx: &mut Transaction<'_, S>) -> Result<usize, Error>
     requires building { IsTrusted (state S.Store tx.old.conn.now) → IsBuilding schema_of_five (state S.Store tx.old.conn.now) }
-    ensures same_reference { tx.new.conn.ghost_name ≡ tx.old.conn.ghost_name }
-    ensures before { IsTrusted (state S.Store tx.new.conn.now) → IsTrusted (state S.Store tx.old.conn.now) }
-    ensures lasts { Lasts (state S.Store tx.old.conn.now) (state S.Store tx.new.conn.now) }
-    ensures open { HasCleanDisk (state S.Store tx.new.conn.now) → IsTrusted (state S.Store tx.old.conn.now) → OnOk result (IsTrusted (state S.Store tx.new.conn.now)) }
-    ensures made { IsTrusted (state S.Store tx.new.conn.now) → OnOk result (Makes schema_of_five fact (state S.Store tx.old.conn.now) (state S.Store tx.new.conn.now)) }
-    ensures err { IsTrusted (state S.Store tx.new.conn.now) → OnErr result ((state S.Store tx.new.conn.now).committed ≡ (state S.Store tx.old.conn.now).committed) }
+    ensures { Creates S.Store tx.old.conn tx.new.conn result (Makes schema_of_five fact) }
 {
     tx.execute(
         "CREATE TABLE fact (kind INTEGER NOT NULL, sender INTEGER NOT NULL, number INTEGER NOT NULL, place INTEGER NOT NULL, PRIMARY KEY (kind, sender, number, place), FOREIGN KEY (sender, number) REFERENCES mail (sender, number)) STRICT",
@@ -113,12 +83,7 @@ fn create_fact<S: Alter>(tx: &mut Transaction<'_, S>) -> Result<usize, Error>
 /// Makes the table of the number of the last delays.
 pub fn create_fact_delays<S: Alter>(tx: &mut Transaction<'_, S>) -> Result<usize, Error>
     requires building { IsTrusted (state S.Store tx.old.conn.now) → IsBuilding schema_of_six (state S.Store tx.old.conn.now) }
-    ensures same_reference { tx.new.conn.ghost_name ≡ tx.old.conn.ghost_name }
-    ensures before { IsTrusted (state S.Store tx.new.conn.now) → IsTrusted (state S.Store tx.old.conn.now) }
-    ensures lasts { Lasts (state S.Store tx.old.conn.now) (state S.Store tx.new.conn.now) }
-    ensures open { HasCleanDisk (state S.Store tx.new.conn.now) → IsTrusted (state S.Store tx.old.conn.now) → OnOk result (IsTrusted (state S.Store tx.new.conn.now)) }
-    ensures made { IsTrusted (state S.Store tx.new.conn.now) → OnOk result (Makes schema_of_six fact_delays (state S.Store tx.old.conn.now) (state S.Store tx.new.conn.now)) }
-    ensures err { IsTrusted (state S.Store tx.new.conn.now) → OnErr result ((state S.Store tx.new.conn.now).committed ≡ (state S.Store tx.old.conn.now).committed) }
+    ensures { Creates S.Store tx.old.conn tx.new.conn result (Makes schema_of_six fact_delays) }
 {
     tx.execute(
         "CREATE TABLE fact_delays (id INTEGER PRIMARY KEY, number INTEGER NOT NULL) STRICT",
@@ -129,12 +94,7 @@ pub fn create_fact_delays<S: Alter>(tx: &mut Transaction<'_, S>) -> Result<usize
 /// Makes the seven tables.
 fn create_all<S: Alter>(tx: &mut Transaction<'_, S>) -> Result<usize, Error>
     requires building { IsTrusted (state S.Store tx.old.conn.now) → IsBuilding no_schema (state S.Store tx.old.conn.now) }
-    ensures same_reference { tx.new.conn.ghost_name ≡ tx.old.conn.ghost_name }
-    ensures before { IsTrusted (state S.Store tx.new.conn.now) → IsTrusted (state S.Store tx.old.conn.now) }
-    ensures lasts { Lasts (state S.Store tx.old.conn.now) (state S.Store tx.new.conn.now) }
-    ensures open { HasCleanDisk (state S.Store tx.new.conn.now) → IsTrusted (state S.Store tx.old.conn.now) → OnOk result (IsTrusted (state S.Store tx.new.conn.now)) }
-    ensures made { IsTrusted (state S.Store tx.new.conn.now) → OnOk result (MakesAll (state S.Store tx.old.conn.now) (state S.Store tx.new.conn.now)) }
-    ensures err { IsTrusted (state S.Store tx.new.conn.now) → OnErr result ((state S.Store tx.new.conn.now).committed ≡ (state S.Store tx.old.conn.now).committed) }
+    ensures { Creates S.Store tx.old.conn tx.new.conn result MakesAll }
 {
     let _office = create_office(tx)?;
     let _mail = create_mail(tx)?;

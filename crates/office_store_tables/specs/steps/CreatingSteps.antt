@@ -1,10 +1,16 @@
 -- How an office's tables are made in a new database, one after another.
-use Rattle.std.specs.Prelude.{◌≡◌, [], IsTrue}
+use Rattle.std.specs.Prelude.{◌≡◌, ℕ, [], Result, IsTrue, OnOk, OnErr}
+use Rattle.std.specs.Borrow.{MutBor}
 use Rattle.sqlite.specs.Change.{created, next_tree, KeepsRows}
+use Rattle.sqlite.specs.Held.{Held, state}
 use Rattle.sqlite.specs.Schema.{Schema}
-use Rattle.sqlite.specs.State.{State}
+use Rattle.sqlite.specs.State.{State, HasCleanDisk}
+use Rattle.sqlite.specs.Store.{Ghosts}
 use Rattle.sqlite.specs.Table.{Table}
+use Rattle.sqlite.specs.declared.error.Error.{Error}
 use Rattle.office_store_tables.specs.Layout.{no_schema, office, mail, run, testing_source, testing_row, fact, fact_delays}
+use Rattle.office_store_testing_tables.specs.Tables.{IsTrusted}
+use Rattle.office_store_testing_tables.specs.steps.Tables.{Lasts}
 
 -- the schema after each table in turn
 abbrev pub schema_of_one : Schema
@@ -50,3 +56,14 @@ pub record MakesAll (old new : State) : Type 0 where
   pub rows : new.now.trees 6 ≡ []
   pub facts : new.now.trees 8 ≡ []
   pub delays : new.now.trees 10 ≡ []
+
+-- What a step leaves that makes tables, as any step within a transaction does: it still belongs to its connection. A
+-- connection trusted after the step was trusted before it, and a trusted one stays trusted if the step succeeds over a
+-- clean disk. Then the tables are made. No step commits anything.
+pub record Creates {S : Type 0} (store : Ghosts S) (old new : MutBor (Held S)) (result : Result ℕ Error) (are_made : State → State → Type 0) : Type 0 where
+  pub same_reference : new.ghost_name ≡ old.ghost_name
+  pub before : IsTrusted (state store new.now) → IsTrusted (state store old.now)
+  pub lasts : Lasts (state store old.now) (state store new.now)
+  pub stays : HasCleanDisk (state store new.now) → IsTrusted (state store old.now) → OnOk result (IsTrusted (state store new.now))
+  pub made : IsTrusted (state store new.now) → OnOk result (are_made (state store old.now) (state store new.now))
+  pub err : IsTrusted (state store new.now) → OnErr result ((state store new.now).committed ≡ (state store old.now).committed)

@@ -9,7 +9,7 @@ returns-clause-steps g c =
       same_reference = made.same_reference;
       before = made.before;
       lasts = made.lasts;
-      stays = made.open;
+      stays = made.stays;
       on = λ trusted. (widens (state g.S.Store c.args.tx.now.conn.now) (state g.S.Store c.create_fact_delays.new.tx.conn.now) (made.made trusted)).on;
       err = λ _. tt;
     }

@@ -1,22 +1,7 @@
-use Rattle.std.proofs.Common.{[]}
-use Rattle.sqlite.specs.Held.{state}
-use Rattle.office_store_tables.specs.Texts.{create_office_text}
-use Rattle.office_store_tables.specs.Layout.{no_schema, office}
-use Rattle.office_store_tables.proofs.StepLemmas.{Stepped, step_open}
-use Rattle.office_store_tables.proofs.CreateLemmas.{makes, office_is}
+use Rattle.office_store_tables.proofs.CreateLemmas.{creates, office_is}
 use Rattle.office_store_tables.proofs.schema.create_office.Goals as goal
 
-stepped : (g : _) (c : goal.After-execute g) → Stepped create_office_text [] (state g.S.Store c.args.tx.now.conn.now) (state g.S.Store c.execute.new.self.conn.now) c.execute.result
-stepped g c = record {
-  clean = c.execute.ensures.survives.clean;
-  limit = c.execute.ensures.survives.limit;
-  ended = λ idle. (_, (c.execute.ensures.ended idle).0);
-  runs = c.execute.ensures.runs;
-}
-
-pub returns-clause-made : goal.returns-clause-made
-returns-clause-made g c trusted =
-    makes no_schema create_office_text office (state g.S.Store c.args.tx.now.conn.now) (state g.S.Store c.execute.new.self.conn.now) c.execute.result office_is (stepped g c) trusted c.requires.building
-
-pub returns-clause-open : goal.returns-clause-open
-returns-clause-open g c clean trusted = step_open _ _ _ _ c.execute.result (stepped g c) clean trusted
+pub returns : goal.returns
+returns g c =
+    let ran = c.execute.ensures in
+    creates office_is c.args.tx.now.conn c.execute.new.self.conn c.execute.result ran.same_reference ran.ended ran.survives ran.runs c.requires.building

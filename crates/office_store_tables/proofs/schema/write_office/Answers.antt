@@ -10,11 +10,7 @@ returns-clause-blank g c trusted =
     (c.in_ok-_made.ensures.made (c.in_ok-added.ensures.steps.before trusted)) (c.in_ok-added.ensures.yields trusted)
 
 pub returns-clause-steps : goal.returns-clause-steps
-returns-clause-steps g c =
-    let made = c.in_ok-_made.ensures in
-    then_within _ (built_within made.same_reference made.before made.lasts made.open made.made) c.in_ok-added.ensures.steps
+returns-clause-steps g c = then_within _ (built_within c.in_ok-_made.ensures) c.in_ok-added.ensures.steps
 
 pub returns-in_err-added-clause-steps : goal.returns-in_err-added-clause-steps
-returns-in_err-added-clause-steps g c =
-    let made = c.in_ok-_made.ensures in
-    then_within _ (built_within made.same_reference made.before made.lasts made.open made.made) (failed_within _ c.from_residual-in_err-added.ensures.0 c.in_err-added.ensures.steps)
+returns-in_err-added-clause-steps g c = then_within _ (built_within c.in_ok-_made.ensures) (failed_within _ c.from_residual-in_err-added.ensures.0 c.in_err-added.ensures.steps)
