@@ -16,8 +16,8 @@ returns-clause-own c = λ office free.
     IfOk-weaker c.is_held.result _ _
     (λ own held yes.
     let is = held yes in
-    own_put setup kept new c.as_slice.result.now sender letter.number c.deliver-answer.result is (c.deliver-answer.ensures.answer (tt, tt, office)) free
-    (IfOk-at_ok (λ _. new ≡ kept_from setup kept (c.as_slice.result.now ∷ [])) is (c.deliver-answer.ensures.kept (tt, tt, office)))
+    own_put setup kept new c.as_slice.result.now sender letter.number c.deliver-answer.result is (c.deliver-answer.ensures.answer (tt, (tt, office))) free
+    (IfOk-at_ok (λ _. new ≡ kept_from setup kept (c.as_slice.result.now ∷ [])) is (c.deliver-answer.ensures.kept (tt, (tt, office))))
     ∙ ap (insert kept (sender, letter.number)) c.as_slice.ensures)
     c.is_held.ensures.own
 
@@ -28,12 +28,12 @@ returns-clause-other c = λ office free.
     let setup = c.args.office.now.plain.setup in
     let kept : Kept = (content_of c.args.office.now.plain).kept in
     let new : Kept = (content_of c.deliver-answer.new.self.plain).kept in
-    let answers = c.deliver-answer.ensures.answer (tt, tt, office) in
+    let answers = c.deliver-answer.ensures.answer (tt, (tt, office)) in
     IfOk-weaker c.is_held.result _ _
     (λ own other isnt.
     subst (λ (text : List ℕ). placed setup text ≢ Some ((sender, letter.number), text)) c.as_slice.ensures
     (other_placed setup kept c.as_slice.result.now sender letter.number c.deliver-answer.result (other isnt)
-    (own_few setup kept new c.as_slice.result.now sender letter.number c.deliver-answer.result answers free (c.deliver-answer.ensures.kept (tt, tt, office)) (λ p some. subst (λ s. IsPlace s p) c.deliver-answer.ensures.carries.setup ((c.deliver-answer.ensures.carries.sound tt (tt, office)).1.places p some)))
+    (own_few setup kept new c.as_slice.result.now sender letter.number c.deliver-answer.result answers free (c.deliver-answer.ensures.kept (tt, (tt, office))) (λ p some. subst (λ s. IsPlace s p) c.deliver-answer.ensures.carries.setup ((c.deliver-answer.ensures.carries.sound tt (tt, office)).1.places p some)))
     answers free))
     c.is_held.ensures.other
 

@@ -19,7 +19,7 @@ returns-in_err-write_refusal-in-Err-clause-err g c =
       reports = [];
       all = λ e. absurd (cc (e));
       written = c.in_err-write_refusal-in-Err.ensures.err;
-      by_store = (fault_counted (StoreRefused keeper s0 s1) c.in-Err.fault (λ e. risen (keeper.refusals s0) (keeper.refusals s1) r c.in-Err.ensures.counted (ap err e)), tt);
+      by_store = (fault_counted (StoreRefused keeper s0 s1) c.in-Err.fault (λ e. risen (keeper.refusals s0) (keeper.refusals s1) r c.in-Err.ensures.asks.counted (ap err e)), tt);
     })
 
 pub returns-in_ok-write_refusal-in-Err-clause-ok : goal.returns-in_ok-write_refusal-in-Err-clause-ok
@@ -35,5 +35,5 @@ returns-in_ok-write_refusal-in-Err-clause-ok g c =
       all = λ e. absurd (cc (e));
       written = c.in_ok-write_refusal-in-Err.ensures.ok;
       losses = refl;
-      by_store = (fault_counted (StoreRefused keeper s0 s1) c.in-Err.fault (λ e. risen (keeper.refusals s0) (keeper.refusals s1) r c.in-Err.ensures.counted (ap err e)), tt);
+      by_store = (fault_counted (StoreRefused keeper s0 s1) c.in-Err.fault (λ e. risen (keeper.refusals s0) (keeper.refusals s1) r c.in-Err.ensures.asks.counted (ap err e)), tt);
     }
