@@ -1,11 +1,10 @@
 //! A replay a block of messages at a time: the texts of a block are kept together, or else delivered one by one.
 ghost use Rattle.std.specs.Prelude.{◌≡◌, ◌+◌, ◌<◌, ◌≤◌, ◌⊎◌, [], None, Some, false, flat_map, length, vec_len, vec_capacity, IfErr, IfOk, IfSome, OnErr, OnOk};
-ghost use Rattle.std.specs.Io.KnownBytes.{Appends};
 ghost use Rattle.office_mail.specs.BagSteps.{ReadFails, CountsEach};
-ghost use Rattle.office_mail.specs.Counts.{HasRisen};
 ghost use Rattle.office_mail.specs.Kept.{kept_from};
+ghost use Rattle.office_core_orders.specs.Counted.{CountsFailure};
 ghost use Rattle.office_core_orders.specs.Replies.{reply_line};
-ghost use Rattle.office_core_orders.specs.Written.{AppendsFront};
+ghost use Rattle.office_core_orders.specs.Written.{Writes};
 ghost use Rattle.office_core.specs.Together.{AreHeldHere, answers_to};
 ghost use Rattle.office_core_replay.specs.steps.BlockSteps.{DeliversLastFront, DeliversTextsFront, TakesLast, TakesTexts};
 ghost use Rattle.office_core_replay.specs.Blocks.{DeliversTexts};
@@ -36,8 +35,7 @@ fn deliver_texts<K: Keeper, W: Sink, V: Watcher>(
     ensures carries { Preserves K.Keeper office.old office.new }
     ensures ok { Holds K.Keeper office.old office.new → IfOk result (λ lost. DeliversTexts (state_of K.Keeper office.old) (state_of K.Keeper office.new) texts.now (W.written writer.old) (W.written writer.new) lost (StoreRefused K.Keeper office.old office.new)) }
     ensures front { Holds K.Keeper office.old office.new → OnErr result (DeliversTextsFront (state_of K.Keeper office.old) (state_of K.Keeper office.new) texts.now (W.written writer.old) (W.written writer.new) (StoreRefused K.Keeper office.old office.new)) }
-    ensures cause { OnErr result (HasRisen (W.failures writer.old) (W.failures writer.new)) }
-    ensures clean { OnOk result (W.failures writer.new ≡ W.failures writer.old) }
+    ensures failures { CountsFailure (W.failures writer.old) (W.failures writer.new) result }
 {
     let mut lost = false;
     'texts: for text in texts {
@@ -57,10 +55,7 @@ fn write_replies<W: Sink, V: Watcher>(
 ) -> Result<(), WriteFault>
     requires each { length texts.now ≡ length replies.now }
     requires places { AreHeldHere setup.now replies.now }
-    ensures ok { OnOk result (Appends (W.written writer.old) (W.written writer.new) (flat_map (reply_line setup.now) replies.now)) }
-    ensures err { OnErr result (AppendsFront (W.written writer.old) (W.written writer.new) (flat_map (reply_line setup.now) replies.now)) }
-    ensures cause { OnErr result (HasRisen (W.failures writer.old) (W.failures writer.new)) }
-    ensures clean { OnOk result (W.failures writer.new ≡ W.failures writer.old) }
+    ensures { Writes W.Sink writer.old writer.new (flat_map (reply_line setup.now) replies.now) result }
 {
     'lines: for place in 0..replies.len() {
         let reply = replies[place];
@@ -119,10 +114,7 @@ fn answer_texts<K: Keeper, W: Sink, V: Watcher>(
     ensures carries { Preserves K.Keeper office.old office.new }
     ensures settles { Holds K.Keeper office.old office.new → KeepsMail (state_of K.Keeper office.old) (state_of K.Keeper office.new) [] }
     ensures err { OnErr result (office.new ≡ office.old) }
-    ensures ok { OnOk result (Appends (W.written writer.old) (W.written writer.new) (flat_map (reply_line (K.setup office.old)) replies.now)) }
-    ensures front { OnErr result (AppendsFront (W.written writer.old) (W.written writer.new) (flat_map (reply_line (K.setup office.old)) replies.now)) }
-    ensures cause { OnErr result (HasRisen (W.failures writer.old) (W.failures writer.new)) }
-    ensures clean { OnOk result (W.failures writer.new ≡ W.failures writer.old) }
+    ensures writes { Writes W.Sink writer.old writer.new (flat_map (reply_line (K.setup office.old)) replies.now) result }
 {
     write_replies(office.setup(), texts, replies, writer, watcher)?;
     settle_behind_texts(office, replies, watcher);
@@ -139,8 +131,7 @@ fn deliver_block<K: Keeper, W: Sink, V: Watcher>(
     ensures carries { Preserves K.Keeper office.old office.new }
     ensures ok { Holds K.Keeper office.old office.new → IfOk result (λ lost. DeliversTexts (state_of K.Keeper office.old) (state_of K.Keeper office.new) texts.now (W.written writer.old) (W.written writer.new) lost (StoreRefused K.Keeper office.old office.new)) }
     ensures front { Holds K.Keeper office.old office.new → OnErr result (DeliversTextsFront (state_of K.Keeper office.old) (state_of K.Keeper office.new) texts.now (W.written writer.old) (W.written writer.new) (StoreRefused K.Keeper office.old office.new)) }
-    ensures cause { OnErr result (HasRisen (W.failures writer.old) (W.failures writer.new)) }
-    ensures clean { OnOk result (W.failures writer.new ≡ W.failures writer.old) }
+    ensures failures { CountsFailure (W.failures writer.old) (W.failures writer.new) result }
 {
     match keep_together(office, texts) {
         Some(replies) => {
@@ -204,8 +195,7 @@ fn deliver_blocks<K: Keeper, R: Feed, W: Sink, V: Watcher>(
     ensures reads { bag.new.reads ≤ 1_000_000 }
     ensures calls { bag.new.calls + bag.old.reads ≤ bag.old.calls + bag.new.reads }
     ensures counts { CountsEach bag.old bag.new }
-    ensures cause { OnErr result (HasRisen (W.failures writer.old) (W.failures writer.new)) }
-    ensures clean { OnOk result (W.failures writer.new ≡ W.failures writer.old) }
+    ensures failures { CountsFailure (W.failures writer.old) (W.failures writer.new) result }
 {
     let mut lost = false;
     'rounds: loop {
@@ -251,8 +241,7 @@ pub(crate) fn deliver_all<K: Keeper, R: Feed, W: Sink, V: Watcher>(
     ensures calls { bag.new.calls + bag.old.reads ≤ bag.old.calls + bag.new.reads }
     ensures counts { CountsEach bag.old bag.new }
 
-    ensures cause { OnErr result (HasRisen (W.failures writer.old) (W.failures writer.new)) }
-    ensures clean { OnOk result (W.failures writer.new ≡ W.failures writer.old) }
+    ensures failures { CountsFailure (W.failures writer.old) (W.failures writer.new) result }
 {
     match room_for(office.alloc(), office.keeps_together()) {
         Some(texts) => {

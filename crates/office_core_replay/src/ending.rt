@@ -1,11 +1,10 @@
 //! The texts at the end of a replay.
-ghost use Rattle.std.specs.Prelude.{◌≡◌, [], is_err, ◌+◌, ◌≤◌, ◌++◌, ◌∷◌, ◌||◌, List, Option, Some, None, OnOk, OnErr, IfOk, length, codes};
-ghost use Rattle.std.specs.Io.KnownBytes.{Appends};
-ghost use Rattle.office_mail.specs.Counts.{HasRisen};
+ghost use Rattle.std.specs.Prelude.{◌≡◌, [], is_err, ◌+◌, ◌≤◌, ◌++◌, ◌∷◌, ◌||◌, List, Option, Some, None, OnErr, IfOk, length, codes};
 ghost use Rattle.office_core.specs.Preserves.{Asks, Holds, StoreRefused};
 ghost use Rattle.office_core_facts.specs.Outcome.{reports_of};
+ghost use Rattle.office_core_orders.specs.Counted.{CountsFailure};
 ghost use Rattle.office_core_orders.specs.Replies.{bag_line};
-ghost use Rattle.office_core_orders.specs.Written.{AppendsFront};
+ghost use Rattle.office_core_orders.specs.Written.{Writes};
 ghost use Rattle.office_core_replay.specs.Output.{or_refused};
 ghost use Rattle.office_core_replay.specs.steps.Ending.{status_shown, text_shown, report_shown, WritesRun, WritesRunFront, WritesReports, WritesReportsFront, WritesNews, WritesNewsFront, WritesEnd, WritesEndFront};
 ghost use Rattle.office_core_facts.specs.State.{state_of};
@@ -30,10 +29,7 @@ fn bag_refusal(fault: BagFault) -> &'static str
 
 /// Writes the line for a bag that is refused, none for a plain end.
 pub(crate) fn write_bag<W: Sink>(end: Option<BagFault>, writer: &mut W) -> Result<(), WriteFault>
-    ensures ok { OnOk result (Appends (W.written writer.old) (W.written writer.new) (bag_line end)) }
-    ensures err { OnErr result (AppendsFront (W.written writer.old) (W.written writer.new) (bag_line end)) }
-    ensures cause { OnErr result (HasRisen (W.failures writer.old) (W.failures writer.new)) }
-    ensures clean { OnOk result (W.failures writer.new ≡ W.failures writer.old) }
+    ensures { Writes W.Sink writer.old writer.new (bag_line end) result }
 {
     match end {
         None => write_parts(writer, &[]),
@@ -53,10 +49,7 @@ fn refusal(fault: StoreFault) -> &'static str
 
 /// Writes the line in the place of a text that is missing.
 pub(crate) fn write_refusal<W: Sink>(fault: StoreFault, writer: &mut W) -> Result<(), WriteFault>
-    ensures ok { OnOk result (Appends (W.written writer.old) (W.written writer.new) (or_refused (Some fault) [])) }
-    ensures err { OnErr result (AppendsFront (W.written writer.old) (W.written writer.new) (or_refused (Some fault) [])) }
-    ensures cause { OnErr result (HasRisen (W.failures writer.old) (W.failures writer.new)) }
-    ensures clean { OnOk result (W.failures writer.new ≡ W.failures writer.old) }
+    ensures { Writes W.Sink writer.old writer.new (or_refused (Some fault) []) result }
 {
     write_all(writer, refusal(fault).as_bytes())
 }
@@ -66,10 +59,7 @@ fn write_status<W: Sink>(
     status: &Result<Progress, StoreFault>,
     writer: &mut W,
 ) -> Result<(), WriteFault>
-    ensures ok { OnOk result (Appends (W.written writer.old) (W.written writer.new) (status_shown status.now)) }
-    ensures err { OnErr result (AppendsFront (W.written writer.old) (W.written writer.new) (status_shown status.now)) }
-    ensures cause { OnErr result (HasRisen (W.failures writer.old) (W.failures writer.new)) }
-    ensures clean { OnOk result (W.failures writer.new ≡ W.failures writer.old) }
+    ensures { Writes W.Sink writer.old writer.new (status_shown status.now) result }
 {
     match status {
         Ok(progress) => {
@@ -90,10 +80,7 @@ fn write_status<W: Sink>(
 
 /// Writes a text.
 fn write_text<W: Sink>(text: &Result<Text, StoreFault>, writer: &mut W) -> Result<(), WriteFault>
-    ensures ok { OnOk result (Appends (W.written writer.old) (W.written writer.new) (text_shown text.now)) }
-    ensures err { OnErr result (AppendsFront (W.written writer.old) (W.written writer.new) (text_shown text.now)) }
-    ensures cause { OnErr result (HasRisen (W.failures writer.old) (W.failures writer.new)) }
-    ensures clean { OnOk result (W.failures writer.new ≡ W.failures writer.old) }
+    ensures { Writes W.Sink writer.old writer.new (text_shown text.now) result }
 {
     match text {
         Ok(text) => write_all(writer, text.as_str().as_bytes()),
@@ -106,10 +93,7 @@ fn write_report<W: Sink>(
     report: &Result<Option<Text>, StoreFault>,
     writer: &mut W,
 ) -> Result<(), WriteFault>
-    ensures ok { OnOk result (Appends (W.written writer.old) (W.written writer.new) (report_shown report.now)) }
-    ensures err { OnErr result (AppendsFront (W.written writer.old) (W.written writer.new) (report_shown report.now)) }
-    ensures cause { OnErr result (HasRisen (W.failures writer.old) (W.failures writer.new)) }
-    ensures clean { OnOk result (W.failures writer.new ≡ W.failures writer.old) }
+    ensures { Writes W.Sink writer.old writer.new (report_shown report.now) result }
 {
     match report {
         Ok(Some(text)) => write_all(writer, text.as_str().as_bytes()),
@@ -128,8 +112,7 @@ fn write_run<K: Keeper, W: Sink>(
     ensures asks { Asks K.Keeper office.old office.new }
     ensures ok { Holds K.Keeper office.old office.new → run ≤ (state_of K.Keeper office.old).finished → IfOk result (λ lost. WritesRun (state_of K.Keeper office.old) run (W.written writer.old) (W.written writer.new) lost (StoreRefused K.Keeper office.old office.new)) }
     ensures err { Holds K.Keeper office.old office.new → run ≤ (state_of K.Keeper office.old).finished → OnErr result (WritesRunFront (state_of K.Keeper office.old) run (W.written writer.old) (W.written writer.new) (StoreRefused K.Keeper office.old office.new)) }
-    ensures cause { OnErr result (HasRisen (W.failures writer.old) (W.failures writer.new)) }
-    ensures clean { OnOk result (W.failures writer.new ≡ W.failures writer.old) }
+    ensures failures { CountsFailure (W.failures writer.old) (W.failures writer.new) result }
 {
     let excuses = office.excuses_text(run);
     let updates = office.update_text(run);
@@ -145,11 +128,8 @@ fn write_both<W: Sink>(
     updates: &Result<Option<Text>, StoreFault>,
     writer: &mut W,
 ) -> Result<bool, WriteFault>
-    ensures ok { OnOk result (Appends (W.written writer.old) (W.written writer.new) (report_shown excuses.now ++ report_shown updates.now)) }
-    ensures err { OnErr result (AppendsFront (W.written writer.old) (W.written writer.new) (report_shown excuses.now ++ report_shown updates.now)) }
+    ensures writes { Writes W.Sink writer.old writer.new (report_shown excuses.now ++ report_shown updates.now) result }
     ensures lost { IfOk result (λ lost. lost ≡ (is_err excuses.now || is_err updates.now)) }
-    ensures cause { OnErr result (HasRisen (W.failures writer.old) (W.failures writer.new)) }
-    ensures clean { OnOk result (W.failures writer.new ≡ W.failures writer.old) }
 {
     write_report(excuses, writer)?;
     write_report(updates, writer)?;
@@ -181,8 +161,7 @@ fn write_reports<K: Keeper, W: Sink>(
     ensures asks { Asks K.Keeper office.old office.new }
     ensures ok { Holds K.Keeper office.old office.new → before ≤ finished → finished ≡ (state_of K.Keeper office.old).finished → IfOk result (λ lost. WritesReports (state_of K.Keeper office.old) before finished (W.written writer.old) (W.written writer.new) lost (StoreRefused K.Keeper office.old office.new)) }
     ensures err { Holds K.Keeper office.old office.new → before ≤ finished → finished ≡ (state_of K.Keeper office.old).finished → OnErr result (WritesReportsFront (state_of K.Keeper office.old) before finished (W.written writer.old) (W.written writer.new) (StoreRefused K.Keeper office.old office.new)) }
-    ensures cause { OnErr result (HasRisen (W.failures writer.old) (W.failures writer.new)) }
-    ensures clean { OnOk result (W.failures writer.new ≡ W.failures writer.old) }
+    ensures failures { CountsFailure (W.failures writer.old) (W.failures writer.new) result }
 {
     let mut lost = false;
     let mut done = before;
@@ -203,8 +182,7 @@ fn write_news<K: Keeper, W: Sink>(
     ensures asks { Asks K.Keeper office.old office.new }
     ensures ok { Holds K.Keeper office.old office.new → before ≤ (state_of K.Keeper office.old).finished → IfOk result (λ lost. WritesNews (state_of K.Keeper office.old) before (W.written writer.old) (W.written writer.new) lost (StoreRefused K.Keeper office.old office.new)) }
     ensures err { Holds K.Keeper office.old office.new → before ≤ (state_of K.Keeper office.old).finished → OnErr result (WritesNewsFront (state_of K.Keeper office.old) before (W.written writer.old) (W.written writer.new) (StoreRefused K.Keeper office.old office.new)) }
-    ensures cause { OnErr result (HasRisen (W.failures writer.old) (W.failures writer.new)) }
-    ensures clean { OnOk result (W.failures writer.new ≡ W.failures writer.old) }
+    ensures failures { CountsFailure (W.failures writer.old) (W.failures writer.new) result }
 {
     match office.finished() {
         Ok(finished) => write_reports(office, before, finished, writer),
@@ -224,8 +202,7 @@ pub(crate) fn write_end<K: Keeper, W: Sink>(
     ensures asks { Asks K.Keeper office.old office.new }
     ensures ok { Holds K.Keeper office.old office.new → before ≤ (state_of K.Keeper office.old).finished → IfOk result (λ lost. WritesEnd (state_of K.Keeper office.old) before (W.written writer.old) (W.written writer.new) lost (StoreRefused K.Keeper office.old office.new)) }
     ensures err { Holds K.Keeper office.old office.new → before ≤ (state_of K.Keeper office.old).finished → OnErr result (WritesEndFront (state_of K.Keeper office.old) before (W.written writer.old) (W.written writer.new) (StoreRefused K.Keeper office.old office.new)) }
-    ensures cause { OnErr result (HasRisen (W.failures writer.old) (W.failures writer.new)) }
-    ensures clean { OnOk result (W.failures writer.new ≡ W.failures writer.old) }
+    ensures failures { CountsFailure (W.failures writer.old) (W.failures writer.new) result }
 {
     let status = office.status();
     write_status(&status, writer)?;

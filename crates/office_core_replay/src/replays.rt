@@ -1,7 +1,5 @@
 //! Replays of bags of mail.
-ghost use Rattle.std.specs.Prelude.{◌≡◌, ◌≤◌, ◌+◌, ◌⊎◌, [], false, Some, IfOk, OnOk, OnErr, IfErr, is_ok};
-ghost use Rattle.std.specs.Io.KnownBytes.{Appends};
-ghost use Rattle.office_mail.specs.Counts.{HasRisen};
+ghost use Rattle.std.specs.Prelude.{◌≡◌, ◌≤◌, ◌+◌, ◌⊎◌, [], false, Some, IfOk, OnErr, is_ok};
 ghost use Rattle.office_mail.specs.BagSteps.{ReadFails, CountsEach};
 ghost use Rattle.office_core.specs.Preserves.{Preserves, Holds, StoreRefused};
 ghost use Rattle.office_core_replay.specs.Delivered.{DeliversFront};
@@ -10,6 +8,7 @@ ghost use Rattle.office_core.specs.Laws.{RunsStand};
 ghost use Rattle.office_core_replay.specs.Losses.{is_short};
 ghost use Rattle.office_core_replay.specs.Replay.{Replays, ReplaysAll, ReplaysFront, StopsEarly, StopsReplay, status_of};
 ghost use Rattle.office_core_facts.specs.State.{state_of};
+ghost use Rattle.office_core_orders.specs.Counted.{CountsFailure};
 ghost use Rattle.office_core_orders.specs.Replies.{mark_of};
 
 use crate::blocks::deliver_all;
@@ -65,8 +64,7 @@ pub(crate) fn deliver_one<K: Keeper, W: Sink, V: Watcher>(
     ensures ok { Holds K.Keeper office.old office.new → IfOk result (λ mark. DeliversOne (state_of K.Keeper office.old) (state_of K.Keeper office.new) text.now mark (W.written writer.old) (W.written writer.new) (StoreRefused K.Keeper office.old office.new)) }
     // What a writer that fails leaves: the text may be kept, and a prefix of the line was written.
     ensures front { Holds K.Keeper office.old office.new → OnErr result (DeliversOneFront (state_of K.Keeper office.old) (state_of K.Keeper office.new) text.now (W.written writer.old) (W.written writer.new) (StoreRefused K.Keeper office.old office.new)) }
-    ensures cause { OnErr result (HasRisen (W.failures writer.old) (W.failures writer.new)) }
-    ensures clean { OnOk result (W.failures writer.new ≡ W.failures writer.old) }
+    ensures failures { CountsFailure (W.failures writer.old) (W.failures writer.new) result }
 {
     let reply = office.deliver(text);
     watcher.delivered(text, &reply);
@@ -101,8 +99,7 @@ pub(crate) fn deliver_each<K: Keeper, R: Feed, W: Sink, V: Watcher>(
     ensures calls { bag.new.calls + bag.old.reads ≤ bag.old.calls + bag.new.reads }
     ensures counts { CountsEach bag.old bag.new }
 
-    ensures cause { OnErr result (HasRisen (W.failures writer.old) (W.failures writer.new)) }
-    ensures clean { OnOk result (W.failures writer.new ≡ W.failures writer.old) }
+    ensures failures { CountsFailure (W.failures writer.old) (W.failures writer.new) result }
 {
     let mut lost = false;
     loop {
@@ -155,8 +152,7 @@ pub fn replay<K: Keeper, R: Feed, W: Sink>(
     ensures calls { bag.new.calls + bag.old.reads ≤ bag.old.calls + bag.new.reads }
     ensures counts { CountsEach bag.old bag.new }
 
-    ensures cause { OnErr result (HasRisen (W.failures writer.old) (W.failures writer.new)) }
-    ensures clean { OnOk result (W.failures writer.new ≡ W.failures writer.old) }
+    ensures failures { CountsFailure (W.failures writer.old) (W.failures writer.new) result }
 {
     replay_watched(office, bag, writer, &mut Unwatched)
 }
@@ -179,8 +175,7 @@ pub fn replay_watched<K: Keeper, R: Feed, W: Sink, V: Watcher>(
     ensures reads { bag.old.reads ≤ 1_000_000 → bag.new.reads ≤ 1_000_000 }
     ensures calls { bag.new.calls + bag.old.reads ≤ bag.old.calls + bag.new.reads }
     ensures counts { CountsEach bag.old bag.new }
-    ensures cause { OnErr result (HasRisen (W.failures writer.old) (W.failures writer.new)) }
-    ensures clean { OnOk result (W.failures writer.new ≡ W.failures writer.old) }
+    ensures failures { CountsFailure (W.failures writer.old) (W.failures writer.new) result }
 {
     replay_bag(office, bag, writer, watcher)
 }
@@ -201,8 +196,7 @@ fn replay_bag<K: Keeper, R: Feed, W: Sink, V: Watcher>(
     ensures reads { bag.old.reads ≤ 1_000_000 → bag.new.reads ≤ 1_000_000 }
     ensures calls { bag.new.calls + bag.old.reads ≤ bag.old.calls + bag.new.reads }
     ensures counts { CountsEach bag.old bag.new }
-    ensures cause { OnErr result (HasRisen (W.failures writer.old) (W.failures writer.new)) }
-    ensures clean { OnOk result (W.failures writer.new ≡ W.failures writer.old) }
+    ensures failures { CountsFailure (W.failures writer.old) (W.failures writer.new) result }
 {
     match office.finished() {
         Ok(before) => replay_from(office, before, bag, writer, watcher),
@@ -234,8 +228,7 @@ fn replay_from<K: Keeper, R: Feed, W: Sink, V: Watcher>(
     ensures reads { bag.new.reads ≤ 1_000_000 }
     ensures calls { bag.new.calls + bag.old.reads ≤ bag.old.calls + bag.new.reads }
     ensures counts { CountsEach bag.old bag.new }
-    ensures cause { OnErr result (HasRisen (W.failures writer.old) (W.failures writer.new)) }
-    ensures clean { OnOk result (W.failures writer.new ≡ W.failures writer.old) }
+    ensures failures { CountsFailure (W.failures writer.old) (W.failures writer.new) result }
 {
     let delivered = deliver_all(office, bag, writer, watcher)?;
     let settled = office.settle().is_ok();

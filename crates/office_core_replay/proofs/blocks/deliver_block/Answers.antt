@@ -29,7 +29,7 @@ returns-in_err-answer_texts-in-Some-clause-front g c =
     rw p.1 (subst (λ s. DeliversTextsFront (state_of keeper s0) (state_of keeper s) c.args.texts.now w0 w1 (StoreRefused keeper s0 s2)) (sym two.err)
     (block_front (StoreRefused keeper s0 s2) (state_of keeper s0) (state_of keeper s1) c.args.texts.now replies w0 w1 one.carries.setup (one.kept h1) (one.finished h1)
     (λ was. (one.carries.sound h1.0 h1.1).1.ready) (one.answers h1)
-    (subst (λ (l : Lists). AppendsFront w0 w1 (flat_map (reply_line l) replies)) one.carries.setup (rw c.deref.ensures.value at two.front))))
+    (subst (λ (l : Lists). AppendsFront w0 w1 (flat_map (reply_line l) replies)) one.carries.setup (rw c.deref.ensures.value at two.writes.err))))
 
 pub returns-in_ok-answer_texts-in-Some-clause-ok : goal.returns-in_ok-answer_texts-in-Some-clause-ok
 returns-in_ok-answer_texts-in-Some-clause-ok g c =
@@ -48,7 +48,7 @@ returns-in_ok-answer_texts-in-Some-clause-ok g c =
     let h2 = holds_next keeper s0 s1 s2 one.carries two.carries h in
     block_delivers (StoreRefused keeper s0 s2) (state_of keeper s0) (state_of keeper s1) (state_of keeper s2) c.args.texts.now replies w0 w1 one.carries.setup (one.kept h1) (one.finished h1)
     (λ was. (one.carries.sound h1.0 h1.1).1.ready) (two.settles h2) (one.answers h1)
-    (subst (λ (l : Lists). Appends w0 w1 (flat_map (reply_line l) replies)) one.carries.setup (rw c.deref.ensures.value at two.ok))
+    (subst (λ (l : Lists). Appends w0 w1 (flat_map (reply_line l) replies)) one.carries.setup (rw c.deref.ensures.value at two.writes.ok))
 
 pub returns-in-None-clause-ok : goal.returns-in-None-clause-ok
 returns-in-None-clause-ok g c =

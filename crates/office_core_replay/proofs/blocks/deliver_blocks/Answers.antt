@@ -49,7 +49,7 @@ rounds-preserved g c =
       reads = took.clean ∙ l.reads;
       calls = omega (arith, l.calls, c.take_texts-taken.ensures.calls);
       counts = counts_twice c.args.bag.now c.rounds.bag c.take_texts-taken.new.bag l.counts c.take_texts-taken.ensures.counts;
-      failures = step.clean ∙ l.failures;
+      failures = step.failures.clean ∙ l.failures;
     }
 
 pub returns-in_err-lost_more-clause-front : goal.returns-in_err-lost_more-clause-front

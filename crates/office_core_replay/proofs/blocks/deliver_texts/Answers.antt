@@ -38,7 +38,7 @@ texts-preserved g c =
           (l.so_far (holds_first keeper s0 s1 s2 step.carries h)) (refused_first keeper s0 s1 s2 step.carries)
           (step.ok (holds_next keeper s0 s1 s2 l.carries step.carries h)) (refused_next keeper s0 s1 s2 l.carries)
           (c.either-lost.ensures ∙ ap (λ (b : Bool). c.texts.lost || b) c.is_lost.ensures));
-      failures = step.clean ∙ l.failures;
+      failures = step.failures.clean ∙ l.failures;
     }
 
 pub returns-in_err-mark-clause-front : goal.returns-in_err-mark-clause-front

@@ -37,7 +37,7 @@ loop-done-preserved g c =
           (subst (λ (s : OfficeState). WritesRun s (c.loop-done.done + 1) (written c.loop-done.writer) (written c.write_run.new.writer) c.in_ok-missing.missing (StoreRefused keeper s1 s2)) (state_asked keeper s0 s1 l.asks h1.0) (step.ok h2 (omega (arith, all, ap (λ (s : OfficeState). s.finished) (state_asked keeper s0 s1 l.asks h1.0)))))
           (refused_next keeper s0 s1 s2 l.asks.carries) c.either-lost.ensures;
       within = λ some. omega arith;
-      failures = step.clean ∙ l.failures;
+      failures = step.failures.clean ∙ l.failures;
     }
 
 pub returns-in_err-missing-clause-err : goal.returns-in_err-missing-clause-err

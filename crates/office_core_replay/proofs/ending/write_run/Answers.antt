@@ -37,7 +37,7 @@ returns-clause-err g c =
       by_store = t.by_store;
       written = subst (AppendsFront (written c.args.writer.now) (written c.write_both-lost.new.writer)) (both_same (report_shown r) (report_shown q) _ _ t.excuses t.updates) front;
     })
-    c.write_both-lost.ensures.err
+    c.write_both-lost.ensures.writes.err
 
 pub returns-clause-ok : goal.returns-clause-ok
 returns-clause-ok g c =
@@ -62,4 +62,4 @@ returns-clause-ok g c =
       written = subst (Appends (written c.args.writer.now) (written c.write_both-lost.new.writer)) (both_same (report_shown r) (report_shown q) _ _ t.excuses t.updates) wrote;
       losses = is ∙ ap (λ (b : Bool). b || is_err q) (missing_is r) ∙ ap (λ (b : Bool). is_missing (mark_in r) || b) (missing_is q);
     })
-    c.write_both-lost.ensures.ok c.write_both-lost.ensures.lost
+    c.write_both-lost.ensures.writes.ok c.write_both-lost.ensures.lost

@@ -56,7 +56,7 @@ loop-text-preserved g c =
       reads = unfailed c.in-Ok-Some.field-0 c.loop-text.bag.failures c.next.new.self.failures c.in-Ok-Some.ensures.clean ∙ l.reads;
       calls = omega (arith, l.calls, c.next.ensures.calls);
       counts = counts_twice c.args.bag.now c.loop-text.bag c.next.new.self l.counts c.next.ensures.counts;
-      failures = step.clean ∙ l.failures;
+      failures = step.failures.clean ∙ l.failures;
     }
 
 pub returns-in_err-mark-in-Ok-Some-clause-front : goal.returns-in_err-mark-in-Ok-Some-clause-front
