@@ -1,5 +1,5 @@
 -- The outcome of one connection: the reply as a function of the request, the office's state and the faults met.
-use Rattle.std.specs.Prelude.{◌≡◌, ⊤, ◌⊎◌, ◌≤◌, ◌<◌, ◌+◌, ℕ, Bool, true, false, not, List, [], ◌∷◌, ◌++◌, ◌==◌, length, map, take, nat_le, if◌then◌else◌, Option, Some, None, Result, Ok, Err, IfSome, is_ok}
+use Rattle.std.specs.Prelude.{◌≡◌, ⊤, ◌⊎◌, ◌≤◌, ◌<◌, ◌+◌, ℕ, Bool, true, false, not, List, [], ◌∷◌, ◌++◌, ◌==◌, length, map, take, nat_le, if◌then◌else◌, Option, Some, None, Result, Ok, Err, IfErr, IfSome, OnOk, is_ok}
 use Rattle.std.specs.Option.{option_map, option_map_or}
 use Rattle.std.specs.FinMap.{get}
 use Rattle.jiff_core.specs.declared.civil.date.Date.{Date}
@@ -11,6 +11,7 @@ use Rattle.httparse.specs.Spans.{RequestExceeds, RequestOverflows}
 use Rattle.office_mail.specs.declared.message.MailFault.{MailFault}
 use Rattle.office_mail.specs.declared.message.MailFault.TheVariants as mail
 use Rattle.office_mail.specs.declared.message.Message.{Message}
+use Rattle.office_mail.specs.Counts.{HasRisen}
 use Rattle.office_mail.specs.Kept.{Kept, kept_from}
 use Rattle.office_mail.specs.Lists.{Lists}
 use Rattle.office_mail.specs.Read.{read}
@@ -377,3 +378,10 @@ Serves before after left left' written written' (Some code) rose = Replied befor
 abbrev pub StopsServe : OfficeState → OfficeState → Option (List ℕ) → Option (List ℕ) → Option (List ℕ) → Option (List ℕ) → ServeFault → Type 0 → Type 0
 StopsServe before after left left' written written' Read rose = StopsBefore before after left left' written written' (head_room + body_room) (IsAwaited before.setup)
 StopsServe before after left left' written written' Write rose = StopsBefore before after left left' written written' (head_room + body_room) (IsAwaited before.setup) ⊎ RepliedFront before after left left' written written' rose
+
+-- A fault comes only if a failure of the reader or the writer was counted. These counts stay if there is no fault.
+pub record CountsFaults {T : Type 0} (reads reads' writes writes' : ℕ) (result : Result T ServeFault) : Type 0 where
+  pub read : IfErr result (λ fault. fault ≡ Read → HasRisen reads reads')
+  pub write : IfErr result (λ fault. fault ≡ Write → HasRisen writes writes')
+  pub read_clean : OnOk result (reads' ≡ reads)
+  pub write_clean : OnOk result (writes' ≡ writes)

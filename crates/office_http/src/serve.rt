@@ -4,7 +4,6 @@ ghost use Rattle.std.specs.Io.KnownBytes.{Appends};
 ghost use Rattle.httparse.specs.Grammar.{RequestHead};
 ghost use Rattle.httparse.specs.Spans.{IsRequestAt};
 ghost use Rattle.httparse.specs.declared.spans.HeaderSpan.{HeaderSpan};
-ghost use Rattle.office_mail.specs.Counts.{HasRisen};
 ghost use Rattle.office_mail.specs.Read.{read};
 ghost use Rattle.office_http_requests.specs.Asked.{asked_of, body_size};
 ghost use Rattle.office_core_queries.specs.Mail.{mail_text};
@@ -16,7 +15,7 @@ ghost use Rattle.office_http_requests.specs.steps.Reply.{HasPlace};
 ghost use Rattle.office_http_requests.specs.Request.{body_room, head_room};
 ghost use Rattle.office_http_requests.specs.steps.RequestSteps.{IsHeadAt};
 ghost use Rattle.office_http_requests.specs.Routes.{office_routes};
-ghost use Rattle.office_http.specs.Serve.{mail_counts, unbroken_of, refusal_for, delivery_answer, is_of_other, waits_of, Does, StopsBefore, Serves, StopsServe};
+ghost use Rattle.office_http.specs.Serve.{mail_counts, unbroken_of, refusal_for, delivery_answer, is_of_other, waits_of, Does, StopsBefore, CountsFaults, Serves, StopsServe};
 ghost use Rattle.office_http.specs.steps.ServeSteps.{if_known, report_answer, why_answer, letter_answer};
 ghost use Rattle.office_core_why.specs.Why.{IsWhy};
 ghost use Rattle.office_http.specs.steps.ServeSteps.{answer_or, part_answer, status_answer, text_answer, Tells, TellsAwaited, TellsShort, Runs, Answers, StopsRequest, ServesHead};
@@ -417,10 +416,7 @@ fn answer_post<K: Keeper, R: Feed, W: Sink>(
     ensures ok { Holds K.Keeper office.old office.new → IfOk result (λ answer. Answers (state_of K.Keeper office.old) (state_of K.Keeper office.new) (R.left reader.old) (R.left reader.new) (W.written writer.old) (W.written writer.new) (drop start seen.old.items) (Asked.Post posted) answer (StoreRefused K.Keeper office.old office.new)) }
     ensures err { K.is_trusted office.new → OnErr result (StopsBefore (state_of K.Keeper office.old) (state_of K.Keeper office.new) (R.left reader.old) (R.left reader.new) (W.written writer.old) (W.written writer.new) posted.length (λ input. posted.waits ≡ true)) }
     ensures calls { R.calls reader.new ≤ R.calls reader.old + posted.length }
-    ensures read { IfErr result (λ fault. fault ≡ ServeFault.Read → HasRisen (R.failures reader.old) (R.failures reader.new)) }
-    ensures write { IfErr result (λ fault. fault ≡ ServeFault.Write → HasRisen (W.failures writer.old) (W.failures writer.new)) }
-    ensures read_clean { OnOk result (R.failures reader.new ≡ R.failures reader.old) }
-    ensures write_clean { OnOk result (W.failures writer.new ≡ W.failures writer.old) }
+    ensures counts { CountsFaults (R.failures reader.old) (R.failures reader.new) (W.failures writer.old) (W.failures writer.new) result }
 {
     write_continue(posted.waits, writer)?;
     let end = start + posted.length as usize;
@@ -467,10 +463,7 @@ fn answer_request<K: Keeper, R: Feed, W: Sink>(
     ensures ok { Holds K.Keeper office.old office.new → IfOk result (λ answer. (due : Asked) → IfSome asked (λ a. a ≡ due) → Answers (state_of K.Keeper office.old) (state_of K.Keeper office.new) (R.left reader.old) (R.left reader.new) (W.written writer.old) (W.written writer.new) (drop start seen.old.items) due answer (StoreRefused K.Keeper office.old office.new)) }
     ensures err { K.is_trusted office.new → OnErr result (StopsBefore (state_of K.Keeper office.old) (state_of K.Keeper office.new) (R.left reader.old) (R.left reader.new) (W.written writer.old) (W.written writer.new) body_room (λ input. (due : Asked) → IfSome asked (λ a. a ≡ due) → waits_of due ≡ true)) }
     ensures calls { R.calls reader.new ≤ R.calls reader.old + body_room }
-    ensures read { IfErr result (λ fault. fault ≡ ServeFault.Read → HasRisen (R.failures reader.old) (R.failures reader.new)) }
-    ensures write { IfErr result (λ fault. fault ≡ ServeFault.Write → HasRisen (W.failures writer.old) (W.failures writer.new)) }
-    ensures read_clean { OnOk result (R.failures reader.new ≡ R.failures reader.old) }
-    ensures write_clean { OnOk result (W.failures writer.new ≡ W.failures writer.old) }
+    ensures counts { CountsFaults (R.failures reader.old) (R.failures reader.new) (W.failures writer.old) (W.failures writer.new) result }
 {
     match asked {
         None => Ok(Answer::Refused(Refusal::NoMemory)),
@@ -502,10 +495,7 @@ fn serve_request<K: Keeper, R: Feed, W: Sink>(
     ensures ok { Holds K.Keeper office.old office.new → IfOk result (λ code. ServesHead (state_of K.Keeper office.old) (state_of K.Keeper office.new) (R.left reader.old) (R.left reader.new) (W.written writer.old) (W.written writer.new) seen.old.items code (StoreRefused K.Keeper office.old office.new)) }
     ensures err { Holds K.Keeper office.old office.new → IfErr result (λ fault. StopsRequest (state_of K.Keeper office.old) (state_of K.Keeper office.new) (R.left reader.old) (R.left reader.new) (W.written writer.old) (W.written writer.new) seen.old.items fault (StoreRefused K.Keeper office.old office.new)) }
     ensures calls { R.calls reader.new ≤ R.calls reader.old + body_room }
-    ensures read { IfErr result (λ fault. fault ≡ ServeFault.Read → HasRisen (R.failures reader.old) (R.failures reader.new)) }
-    ensures write { IfErr result (λ fault. fault ≡ ServeFault.Write → HasRisen (W.failures writer.old) (W.failures writer.new)) }
-    ensures read_clean { OnOk result (R.failures reader.new ≡ R.failures reader.old) }
-    ensures write_clean { OnOk result (W.failures writer.new ≡ W.failures writer.old) }
+    ensures counts { CountsFaults (R.failures reader.old) (R.failures reader.new) (W.failures writer.old) (W.failures writer.new) result }
 {
     let HeadParts { spans, headers } = head;
     let is_head = is_head_method(seen.as_slice(), spans);
@@ -544,10 +534,7 @@ fn serve_connection<K: Keeper, R: Feed, W: Sink>(
     ensures ok { Holds K.Keeper office.old office.new → IfOk result (λ served. Serves (state_of K.Keeper office.old) (state_of K.Keeper office.new) (R.left reader.old) (R.left reader.new) (W.written writer.old) (W.written writer.new) served.code (StoreRefused K.Keeper office.old office.new)) }
     ensures err { Holds K.Keeper office.old office.new → IfErr result (λ fault. StopsServe (state_of K.Keeper office.old) (state_of K.Keeper office.new) (R.left reader.old) (R.left reader.new) (W.written writer.old) (W.written writer.new) fault (StoreRefused K.Keeper office.old office.new)) }
     ensures calls { R.calls reader.new ≤ R.calls reader.old + (head_room + body_room) }
-    ensures read { IfErr result (λ fault. fault ≡ ServeFault.Read → HasRisen (R.failures reader.old) (R.failures reader.new)) }
-    ensures write { IfErr result (λ fault. fault ≡ ServeFault.Write → HasRisen (W.failures writer.old) (W.failures writer.new)) }
-    ensures read_clean { OnOk result (R.failures reader.new ≡ R.failures reader.old) }
-    ensures write_clean { OnOk result (W.failures writer.new ≡ W.failures writer.old) }
+    ensures counts { CountsFaults (R.failures reader.old) (R.failures reader.new) (W.failures writer.old) (W.failures writer.new) result }
 {
     let mut headers = [EMPTY_HEADER_SPAN; FIELD_ROOM];
     let mut seen = Vec::new(office.alloc());
@@ -591,10 +578,7 @@ pub fn serve_with_routes<K: Keeper, R: Feed, W: Sink>(
     ensures runs { Holds K.Keeper office.old office.new → RunsStand (K.content office.old) (K.content office.new) }
     // The reader is asked at most once for each byte that a head and a body may have.
     ensures calls { R.calls reader.new ≤ R.calls reader.old + (head_room + body_room) }
-    ensures read { IfErr result (λ fault. fault ≡ ServeFault.Read → HasRisen (R.failures reader.old) (R.failures reader.new)) }
-    ensures write { IfErr result (λ fault. fault ≡ ServeFault.Write → HasRisen (W.failures writer.old) (W.failures writer.new)) }
-    ensures read_clean { OnOk result (R.failures reader.new ≡ R.failures reader.old) }
-    ensures write_clean { OnOk result (W.failures writer.new ≡ W.failures writer.old) }
+    ensures counts { CountsFaults (R.failures reader.old) (R.failures reader.new) (W.failures writer.old) (W.failures writer.new) result }
 {
     serve_connection(office, table, reader, writer)
 }
@@ -610,10 +594,7 @@ pub fn serve_one<K: Keeper, R: Feed, W: Sink>(
     ensures err { Holds K.Keeper office.old office.new → IfErr result (λ fault. StopsServe (state_of K.Keeper office.old) (state_of K.Keeper office.new) (R.left reader.old) (R.left reader.new) (W.written writer.old) (W.written writer.new) fault (StoreRefused K.Keeper office.old office.new)) }
     ensures runs { Holds K.Keeper office.old office.new → RunsStand (K.content office.old) (K.content office.new) }
     ensures calls { R.calls reader.new ≤ R.calls reader.old + (head_room + body_room) }
-    ensures read { IfErr result (λ fault. fault ≡ ServeFault.Read → HasRisen (R.failures reader.old) (R.failures reader.new)) }
-    ensures write { IfErr result (λ fault. fault ≡ ServeFault.Write → HasRisen (W.failures writer.old) (W.failures writer.new)) }
-    ensures read_clean { OnOk result (R.failures reader.new ≡ R.failures reader.old) }
-    ensures write_clean { OnOk result (W.failures writer.new ≡ W.failures writer.old) }
+    ensures counts { CountsFaults (R.failures reader.old) (R.failures reader.new) (W.failures writer.old) (W.failures writer.new) result }
 {
     match routes(office.alloc()) {
         Ok(table) => serve_with_routes(office, &table, reader, writer),

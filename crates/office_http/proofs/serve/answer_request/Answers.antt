@@ -30,8 +30,8 @@ returns-in-Some-Tell-clause-ok g c =
     let s1 = c.tell.new.office in
     λ h due same. told_answers (StoreRefused keeper s0 s1) (state_of keeper s0) (state_of keeper s1) l w (drop c.args.start c.args.seen.now.items) c.in-Some-Tell.page c.tell.result due (let at : c.in-Some-Tell.field-0 ≡ due = rw c.in-Some-Tell.is at same in sym c.in-Some-Tell.field-0-is ∙ at) (c.tell.ensures.tells h) (state_asked keeper s0 s1 c.tell.ensures.asks h.0)
 
-pub returns-in-Some-Tell-clause-read_clean : goal.returns-in-Some-Tell-clause-read_clean
-returns-in-Some-Tell-clause-read_clean g c = refl
+pub returns-in-Some-Tell-clause-counts : goal.returns-in-Some-Tell-clause-counts
+returns-in-Some-Tell-clause-counts g c = record { read = tt; write = tt; read_clean = refl; write_clean = refl }
 
 pub returns-in-Some-Post-clause-err : goal.returns-in-Some-Post-clause-err
 returns-in-Some-Post-clause-err g c =
