@@ -1,9 +1,8 @@
 //! A service that is known by some hosts alone.
-ghost use Rattle.std.specs.Prelude.{◌≡◌, Some, IfErr, IfOk, OnErr, OnOk, map};
-ghost use Rattle.std.specs.Io.KnownBytes.{Appends};
+ghost use Rattle.std.specs.Prelude.{◌≡◌, Some, IfErr, IfOk, map};
 ghost use Rattle.office_core.specs.Preserves.{Holds, Preserves, StoreRefused};
 ghost use Rattle.office_core_facts.specs.State.{state_of};
-ghost use Rattle.office_core_orders.specs.Written.{AppendsFront};
+ghost use Rattle.office_core_orders.specs.Written.{Writes};
 ghost use Rattle.office_http_requests.specs.Asked.{is_head_method};
 ghost use Rattle.office_http_requests.specs.Hosts.{IsForOther};
 ghost use Rattle.office_http_requests.specs.Reply.{refused, reply_bytes};
@@ -20,8 +19,7 @@ use office_store_keeper::Keeper;
 /// Refuses a request for another host.
 fn refuse_host<W: Sink>(setup: &Setup, is_head: bool, writer: &mut W) -> Result<Served, ServeFault>
     ensures code { IfOk result (λ served. served.code ≡ Some 403) }
-    ensures ok { OnOk result (Appends (W.written writer.old) (W.written writer.new) (reply_bytes (refused Refusal.OtherHost) is_head)) }
-    ensures err { OnErr result (AppendsFront (W.written writer.old) (W.written writer.new) (reply_bytes (refused Refusal.OtherHost) is_head)) }
+    ensures writes { Writes W.Sink writer.old writer.new (reply_bytes (refused Refusal.OtherHost) is_head) result }
 {
     let code = write_answer(setup, &Answer::Refused(Refusal::OtherHost), is_head, writer)?;
     Ok(Served { code: Some(code) })
@@ -41,8 +39,7 @@ pub fn serve_as_hosts<K: Keeper, R: Feed, W: Sink>(
     ensures carries { Preserves K.Keeper office.old office.new }
     ensures still { IsForOther (map (λ host. host.now) hosts.now) request.now → office.new ≡ office.old }
     ensures unread { IsForOther (map (λ host. host.now) hosts.now) request.now → reader.new ≡ reader.old }
-    ensures refused { (other : IsForOther (map (λ host. host.now) hosts.now) request.now) → OnOk result (Appends (W.written writer.old) (W.written writer.new) (reply_bytes (refused Refusal.OtherHost) (is_head_method other.head))) }
-    ensures cut_off { (other : IsForOther (map (λ host. host.now) hosts.now) request.now) → OnErr result (AppendsFront (W.written writer.old) (W.written writer.new) (reply_bytes (refused Refusal.OtherHost) (is_head_method other.head))) }
+    ensures refused { (other : IsForOther (map (λ host. host.now) hosts.now) request.now) → Writes W.Sink writer.old writer.new (reply_bytes (refused Refusal.OtherHost) (is_head_method other.head)) result }
     ensures ok { ¬ (IsForOther (map (λ host. host.now) hosts.now) request.now) → Holds K.Keeper office.old office.new → IfOk result (λ served. Serves (state_of K.Keeper office.old) (state_of K.Keeper office.new) (R.left reader.old) (R.left reader.new) (W.written writer.old) (W.written writer.new) served.code (StoreRefused K.Keeper office.old office.new)) }
     ensures err { ¬ (IsForOther (map (λ host. host.now) hosts.now) request.now) → Holds K.Keeper office.old office.new → IfErr result (λ fault. StopsServe (state_of K.Keeper office.old) (state_of K.Keeper office.new) (R.left reader.old) (R.left reader.new) (W.written writer.old) (W.written writer.new) fault (StoreRefused K.Keeper office.old office.new)) }
 {

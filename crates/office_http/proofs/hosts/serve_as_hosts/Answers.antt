@@ -1,6 +1,5 @@
-use Rattle.std.proofs.Common.{Bool, Bor, List, ℕ, OnErr, OnOk, map, refl, subst}
-use Rattle.std.specs.Io.KnownBytes.{Appends}
-use Rattle.office_core_orders.specs.Written.{AppendsFront}
+use Rattle.std.proofs.Common.{Bool, Bor, List, ℕ, map, refl, subst}
+use Rattle.office_core_orders.specs.Written.{Writes}
 use Rattle.office_http_requests.specs.Reply.{refused, reply_bytes}
 use Rattle.office_http_requests.specs.declared.reply.Refusal.TheVariants as refusal
 use Rattle.office_http_requests.proofs.HostFacts.{for_none, head_is}
@@ -16,13 +15,7 @@ pub returns-in-Some-clause-refused : goal.returns-in-Some-clause-refused
 returns-in-Some-clause-refused g c = λ other.
     let hosts : List (List ℕ) = map (λ (host : Bor (List ℕ)). host.now) c.args.hosts.now in
     let same = head_is hosts other.head c.in-Some.is_head (c.in-Some.ensures.exact other.head other.rest other.begins) other.other in
-    subst (λ (b : Bool). OnOk c.refuse_host.result (Appends (g.W.Sink.written c.args.writer.now) (g.W.Sink.written c.refuse_host.new.writer) (reply_bytes (refused refusal.OtherHost) b))) same c.refuse_host.ensures.ok
-
-pub returns-in-Some-clause-cut_off : goal.returns-in-Some-clause-cut_off
-returns-in-Some-clause-cut_off g c = λ other.
-    let hosts : List (List ℕ) = map (λ (host : Bor (List ℕ)). host.now) c.args.hosts.now in
-    let same = head_is hosts other.head c.in-Some.is_head (c.in-Some.ensures.exact other.head other.rest other.begins) other.other in
-    subst (λ (b : Bool). OnErr c.refuse_host.result (AppendsFront (g.W.Sink.written c.args.writer.now) (g.W.Sink.written c.refuse_host.new.writer) (reply_bytes (refused refusal.OtherHost) b))) same c.refuse_host.ensures.err
+    subst (λ (b : Bool). Writes g.W.Sink c.args.writer.now c.refuse_host.new.writer (reply_bytes (refused refusal.OtherHost) b) c.refuse_host.result) same c.refuse_host.ensures.writes
 
 pub returns-in-Some-clause-ok : goal.returns-in-Some-clause-ok
 returns-in-Some-clause-ok g c = λ none h. absurd (none c.in-Some.ensures.only)
@@ -40,10 +33,6 @@ returns-in-None-clause-unread g c = λ other.
 
 pub returns-in-None-clause-refused : goal.returns-in-None-clause-refused
 returns-in-None-clause-refused g c = λ other.
-    absurd (for_none (map (λ (host : Bor (List ℕ)). host.now) c.args.hosts.now) other.head (c.in-None.ensures.exact other.head other.rest other.begins) other.other)
-
-pub returns-in-None-clause-cut_off : goal.returns-in-None-clause-cut_off
-returns-in-None-clause-cut_off g c = λ other.
     absurd (for_none (map (λ (host : Bor (List ℕ)). host.now) c.args.hosts.now) other.head (c.in-None.ensures.exact other.head other.rest other.begins) other.other)
 
 pub returns-in-None-clause-ok : goal.returns-in-None-clause-ok
