@@ -211,7 +211,8 @@ class Book:
     def type_text(self, at):
         """A type as its file has it, with its comment and without attributes, and what contracts see of it."""
         source = (self.top / label_of(at)).read_text()
-        start = re.search(rf'(?m)^(?:pub(?:\([a-z]+\))? )?{at.kind} {at.name}\b', source).start()
+        head = re.search(rf'(?m)^(?:pub(?:\([a-z]+\))? )?{at.kind} {at.name}\b(<[^>]*>)?', source)
+        start, over = head.start(), head[1] or ''
         body = re.compile(r'[{(;]').search(source, start)
         end = source.index('\n', close(source, body.start()) if body[0] != ';' else body.start())
         before = source[:start].rstrip('\n').split('\n')
@@ -221,7 +222,7 @@ class Book:
         lines = [line for line in comment + source[start:end].split('\n') if not line.lstrip().startswith('#[')]
         ghosts = [ghost for part in self.tree.impls[at] if part.trait == 'Model' for ghost in part.ghosts]
         seen = [f'    ghost {name} = {" ".join(text.split())};' for name, text in ghosts if name != 'invariant']
-        return '\n'.join(lines + ([f'impl Model for {at.name} {{', *seen, '}'] if seen else []))
+        return '\n'.join(lines + ([f'impl{over} Model for {at.name}{over} {{', *seen, '}'] if seen else []))
 
     def section(self, label):
         """The heading of a file, what is used of it before, and its definitions or types."""
