@@ -12,10 +12,9 @@ ghost use Rattle.office_store_keeper.specs.LastDelays.{IsLastTold};
 ghost use Rattle.office_store_keeper.specs.declared.faults.Cause.TheVariants.{BadRow};
 ghost use Rattle.office_store_tables.specs.Layout.{schema_before};
 ghost use Rattle.office_store_tables.specs.Tables.{IsTrusted, IsOurs, IsWhole, number_in, kept_rows};
-ghost use Rattle.office_store_tables.specs.Faults.{IsBad};
 ghost use Rattle.office_store_tables.specs.steps.Tables.{Lasts};
 ghost use Rattle.office_store_tables.specs.TableSteps.{IsCrowded, SaysMore, is_between, letter_columns, office_columns};
-ghost use Rattle.office_store_tables.specs.StepsWithin.{StepsWithin, BeginsInside, Performs, Looks};
+ghost use Rattle.office_store_tables.specs.StepsWithin.{StepsWithin, BeginsInside, Yields, LeavesAll, Performs};
 ghost use Rattle.office_store_tables.specs.TableContent.{release_place};
 ghost use Rattle.office_store_tables.specs.steps.CreatingSteps.{IsBuilding};
 ghost use Rattle.office_store_tables.specs.SetupText.{setup_text as text_of};
@@ -23,7 +22,7 @@ ghost use Rattle.office_store_tables.specs.Unchanged.{IsAsItWas};
 ghost use Rattle.office_store.specs.Opening.{lists_by, text_before, text_of_one, IsKeptForOther, IsMigrated, IsUnreadable};
 ghost use Rattle.office_store.specs.steps.Opening.{shown_office};
 ghost use Rattle.office_store.specs.Migrating.{AreMessages};
-ghost use Rattle.office_store.specs.steps.MigratingSteps.{HeldBefore, count_by, count_shown, IsJudged, stated_by, next_stated, cover_on, delays_in_body, next_told, told_on, PutsLast, Widens, WritesAnew};
+ghost use Rattle.office_store.specs.steps.MigratingSteps.{count_by, count_shown, IsJudged, stated_by, next_stated, cover_on, delays_in_body, next_told, told_on, PutsLast, Widens, WritesAnew};
 
 use crate::opening::{OpenFault, judge, number_at};
 use office_mail::{Body, Message, RunOrder, Setup};
@@ -51,8 +50,10 @@ fn widen<S: Alter>(tx: &mut Transaction<'_, S>) -> Result<usize, Error>
 
 /// The rows of the office, in any order.
 fn office_rows<S: Alter>(tx: &mut Transaction<'_, S>) -> Result<Vec<Row>, Error>
-    requires { BeginsInside S.Store tx.old.conn }
-    ensures { Looks S.Store tx.old.conn tx.new.conn result (λ db rows. IsPermutation (map office_columns (db 0)) rows.items) }
+    requires inside { BeginsInside S.Store tx.old.conn }
+    ensures steps { StepsWithin S.Store tx.old.conn tx.new.conn result }
+    ensures same { LeavesAll S.Store tx.old.conn tx.new.conn result }
+    ensures rows { Yields S.Store tx.old.conn tx.new.conn result (λ db _ rows. IsPermutation (map office_columns (db 0)) rows.items) }
 {
     tx.query_all("SELECT id, schema, setup, finished FROM office", &[])
 }
@@ -64,8 +65,10 @@ fn letters_between<S: Alter>(
     from: u32,
     to: u32,
 ) -> Result<Vec<Row>, Error>
-    requires { BeginsInside S.Store tx.old.conn }
-    ensures { Looks S.Store tx.old.conn tx.new.conn result (λ db rows. IsPermutation (map letter_columns (filter (is_between sender from to) (db 1))) rows.items) }
+    requires inside { BeginsInside S.Store tx.old.conn }
+    ensures steps { StepsWithin S.Store tx.old.conn tx.new.conn result }
+    ensures same { LeavesAll S.Store tx.old.conn tx.new.conn result }
+    ensures rows { Yields S.Store tx.old.conn tx.new.conn result (λ db _ rows. IsPermutation (map letter_columns (filter (is_between sender from to) (db 1))) rows.items) }
 {
     tx.query_all(
         "SELECT sender, number, body FROM mail WHERE sender = ?1 AND number >= ?2 AND number <= ?3",
@@ -80,9 +83,11 @@ fn letters_to<S: Alter>(
     sender: u32,
     to: u32,
 ) -> Result<Vec<Letter>, KeepFault>
-    requires { BeginsInside S.Store tx.old.conn }
-    ensures looks { Looks S.Store tx.old.conn tx.new.conn result (λ db letters. letters.items ≡ letters_within (kept_rows (db 1)) sender 1 to) }
-    ensures bad { HeldBefore S.Store tx.old.conn tx.new.conn (λ db. IsBad result → IsCrowded (db 1)) }
+    requires inside { BeginsInside S.Store tx.old.conn }
+    ensures steps { StepsWithin S.Store tx.old.conn tx.new.conn result }
+    ensures same { LeavesAll S.Store tx.old.conn tx.new.conn result }
+    ensures loaded { Yields S.Store tx.old.conn tx.new.conn result (λ db _ letters. letters.items ≡ letters_within (kept_rows (db 1)) sender 1 to) }
+    ensures bad { IsTrusted (state S.Store tx.new.conn.now) → result ≡ Err (KeepFault.Store BadRow) → IsCrowded ((state S.Store tx.old.conn.now).now.trees 1) }
 {
     let rows = letters_between(tx, sender, 1, to)?;
     let letters = letters_in(alloc, rows.as_slice(), sender)?;
@@ -132,10 +137,12 @@ fn judged<S: Alter>(
     tx: &mut Transaction<'_, S>,
     setup: &Setup,
 ) -> Result<u32, OpenFault>
-    requires { BeginsInside S.Store tx.old.conn }
-    ensures looks { Looks S.Store tx.old.conn tx.new.conn result (λ db finished. IsJudged setup.now (db 0) finished) }
-    ensures other { HeldBefore S.Store tx.old.conn tx.new.conn (λ db. result ≡ Err OpenFault.OtherSetup → (kept : Lists) × (lists_by (text_before (db 0)) ≡ Some kept) × (kept ≢ setup.now)) }
-    ensures unknown { HeldBefore S.Store tx.old.conn tx.new.conn (λ db. result ≡ Err OpenFault.UnknownSchema → lists_by (text_before (db 0)) ≡ None) }
+    requires inside { BeginsInside S.Store tx.old.conn }
+    ensures steps { StepsWithin S.Store tx.old.conn tx.new.conn result }
+    ensures same { LeavesAll S.Store tx.old.conn tx.new.conn result }
+    ensures judged { Yields S.Store tx.old.conn tx.new.conn result (λ db _ finished. IsJudged setup.now (db 0) finished) }
+    ensures other { IsTrusted (state S.Store tx.new.conn.now) → result ≡ Err OpenFault.OtherSetup → (kept : Lists) × (lists_by (text_before ((state S.Store tx.old.conn.now).now.trees 0)) ≡ Some kept) × (kept ≢ setup.now) }
+    ensures unknown { IsTrusted (state S.Store tx.new.conn.now) → result ≡ Err OpenFault.UnknownSchema → lists_by (text_before ((state S.Store tx.old.conn.now).now.trees 0)) ≡ None }
     ensures bad { result ≢ Err (OpenFault.Store BadRow) }
 {
     let rows = office_rows(tx)?;
@@ -157,7 +164,7 @@ fn stated_by(order: &RunOrder, release: u32) -> u32
 /// What the run order in a message states for the release team; another message is refused.
 fn stated_in(message: Message, release: u32) -> Result<u32, KeepFault>
     ensures ok { IfOk result (λ stated. stated_by release (order_in_body message.body) ≡ Some stated) }
-    ensures bad { IsBad result → stated_by release (order_in_body message.body) ≡ None }
+    ensures bad { result ≡ Err (KeepFault.Store BadRow) → stated_by release (order_in_body message.body) ≡ None }
 {
     match message.body {
         Body::Run(order) => {
@@ -176,7 +183,7 @@ fn stated_in(message: Message, release: u32) -> Result<u32, KeepFault>
 #[tactic(auto, unfolding(crate::specs::steps::MigratingSteps::next_stated))]
 fn next_stated(alloc: Global, setup: &Setup, count: u32, letter: &Letter) -> Result<u32, KeepFault>
     ensures ok { IfOk result (λ stated. next_stated setup.now count letter.now ≡ Some stated) }
-    ensures bad { IsBad result → next_stated setup.now count letter.now ≡ None }
+    ensures bad { result ≡ Err (KeepFault.Store BadRow) → next_stated setup.now count letter.now ≡ None }
     ensures next { OnOk result (letter.now.number ≡ count + 1) }
 {
     if letter.number as u64 != count as u64 + 1 {
@@ -208,7 +215,7 @@ fn cover_of(
     letters: &[Letter],
 ) -> Result<u32, KeepFault>
     ensures ok { IfOk result (λ cover. cover_on setup.now finished 0 0 letters.now ≡ Some cover) }
-    ensures bad { IsBad result → cover_on setup.now finished 0 0 letters.now ≡ None }
+    ensures bad { result ≡ Err (KeepFault.Store BadRow) → cover_on setup.now finished 0 0 letters.now ≡ None }
 {
     let mut count = 0;
     let mut cover = 0;
@@ -240,7 +247,7 @@ fn next_told(
     letter: &Letter,
 ) -> Result<Option<u32>, KeepFault>
     ensures ok { IfOk result (λ now. next_told setup.now last letter.now ≡ Some now) }
-    ensures bad { IsBad result → next_told setup.now last letter.now ≡ None }
+    ensures bad { result ≡ Err (KeepFault.Store BadRow) → next_told setup.now last letter.now ≡ None }
 {
     let release = release_place(setup);
     let message = own_message(alloc, setup, letter.text.as_slice(), release, letter.number)?;
@@ -257,7 +264,7 @@ fn next_told(
 #[tactic(auto, unfolding(crate::specs::steps::MigratingSteps::told_on))]
 fn last_told(alloc: Global, setup: &Setup, letters: &[Letter]) -> Result<Option<u32>, KeepFault>
     ensures ok { IfOk result (λ last. told_on setup.now None letters.now ≡ Some last) }
-    ensures bad { IsBad result → told_on setup.now None letters.now ≡ None }
+    ensures bad { result ≡ Err (KeepFault.Store BadRow) → told_on setup.now None letters.now ≡ None }
 {
     let mut last = None;
     'letters: for letter in letters {
@@ -273,9 +280,11 @@ fn covered<S: Alter>(
     setup: &Setup,
     finished: u32,
 ) -> Result<u32, KeepFault>
-    requires { BeginsInside S.Store tx.old.conn }
-    ensures looks { Looks S.Store tx.old.conn tx.new.conn result (λ db stated. cover_on setup.now finished 0 0 (letters_within (kept_rows (db 1)) (runs setup.now) 1 finished) ≡ Some stated) }
-    ensures bad { HeldBefore S.Store tx.old.conn tx.new.conn (λ db. IsBad result → IsWhole (kept_rows (db 1)) (db 1) → cover_on setup.now finished 0 0 (letters_within (kept_rows (db 1)) (runs setup.now) 1 finished) ≡ None) }
+    requires inside { BeginsInside S.Store tx.old.conn }
+    ensures steps { StepsWithin S.Store tx.old.conn tx.new.conn result }
+    ensures same { LeavesAll S.Store tx.old.conn tx.new.conn result }
+    ensures stated { Yields S.Store tx.old.conn tx.new.conn result (λ db _ stated. cover_on setup.now finished 0 0 (letters_within (kept_rows (db 1)) (runs setup.now) 1 finished) ≡ Some stated) }
+    ensures bad { IsTrusted (state S.Store tx.new.conn.now) → result ≡ Err (KeepFault.Store BadRow) → IsWhole (kept_rows ((state S.Store tx.old.conn.now).now.trees 1)) ((state S.Store tx.old.conn.now).now.trees 1) → cover_on setup.now finished 0 0 (letters_within (kept_rows ((state S.Store tx.old.conn.now).now.trees 1)) (runs setup.now) 1 finished) ≡ None }
 {
     let orders = letters_to(alloc, tx, setup.runs(), finished)?;
     cover_of(alloc, setup, finished, orders.as_slice())
@@ -288,9 +297,11 @@ fn last_delays_number<S: Alter>(
     setup: &Setup,
     to: u32,
 ) -> Result<Option<u32>, KeepFault>
-    requires { BeginsInside S.Store tx.old.conn }
-    ensures looks { Looks S.Store tx.old.conn tx.new.conn result (λ db last. told_on setup.now None (letters_within (kept_rows (db 1)) (release_place setup.now) 1 to) ≡ Some last) }
-    ensures bad { HeldBefore S.Store tx.old.conn tx.new.conn (λ db. IsBad result → IsWhole (kept_rows (db 1)) (db 1) → told_on setup.now None (letters_within (kept_rows (db 1)) (release_place setup.now) 1 to) ≡ None) }
+    requires inside { BeginsInside S.Store tx.old.conn }
+    ensures steps { StepsWithin S.Store tx.old.conn tx.new.conn result }
+    ensures same { LeavesAll S.Store tx.old.conn tx.new.conn result }
+    ensures told { Yields S.Store tx.old.conn tx.new.conn result (λ db _ last. told_on setup.now None (letters_within (kept_rows (db 1)) (release_place setup.now) 1 to) ≡ Some last) }
+    ensures bad { IsTrusted (state S.Store tx.new.conn.now) → result ≡ Err (KeepFault.Store BadRow) → IsWhole (kept_rows ((state S.Store tx.old.conn.now).now.trees 1)) ((state S.Store tx.old.conn.now).now.trees 1) → told_on setup.now None (letters_within (kept_rows ((state S.Store tx.old.conn.now).now.trees 1)) (release_place setup.now) 1 to) ≡ None }
 {
     let letters = letters_to(alloc, tx, release_place(setup), to)?;
     last_told(alloc, setup, letters.as_slice())
@@ -303,9 +314,11 @@ fn find_last<S: Alter>(
     setup: &Setup,
     finished: u32,
 ) -> Result<Option<u32>, KeepFault>
-    requires { BeginsInside S.Store tx.old.conn }
-    ensures looks { Looks S.Store tx.old.conn tx.new.conn result (λ db last. AreMessages setup.now (kept_rows (db 1)) finished × IsLastTold setup.now (kept_rows (db 1)) (cover setup.now (kept_rows (db 1)) finished (release_place setup.now)) last) }
-    ensures bad { HeldBefore S.Store tx.old.conn tx.new.conn (λ db. IsBad result → IsWhole (kept_rows (db 1)) (db 1) → AreMessages setup.now (kept_rows (db 1)) finished → ⊥) }
+    requires inside { BeginsInside S.Store tx.old.conn }
+    ensures steps { StepsWithin S.Store tx.old.conn tx.new.conn result }
+    ensures same { LeavesAll S.Store tx.old.conn tx.new.conn result }
+    ensures last { Yields S.Store tx.old.conn tx.new.conn result (λ db _ last. AreMessages setup.now (kept_rows (db 1)) finished × IsLastTold setup.now (kept_rows (db 1)) (cover setup.now (kept_rows (db 1)) finished (release_place setup.now)) last) }
+    ensures bad { IsTrusted (state S.Store tx.new.conn.now) → result ≡ Err (KeepFault.Store BadRow) → IsWhole (kept_rows ((state S.Store tx.old.conn.now).now.trees 1)) ((state S.Store tx.old.conn.now).now.trees 1) → AreMessages setup.now (kept_rows ((state S.Store tx.old.conn.now).now.trees 1)) finished → ⊥ }
 {
     let to = covered(alloc, tx, setup, finished)?;
     last_delays_number(alloc, tx, setup, to)
@@ -344,8 +357,9 @@ fn write_anew<S: Alter>(
     setup: &str,
     finished: u32,
 ) -> Result<usize, Error>
-    requires { BeginsInside S.Store tx.old.conn }
-    ensures { Performs S.Store tx.old.conn tx.new.conn result (λ db next _. WritesAnew db next last (record { schema = 2; setup = setup.now; finished = finished })) }
+    requires inside { BeginsInside S.Store tx.old.conn }
+    ensures steps { StepsWithin S.Store tx.old.conn tx.new.conn result }
+    ensures written { Yields S.Store tx.old.conn tx.new.conn result (λ db next _. WritesAnew db next last (record { schema = 2; setup = setup.now; finished = finished })) }
 {
     put_last(tx, last)?;
     let _old = clear_office(tx)?;
@@ -366,7 +380,7 @@ fn change_schema<S: Alter>(
     ensures steps { StepsWithin S.Store tx.old.conn tx.new.conn result }
     ensures migrated { IsTrusted (state S.Store tx.new.conn.now) → OnOk result (IsMigrated setup.now (state S.Store tx.old.conn.now).now (state S.Store tx.new.conn.now).now) }
     ensures other { IsTrusted (state S.Store tx.new.conn.now) → result ≡ Err OpenFault.OtherSetup → IsKeptForOther setup.now (state S.Store tx.old.conn.now).now }
-    ensures unknown { HeldBefore S.Store tx.old.conn tx.new.conn (λ db. result ≡ Err OpenFault.UnknownSchema → lists_by (text_before (db 0)) ≡ None) }
+    ensures unknown { IsTrusted (state S.Store tx.new.conn.now) → result ≡ Err OpenFault.UnknownSchema → lists_by (text_before ((state S.Store tx.old.conn.now).now.trees 0)) ≡ None }
     ensures bad { IsTrusted (state S.Store tx.new.conn.now) → result ≡ Err (OpenFault.Store BadRow) → IsUnreadable setup.now (state S.Store tx.old.conn.now).now }
 {
     let _made = widen(tx)?;

@@ -1,5 +1,5 @@
 //! Finishes a run in one transaction over the tables.
-ghost use Rattle.std.specs.Prelude.{◌≡◌, OnOk, OnErr};
+ghost use Rattle.std.specs.Prelude.{◌≡◌, ◌≢◌, Err, OnOk, OnErr};
 ghost use Rattle.std.specs.Str.{IsUtf8};
 ghost use Rattle.sqlite.specs.Held.{state};
 ghost use Rattle.sqlite.specs.State.{HasCleanDisk};
@@ -80,12 +80,12 @@ pub fn finish<S: Alter>(
     run: u32,
     done: &Finished,
 ) -> Result<(), KeepFault>
-    requires ours { BeginsOurs S.Store conn.old }
+    requires ours { IsTrusted (state S.Store conn.old) → IsOurs (state S.Store conn.old) }
     ensures before { IsTrusted (state S.Store conn.new) → IsTrusted (state S.Store conn.old) }
     ensures lasts { Lasts (state S.Store conn.old) (state S.Store conn.new) }
     ensures open { HasCleanDisk (state S.Store conn.new) → IsTrusted (state S.Store conn.old) → OnOk result (IsTrusted (state S.Store conn.new)) }
     ensures ours { IsTrusted (state S.Store conn.new) → IsOurs (state S.Store conn.new) }
-    ensures bad { IsTrusted (state S.Store conn.new) → SaysOnce ((state S.Store conn.old).now.trees 0) → NeverBad result }
+    ensures bad { IsTrusted (state S.Store conn.new) → SaysOnce ((state S.Store conn.old).now.trees 0) → result ≢ Err (KeepFault.Store Cause.BadRow) }
     ensures ordered { OnOk result (IsInOrder done.now.testing.sources done.now.testing.rows) }
     ensures texts { OnOk result (IsUtf8 done.now.excuses × IsUtf8 done.now.updates) }
     ensures done { IsTrusted (state S.Store conn.new) → OnOk result (FinishesRun (release_place setup.now) (state S.Store conn.old).now.trees (state S.Store conn.new).now.trees run done.now) }

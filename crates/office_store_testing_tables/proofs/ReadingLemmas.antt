@@ -1,18 +1,15 @@
 -- What calls that only read leave, one after the other.
-use Rattle.std.proofs.Common.{◌≡◌, ◌∙◌, ℕ, List, Bool, true, false, Result, Ok, Err, IsErr, refl, sym, subst, true≢false}
+use Rattle.std.proofs.Common.{◌≡◌, ◌∙◌, ℕ, List, Bool, true, false, Result, Ok, Err, IsErr, refl, sym, true≢false}
 use Rattle.sqlite_trees.specs.declared.store.Store.{Ghosts}
 use Rattle.sqlite.specs.Order.{Row}
 use Rattle.sqlite.specs.declared.error.Error.{Error}
 use Rattle.sqlite.specs.Held.{Held, state}
-use Rattle.sqlite.specs.Effect.{Database}
-use Rattle.sqlite.specs.State.{Shown}
-use Rattle.sqlite.specs.Tree.{Trees}
 use Rattle.sqlite.specs.Listing.{understood}
 use Rattle.sqlite.proofs.Callers.{IsPlain}
 use Rattle.office_store_testing_tables.specs.Layout.{office_schema}
 use Rattle.office_store_testing_tables.specs.steps.Tables.{Lasts}
-use Rattle.office_store_testing_tables.specs.steps.ReadsOnly.{ReadsOnly, BeginsOurs, Reads}
-use Rattle.office_store_testing_tables.proofs.StateLemmas.{Asked, asked_before, asked_same, asked_open, asked_rows, lasts_same, lasts_then, clean_before}
+use Rattle.office_store_testing_tables.specs.steps.ReadsOnly.{ReadsOnly, BeginsOurs}
+use Rattle.office_store_testing_tables.proofs.StateLemmas.{Asked, asked_before, asked_same, asked_open, lasts_same, lasts_then, clean_before}
 
 -- the calls so far went well
 abbrev pub HasRead : {S : Type 0} → Ghosts S → Held S → Held S → Type 0
@@ -58,17 +55,4 @@ module _ {S : Type 0} {store : Ghosts S} where
     lasts = lasts;
     stays = λ clean trusted. asked_open _ _ _ _ _ _ asked clean trusted;
     same = λ trusted. asked_same _ _ _ _ _ _ asked plain (ours (asked_before _ _ _ _ _ _ asked trusted)) trusted;
-  }
-
-  -- and what it finds
-  pub asked_reads : {R : Type 0} (items : R → List Row) (sql : List ℕ) (params : Row) (old new : Held S) (found : Trees → List Row → Type 0) (result : Result R Error) → Asked items sql params (state store old) (state store new) result
-      → IsPlain (understood office_schema sql) → Lasts (state store old) (state store new) → BeginsOurs store old
-      → ((rows : List Row) → (state store old).now.schema ≡ office_schema → Shown sql params (state store old) (state store new) rows → found (state store old).now.trees rows)
-      → Reads store old new result (λ db rows. found db (items rows))
-  asked_reads items sql params old new found result asked plain lasts ours gives = record {
-    reads = asked_read items sql params old new result asked plain lasts ours;
-    finds = λ trusted.
-        let was = ours (asked_before _ _ _ _ _ _ asked trusted) in
-        let same = asked_same _ _ _ _ _ _ asked plain was trusted in
-        asked_rows items sql params _ _ (found (state store new).now.trees) result asked trusted (λ rows h. subst (λ (d : Database). found d.trees rows) (sym same.now) (gives rows was.schema h));
   }

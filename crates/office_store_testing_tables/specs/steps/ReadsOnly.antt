@@ -23,12 +23,3 @@ BeginsOurs store old = IsTrusted (state store old) → IsOurs (state store old)
 -- what a successful call finds in the tables
 abbrev pub Finds : {S T E : Type 0} → Ghosts S → Held S → Result T E → (Trees → T → Type 0) → Type 0
 Finds store new result found = IsTrusted (state store new) → IfOk result (found (state store new).now.trees)
-
--- what a call leaves that only reads, and what it finds in the tables
-pub record Reads {S T E : Type 0} (store : Ghosts S) (old new : Held S) (result : Result T E) (found : Trees → T → Type 0) : Type 0 where
-  pub reads : ReadsOnly store old new result
-  pub finds : Finds store new result found
-
--- if the connection is trusted, this holds of its tables
-abbrev pub Holds : {S : Type 0} → Ghosts S → Held S → (Trees → Type 0) → Type 0
-Holds store held said = IsTrusted (state store held) → said (state store held).now.trees

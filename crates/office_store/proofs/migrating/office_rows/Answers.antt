@@ -1,14 +1,13 @@
 use Rattle.std.proofs.Common.{[], List, map}
 use Rattle.std.specs.List.Sorted.{IsPermutation}
 use Rattle.sqlite.specs.Order.{Row}
-use Rattle.sqlite.specs.Tree.{Trees}
 use Rattle.sqlite.specs.Held.{state}
 use Rattle.office_store_tables.specs.Texts.{office_text}
 use Rattle.office_store_tables.specs.TableSteps.{office_columns}
 use Rattle.office_store_tables.proofs.RunLemmas.{office_plain, shows_office}
-use Rattle.office_store_tables.proofs.InsideLemmas.{AskedInside}
+use Rattle.office_store_tables.proofs.InsideLemmas.{AskedInside, inside_same, inside_rows}
 use Rattle.office_store_tables.proofs.StateLemmas.{lasts_survived}
-use Rattle.office_store_tables.proofs.WithinLemmas.{asked_looks}
+use Rattle.office_store_tables.proofs.WithinLemmas.{asked_within}
 use Rattle.office_store.proofs.migrating.office_rows.Goals as goal
 
 asked : (g : _) (c : goal.After-query_all g) → AskedInside (λ r. r.items) office_text ([]) (state g.S.Store c.args.tx.now.conn.now) (state g.S.Store c.query_all.new.self.conn.now) c.query_all.result
@@ -19,7 +18,15 @@ asked g c = record {
   err = c.query_all.ensures.err;
 }
 
-pub returns : goal.returns
-returns g c =
-    asked_looks _ _ _ _ _ (λ (db : Trees) (rows : List Row). IsPermutation (map office_columns (db 0)) rows) c.query_all.result (asked g c) c.query_all.ensures.same_reference office_plain.0 (lasts_survived _ _ c.query_all.ensures.survives) c.requires
-    (λ rows has h. shows_office _ _ rows has h)
+pub returns-clause-steps : goal.returns-clause-steps
+returns-clause-steps g c = asked_within _ _ _ _ _ _ (asked g c) c.query_all.ensures.same_reference office_plain.0 (lasts_survived _ _ c.query_all.ensures.survives) c.requires.inside
+
+pub returns-clause-same : goal.returns-clause-same
+returns-clause-same g c trusted = inside_same _ _ _ _ _ office_plain.0 c.requires.inside _ (asked g c) trusted
+
+pub returns-clause-rows : goal.returns-clause-rows
+returns-clause-rows g c trusted =
+    let old = state g.S.Store c.args.tx.now.conn.now in
+    let new = state g.S.Store c.query_all.new.self.conn.now in
+    inside_rows (λ r. r.items) office_text ([]) old new office_plain.0 c.requires.inside (λ (rows : List Row). IsPermutation (map office_columns (old.now.trees 0)) rows) c.query_all.result (asked g c) trusted
+    (λ rows has h. shows_office old new rows has h)

@@ -11,7 +11,7 @@ use Rattle.office_store.proofs.opening.go_on.Goals as goal
 said : (g : _) (c : goal.After-drop-rows g) → IsTrusted (state g.S.Store c.office_rows.new.conn) → lists_by (text_of_one 2 shown_office c.as_slice.result.now) ≡ lists_by (kept_text ((state g.S.Store c.office_rows.new.conn).now.trees 0))
 said g c trusted =
     ap (λ rows. lists_by (text_of_one 2 shown_office rows)) c.as_slice.ensures.value
-    ∙ ap lists_by (shown_text 2 ((state g.S.Store c.office_rows.new.conn).now.trees 0) c.in_ok-rows.rows.items (c.in_ok-rows.ensures.finds trusted))
+    ∙ ap lists_by (shown_text 2 ((state g.S.Store c.office_rows.new.conn).now.trees 0) c.in_ok-rows.rows.items (c.in_ok-rows.ensures.rows trusted))
 
 pub returns-clause-kept : goal.returns-clause-kept
 returns-clause-kept g c trusted =
