@@ -2,8 +2,8 @@
 #![tactic(auto)]
 
 mod pages;
-mod running;
+mod programs;
 mod words;
 
 pub use pages::Program;
-pub use running::run_program;
+pub use programs::run_program;

@@ -2,12 +2,12 @@
 
 ghost use Rattle.std.specs.Prelude.{◌≡◌};
 
+use crate::failed_reads::judge_replay as judge_read;
+use crate::failed_writes::{Kind, judge_replay as judge_written};
 use crate::faults::Met;
 use crate::given::Letter;
 use crate::memory::try_replay;
 use crate::offices::{new_office, opened, setup_of};
-use crate::reading::judge_replay as judge_read;
-use crate::writing::{Kind, judge_replay as judge_written};
 use office_http::Office;
 use office_mail::Setup;
 use office_store::Keeper;

@@ -4,24 +4,24 @@
 #![tactic(auto)]
 
 mod deeds;
-mod failing;
+mod failed_reads;
+mod failed_writes;
+mod failures;
 mod faults;
 mod given;
-mod judging;
 mod memory;
 mod offices;
-mod reading;
-mod stopping;
+mod reopened;
 mod stops;
-mod writing;
+mod verdicts;
 
 use deeds::{Deed, Over, try_deed};
 pub use faults::{Met, due};
 use given::{CONTINUE, EXPECT};
 pub use given::{GROUP_TESTING, GROUP_UPDATE, Letter, TESTING, letters_of};
 pub use offices::{close, new_office, setup_of};
+use reopened::Way;
 use std::alloc::Global;
-use stopping::Way;
 
 /// A part, by what fails in it.
 #[derive(Clone, Copy)]
@@ -97,11 +97,11 @@ pub fn parts() -> &'static [(&'static str, Part)] {
 /// Tries a part whose failures are this crate's own.
 fn try_failures(alloc: Global, part: Part) -> Result<(), Met> {
     match part {
-        Part::ReplayReads(over) => reading::try_replay_reads(alloc, over),
-        Part::PostReads(more, front) => reading::try_post_reads(alloc, more, front),
-        Part::Endless => reading::try_endless(alloc),
-        Part::ReplayWrites(over) => writing::try_replay_writes(alloc, over),
-        Part::PostWrites(more, front) => writing::try_post_writes(alloc, more, front),
+        Part::ReplayReads(over) => failed_reads::try_replay_reads(alloc, over),
+        Part::PostReads(more, front) => failed_reads::try_post_reads(alloc, more, front),
+        Part::Endless => failed_reads::try_endless(alloc),
+        Part::ReplayWrites(over) => failed_writes::try_replay_writes(alloc, over),
+        Part::PostWrites(more, front) => failed_writes::try_post_writes(alloc, more, front),
         Part::Log(way) => stops::try_file(alloc, way, true),
         Part::Database(way) => stops::try_file(alloc, way, false),
         _ => Err(Met::Wrong("nothing is tried")),

@@ -1,10 +1,10 @@
 //! Calls that may be refused memory: a refusal shows where it is due, and the same call with memory gives what is due.
 
-use crate::failing::{Writer, reader_of, whole_writer};
+use crate::failures::{Writer, reader_of, whole_writer};
 use crate::faults::{Met, due};
 use crate::given::{EXCUSES, GROUP_TESTING, GROUP_UPDATE, Letter, TESTING, UPDATES};
-use crate::judging::is_right;
 use crate::offices::{bag_of, longest_post, new_office, replayed, serve_by, setup_of};
+use crate::verdicts::is_right;
 use deb_control::{Binary, BinaryFault, Paragraph, ParagraphFault, Paragraphs};
 use office_http::{Office, Served};
 use office_store::Keeper;

@@ -2,7 +2,7 @@
 
 ghost use Rattle.std.specs.Prelude.{◌≡◌, IfOk};
 
-use crate::failing::{Reader, Writer, reader_of, whole_writer};
+use crate::failures::{Reader, Writer, reader_of, whole_writer};
 use crate::faults::Met;
 use crate::given::{Letter, SETUP};
 use deb_version::NoMemory;

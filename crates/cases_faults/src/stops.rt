@@ -1,7 +1,7 @@
 //! Each of a store's two files stops after each of its calls.
 
 use crate::faults::{Met, due};
-use crate::stopping::{Left, Start, Stop, Way, start_of, stops};
+use crate::reopened::{Left, Start, Stop, Way, start_of, stops};
 use std::alloc::Global;
 
 /// More calls than a run makes of a file.

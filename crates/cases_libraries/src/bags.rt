@@ -1,6 +1,6 @@
 //! Bags over a reader that gives a few bytes a call, and may fail at one of the calls.
 
-use crate::halting::Halting;
+use crate::failing_pipe::Halting;
 use office_mail::{Bag, Feed, FromRead, Sink, ToWrite};
 use std::alloc::{AllocError, Global};
 use std::str;

@@ -6,7 +6,7 @@
 
 mod bags;
 mod controls;
-mod halting;
+mod failing_pipe;
 mod installs;
 mod lines;
 mod messages;

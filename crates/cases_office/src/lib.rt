@@ -2,20 +2,20 @@
 //! more over tables of sqlite; both must print the same.
 #![tactic(auto)]
 
-mod asking;
 mod bytes;
 mod chains;
-mod checking;
-mod failing;
-mod noting;
+mod checks;
+mod failures;
+mod noted_mail;
 mod office_over;
-mod replaying;
-mod sitting;
+mod questions;
+mod replays;
+mod sessions;
 mod steps;
 
-use noting::{put_noted_in_memory, put_noted_in_tables};
+use noted_mail::{put_noted_in_memory, put_noted_in_tables};
 use office_over::{put_in_memory, put_in_tables};
-use sitting::tells_asked;
+use sessions::tells_asked;
 use std::alloc::{AllocError, Global};
 
 /// Adds what a row prints to an empty text: its result in memory, and its result over tables, if that differs. A row may

@@ -1,8 +1,8 @@
 //! Offices for rows, over each store.
 ghost use Rattle.std.specs.Prelude.{◌≡◌};
 
-use crate::checking::check_in;
-use crate::sitting::{setup_in, sit, tells_check, tells_facts};
+use crate::checks::check_in;
+use crate::sessions::{setup_in, sit, tells_check, tells_facts};
 use crate::steps::facts_in;
 use office_http::Office;
 use office_mail::{Setup, SetupFault};

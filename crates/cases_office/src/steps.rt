@@ -1,7 +1,7 @@
 //! Steps other than replays: a request, and the calls of an office one by one.
 
 use crate::bytes::{put_visible, text_in};
-use crate::failing::{Broken, Halting, whole_reader, whole_writer};
+use crate::failures::{Broken, Halting, whole_reader, whole_writer};
 use office_http::{Office, Progress, StoreFault, serve_one};
 use office_mail::{FromRead, ToWrite};
 use office_store::Keeper;

@@ -7,7 +7,7 @@
 #![tactic(auto)]
 
 mod client;
-mod moving;
+mod group_moves;
 mod rows;
 mod sentences;
 mod words;
@@ -37,7 +37,7 @@ static CALLS: [(&str, Call); 4] = [
 /// Tries a part of the program's own calls.
 fn try_call(rt: &HostRuntime, call: Call) -> Result<(), Met> {
     match call {
-        Call::Moves => moving::try_moves(rt.alloc()),
+        Call::Moves => group_moves::try_moves(rt.alloc()),
         Call::StoreFaults => sentences::try_store_faults(rt.alloc()),
         Call::MissingSetup => sentences::try_missing_setup(rt),
         Call::Client => client::try_client(rt),

@@ -105,7 +105,7 @@ fn all_have(fields: &[Field], paragraphs: &[Paragraph<'_>]) -> Result<bool, Mail
     Ok(true)
 }
 
-/// What the first paragraph of a message states: its sender, its number, and its kind if that is known.
+/// What the first paragraph of a message states: its sender, its number, and its kind, if it names one.
 #[derive(Clone, Copy)]
 struct Head<'a> {
     from: &'a str,

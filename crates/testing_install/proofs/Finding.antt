@@ -10,7 +10,7 @@ use Rattle.deb_control.specs.declared.relation.Alternative.{Alternative}
 use Rattle.deb_control.specs.declared.relation.Clause.{Clause}
 use Rattle.testing_install.specs.Satisfies.{fits, is_itself, is_provided, gives, satisfies}
 use Rattle.testing_install.specs.Closed.{IsMet}
-use Rattle.testing_install.specs.Index.{bears, PlacesByName, places_at}
+use Rattle.testing_install.specs.Index.{provides_name, PlacesByName, places_at}
 use Rattle.testing_install.specs.steps.Index.{IsIndex}
 use Rattle.testing_install.specs.steps.Claims.{tagged, claims_from}
 use Rattle.testing_install.specs.steps.Ground.{Misses}
@@ -33,14 +33,14 @@ any_at p (x ∷ xs) e = elim (or_cases (p x) (list_any p xs) e) [
 ]
 
 -- some provision with the name
-provided_bears : (ps : List Provision) (a : Alternative) → list_any (λ p. gives p a) ps ≡ true → list_any (λ p. bytes_eq p.name a.name) ps ≡ true
-provided_bears ps a e = let f = any_at (λ p. gives p a) ps e in let d : Provision = record { name = []; version = None } in any_true (λ p. bytes_eq p.name a.name) ps f.0 d f.1 (and_parts _ _ (f.2 d)).0
+provided_provides : (ps : List Provision) (a : Alternative) → list_any (λ p. gives p a) ps ≡ true → list_any (λ p. bytes_eq p.name a.name) ps ≡ true
+provided_provides ps a e = let f = any_at (λ p. gives p a) ps e in let d : Provision = record { name = []; version = None } in any_true (λ p. bytes_eq p.name a.name) ps f.0 d f.1 (and_parts _ _ (f.2 d)).0
 
--- what satisfies an alternative bears its name
-pub satisfies_bears : (row : Binary) (a : Alternative) → satisfies row a ≡ true → bears row a.name ≡ true
-satisfies_bears row a e = elim (or_cases (is_itself row a) (is_provided row a) e) [
+-- what satisfies an alternative provides its name
+pub satisfies_provides : (row : Binary) (a : Alternative) → satisfies row a ≡ true → provides_name row a.name ≡ true
+satisfies_provides row a e = elim (or_cases (is_itself row a) (is_provided row a) e) [
   | inl itself ↦ ap (λ b. b || list_any (λ p. bytes_eq p.name a.name) row.provides) (and_parts (bytes_eq row.name a.name) (fits a.relation (Some row.version)) itself).0
-  | inr given ↦ or_right (bytes_eq row.name a.name) (list_any (λ p. bytes_eq p.name a.name) row.provides) (provided_bears row.provides a given)
+  | inr given ↦ or_right (bytes_eq row.name a.name) (list_any (λ p. bytes_eq p.name a.name) row.provides) (provided_provides row.provides a given)
 ]
 
 -- the row at the place doesn't satisfy the alternative, or isn't in the set
@@ -57,7 +57,7 @@ pub record IsUnsatisfied (rows : List Binary) (set : ℕ → Bool) (a : Alternat
 pub unsatisfied : (rows : List Binary) (map : PlacesByName) (set : ℕ → Bool) (a : Alternative) (places : List ℕ) (name : List ℕ) → IsIndex rows map → places ≡ places_at map name → name ≡ a.name → Misses rows set a places → IsUnsatisfied rows set a
 unsatisfied rows map set a places name index e named misses = record {
   each = λ k row at on does.
-      let there = index.complete a.name k row at (satisfies_bears row a does) in
+      let there = index.complete a.name k row at (satisfies_provides row a does) in
       let same : places_at map a.name ≡ places = ap (places_at map) (sym named) ∙ sym e in
       misses.each k row (subst (λ xs. Contains xs k) same there) at on does;
 }

@@ -15,12 +15,12 @@ use Rattle.deb_control.specs.declared.relation.Provision.{Provision}
 use Rattle.deb_control.specs.declared.relation.Alternative.{Alternative}
 use Rattle.deb_control.specs.declared.relation.Clause.{Clause}
 use Rattle.testing_install.specs.Satisfies.{satisfies, meets}
-use Rattle.testing_install.specs.Index.{bears, PlacesByName, places_at}
+use Rattle.testing_install.specs.Index.{provides_name, PlacesByName, places_at}
 use Rattle.testing_install.specs.steps.Among.{may_need}
-use Rattle.testing_install.specs.Needers.{names, needs_name, IsNotedAt}
-use Rattle.testing_install.specs.steps.Needers.{IsNeeders, places_for}
+use Rattle.testing_install.specs.Dependents.{names, needs_name, IsNotedAt}
+use Rattle.testing_install.specs.steps.Dependents.{IsDependents, places_for}
 use Rattle.testing_install.proofs.Indexing.{IsAdded, added_stays, added_here, added_within}
-use Rattle.testing_install.proofs.Finding.{any_true, any_at, satisfies_bears}
+use Rattle.testing_install.proofs.Finding.{any_true, any_at, satisfies_provides}
 use Rattle.testing_install.proofs.Members.{members_from_all, contains_part, part_contains}
 
 -- places at names that pass
@@ -74,18 +74,18 @@ pub noted_clauses : (row : Binary) (old new : PlacesByName) (place n : ℕ) → 
 noted_clauses row old new place n h noted = subst (λ cs. IsNotedAt (λ q. list_any (λ clause. names clause q) cs) old new place) (take_all n row.clauses h) noted
 
 -- after the first n rows
-pub record IsNeedersTo (rows : List Binary) (map : PlacesByName) (n : ℕ) : Type 0 where
+pub record IsDependentsTo (rows : List Binary) (map : PlacesByName) (n : ℕ) : Type 0 where
   pub within : (q : List ℕ) → All (λ k. k < length rows) (places_at map q)
   pub complete : (q : List ℕ) (k : ℕ) (row : Binary) → k < n → slice_get rows k ≡ Some row → needs_name row q ≡ true → Contains (places_at map q) k
 
-pub needers_none : (rows : List Binary) (map : PlacesByName) → ((q : List ℕ) → places_at map q ≡ []) → IsNeedersTo rows map 0
-needers_none rows map e = record {
+pub dependents_none : (rows : List Binary) (map : PlacesByName) → ((q : List ℕ) → places_at map q ≡ []) → IsDependentsTo rows map 0
+dependents_none rows map e = record {
   within = λ q k d h. absurd (omega (arith, h, ap length (e q)));
   complete = λ q k row h. absurd (omega arith);
 }
 
-pub needers_more : (rows : List Binary) (old new : PlacesByName) (n : ℕ) (row : Binary) → slice_get rows n ≡ Some row → IsNeedersTo rows old n → IsNotedAt (needs_name row) old new n → IsNeedersTo rows new (n + 1)
-needers_more rows old new n row at to noted = record {
+pub dependents_more : (rows : List Binary) (old new : PlacesByName) (n : ℕ) (row : Binary) → slice_get rows n ≡ Some row → IsDependentsTo rows old n → IsNotedAt (needs_name row) old new n → IsDependentsTo rows new (n + 1)
+dependents_more rows old new n row at to noted = record {
   within = λ q. noted.within q (length rows) (slice_get_within rows n row at) (to.within q);
   complete = λ q k other h stands e. elim (cases_lt k n) [
     | inl l ↦ noted.stays q k (to.complete q k other l stands e)
@@ -96,8 +96,8 @@ needers_more rows old new n row at to noted = record {
   ];
 }
 
-pub needers_all : (rows : List Binary) (map : PlacesByName) (n : ℕ) → IsNeedersTo rows map n → length rows ≤ n → IsNeeders rows map
-needers_all rows map n to h = record { within = to.within; complete = λ q k row at e. to.complete q k row (omega (arith, slice_get_within rows k row at)) at e }
+pub dependents_all : (rows : List Binary) (map : PlacesByName) (n : ℕ) → IsDependentsTo rows map n → length rows ≤ n → IsDependents rows map
+dependents_all rows map n to h = record { within = to.within; complete = λ q k row at e. to.complete q k row (omega (arith, slice_get_within rows k row at)) at e }
 
 -- a row that may need another is among the places of the other's names
 
@@ -106,7 +106,7 @@ needs_alternative row j i a h l e =
     let same : bytes_eq (get_or (get_or row.clauses j []) i a).name a.name ≡ true = (bytes_eq-Decides (get_or (get_or row.clauses j []) i a).name a.name).1 (ap (λ b. b.name) e) in
     any_true (λ clause. names clause a.name) row.clauses j [] h (any_true (λ b. bytes_eq b.name a.name) (get_or row.clauses j []) i a l same)
 
-in_places : (map : PlacesByName) (row : Binary) (name : List ℕ) (k : ℕ) → bears row name ≡ true → Contains (places_at map name) k → Contains (places_for map row) k
+in_places : (map : PlacesByName) (row : Binary) (name : List ℕ) (k : ℕ) → provides_name row name ≡ true → Contains (places_at map name) k → Contains (places_for map row) k
 in_places map row name k e c = elim (or_cases (bytes_eq row.name name) (list_any (λ p. bytes_eq p.name name) row.provides) e) [
   | inl own ↦ (
       let same : row.name ≡ name = (bytes_eq-Decides row.name name).0 own in
@@ -118,7 +118,7 @@ in_places map row name k e c = elim (or_cases (bytes_eq row.name name) (list_any
       Contains-append_right (places_at map row.name) (flat_map (λ p. places_at map p.name) row.provides) k (contains_part (λ p. places_at map p.name) row.provides f.0 d k f.1 (subst (λ q. Contains (places_at map q) k) (sym same) c)))
 ]
 
-pub needer_found : (rows : List Binary) (map : PlacesByName) (row : Binary) → IsNeeders rows map → (k : ℕ) (needer : Binary) → slice_get rows k ≡ Some needer → may_need needer row ≡ true → Contains (places_for map row) k
+pub needer_found : (rows : List Binary) (map : PlacesByName) (row : Binary) → IsDependents rows map → (k : ℕ) (needer : Binary) → slice_get rows k ≡ Some needer → may_need needer row ≡ true → Contains (places_for map row) k
 needer_found rows map row index k needer at need =
     let c = any_at (λ clause. meets row clause) needer.clauses need in
     let clause : Clause = get_or needer.clauses c.0 [] in
@@ -127,18 +127,18 @@ needer_found rows map row index k needer at need =
     let a : Alternative = get_or clause f.0 d in
     let within : f.0 < length clause = f.1 in
     let e : get_or clause f.0 a ≡ a = get_or_default clause f.0 a d within in
-    in_places map row a.name k (satisfies_bears row a (f.2 d)) (index.complete a.name k needer at (needs_alternative needer c.0 f.0 a c.1 within e))
+    in_places map row a.name k (satisfies_provides row a (f.2 d)) (index.complete a.name k needer at (needs_alternative needer c.0 f.0 a c.1 within e))
 
 -- and those places are places of rows
-places_for_within : (rows : List Binary) (map : PlacesByName) (row : Binary) → IsNeeders rows map → (k : ℕ) → Contains (places_for map row) k → k < length rows
+places_for_within : (rows : List Binary) (map : PlacesByName) (row : Binary) → IsDependents rows map → (k : ℕ) → Contains (places_for map row) k → k < length rows
 places_for_within rows map row index k c = elim (Contains-append_cases (places_at map row.name) (flat_map (λ p. places_at map p.name) row.provides) k c) [
   | inl own ↦ members_from_all (length rows) (places_at map row.name) (index.within row.name) k own
   | inr given ↦ part_contains (λ n. n < length rows) (λ p. places_at map p.name) row.provides (λ p n at. members_from_all (length rows) (places_at map p.name) (index.within p.name) n at) k given
 ]
 
 -- as many rows as there are
-pub needers_within : (rows : List Binary) (map : PlacesByName) (row : Binary) (n : ℕ) → IsNeeders rows map → length rows ≡ n → (k : ℕ) → Contains (places_for map row) k → k < n
-needers_within rows map row n index e k c = omega (arith, places_for_within rows map row index k c, e)
+pub dependents_within : (rows : List Binary) (map : PlacesByName) (row : Binary) (n : ℕ) → IsDependents rows map → length rows ≡ n → (k : ℕ) → Contains (places_for map row) k → k < n
+dependents_within rows map row n index e k c = omega (arith, places_for_within rows map row index k c, e)
 
 -- the places at the row's name, and at the names of its first n provisions
 abbrev pub places_to : PlacesByName → Binary → ℕ → List ℕ

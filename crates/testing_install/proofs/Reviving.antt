@@ -138,7 +138,7 @@ revived_both there first mid last first_fresh mid_fresh last_fresh places others
   ];
 }
 
--- going over the needers of the next fresh row
+-- going over the dependents of the next fresh row
 pub reviving_more : (rows : List Binary) (there old : ℕ → Bool) (start marks new : List Bool) (fresh new_fresh places : List ℕ) (next : ℕ) (row : Binary) (n : ℕ) → IsReviving rows there old start marks fresh next → IsRevived there marks new fresh new_fresh places n → length places ≤ n → next < length fresh → ((d : ℕ) → slice_get rows (get_or fresh next d) ≡ Some row) → ((o : ℕ) (needer : Binary) → slice_get rows o ≡ Some needer → may_need needer row ≡ true → Contains places o) → IsReviving rows there old start new new_fresh (next + 1)
 reviving_more rows there old start marks new fresh new_fresh places next row n s r long h at complete = record {
   inside = λ k on. elim (r.inside k on) [ inl before ↦ s.inside k before | inr here ↦ here ];
@@ -218,7 +218,7 @@ module _ (rows : List Binary) (t m : List Bool) (leaving coming : List ℕ) (rig
     | inr comes ↦ with_here true coming t_left k (omega (arith, coming_in k comes, there_long_left)) comes
   ]
 
-  -- those that came are marked, and their needers are still to be gone over
+  -- those that came are marked, and their dependents are still to be gone over
   pub reviving_none : IsReviving rows (marked t_come) (marked m) m_come m_come coming 0
   reviving_none = record {
     inside = come_inside;

@@ -6,12 +6,12 @@ use Rattle.std.specs.declared.rc.Rc.{Rc}
 use Rattle.std.proofs.lemmas.Option.{slice_get-map, slice_get_read}
 use Rattle.std.proofs.lemmas.List.{length-map, length-append}
 use Rattle.deb_control.specs.declared.binary.Binary.{Binary}
-use Rattle.testing_install.specs.Index.{PlacesByName, bears, places_at}
-use Rattle.testing_install.specs.Needers.{needs_name, IsNotedAt}
-use Rattle.testing_install.specs.steps.Needers.{IsGraph}
+use Rattle.testing_install.specs.Index.{PlacesByName, provides_name, places_at}
+use Rattle.testing_install.specs.Dependents.{needs_name, IsNotedAt}
+use Rattle.testing_install.specs.steps.Dependents.{IsGraph}
 use Rattle.testing_install.specs.Rows.{shared}
 use Rattle.testing_install.proofs.Indexing.{IsIndexTo, index_none, index_more, index_all}
-use Rattle.testing_install.proofs.Needing.{IsNeedersTo, needers_none, needers_more, needers_all}
+use Rattle.testing_install.proofs.Needing.{IsDependentsTo, dependents_none, dependents_more, dependents_all}
 
 -- what reading a row gives
 pub shared_at : (rows : List (Rc Binary Global)) (k : ℕ) (row : Rc Binary Global) (binary : Binary) → k < length rows → row ≡ get_or rows k row → binary ≡ row.value → slice_get (shared rows) k ≡ Some binary
@@ -29,13 +29,13 @@ slice_get_before (x ∷ xs) ys zero h = refl
 slice_get_before (x ∷ xs) ys (suc k) h = slice_get_before xs ys k (omega (arith, h))
 
 -- after the first n rows
-pub record IsGraphTo (rows : List Binary) (bearers needers : PlacesByName) (n : ℕ) : Type 0 where
-  pub borne : IsIndexTo rows bearers n
-  pub needed : IsNeedersTo rows needers n
+pub record IsGraphTo (rows : List Binary) (providers dependents : PlacesByName) (n : ℕ) : Type 0 where
+  pub borne : IsIndexTo rows providers n
+  pub needed : IsDependentsTo rows dependents n
 
 -- with more rows behind, none of which is noted
-pub graph_begun : (rows old more : List Binary) (bearers needers : PlacesByName) (first : ℕ) → rows ≡ old ++ more → length old ≡ first → IsGraph old bearers needers → IsGraphTo rows bearers needers first
-graph_begun rows old more bearers needers first are long g =
+pub graph_begun : (rows old more : List Binary) (providers dependents : PlacesByName) (first : ℕ) → rows ≡ old ++ more → length old ≡ first → IsGraph old providers dependents → IsGraphTo rows providers dependents first
+graph_begun rows old more providers dependents first are long g =
     let size : length rows ≡ length old + length more = ap length are ∙ length-append old more in
     record {
       borne = record {
@@ -48,22 +48,22 @@ graph_begun rows old more bearers needers first are long g =
       };
     }
 
-pub graph_more : (rows : List Binary) (b0 n0 b1 n1 : PlacesByName) (n : ℕ) (row : Binary) → slice_get rows n ≡ Some row → IsGraphTo rows b0 n0 n → IsNotedAt (bears row) b0 b1 n → IsNotedAt (needs_name row) n0 n1 n → IsGraphTo rows b1 n1 (n + 1)
+pub graph_more : (rows : List Binary) (b0 n0 b1 n1 : PlacesByName) (n : ℕ) (row : Binary) → slice_get rows n ≡ Some row → IsGraphTo rows b0 n0 n → IsNotedAt (provides_name row) b0 b1 n → IsNotedAt (needs_name row) n0 n1 n → IsGraphTo rows b1 n1 (n + 1)
 graph_more rows b0 n0 b1 n1 n row at to noted needs = record {
   borne = index_more rows b0 b1 n row at to.borne noted;
-  needed = needers_more rows n0 n1 n row at to.needed needs;
+  needed = dependents_more rows n0 n1 n row at to.needed needs;
 }
 
-pub graph_all : (rows : List Binary) (bearers needers : PlacesByName) (n : ℕ) → IsGraphTo rows bearers needers n → length rows ≤ n → IsGraph rows bearers needers
-graph_all rows bearers needers n to h = record { borne = index_all rows bearers n to.borne h; needed = needers_all rows needers n to.needed h }
+pub graph_all : (rows : List Binary) (providers dependents : PlacesByName) (n : ℕ) → IsGraphTo rows providers dependents n → length rows ≤ n → IsGraph rows providers dependents
+graph_all rows providers dependents n to h = record { borne = index_all rows providers n to.borne h; needed = dependents_all rows dependents n to.needed h }
 
 -- a graph of no rows
-pub graph_none : (bearers needers : PlacesByName) → ((q : List ℕ) → places_at bearers q ≡ []) → ((q : List ℕ) → places_at needers q ≡ []) → IsGraph [] bearers needers
-graph_none bearers needers b n = graph_all [] bearers needers 0 (record { borne = index_none [] bearers b; needed = needers_none [] needers n }) (omega arith)
+pub graph_none : (providers dependents : PlacesByName) → ((q : List ℕ) → places_at providers q ≡ []) → ((q : List ℕ) → places_at dependents q ≡ []) → IsGraph [] providers dependents
+graph_none providers dependents b n = graph_all [] providers dependents 0 (record { borne = index_none [] providers b; needed = dependents_none [] dependents n }) (omega arith)
 
--- a graph whose rows are borne at the same places
-pub graph_same : (rows : List Binary) (old new needers : PlacesByName) → ((q : List ℕ) → places_at new q ≡ places_at old q) → IsGraph rows old needers → IsGraph rows new needers
-graph_same rows old new needers same g = record {
+-- a graph whose rows are provided at the same places
+pub graph_same : (rows : List Binary) (old new dependents : PlacesByName) → ((q : List ℕ) → places_at new q ≡ places_at old q) → IsGraph rows old dependents → IsGraph rows new dependents
+graph_same rows old new dependents same g = record {
   borne = record {
     within = λ q. subst (All (λ k. k < length rows)) (sym (same q)) (g.borne.within q);
     complete = λ q k row at e. subst (λ ks. Contains ks k) (sym (same q)) (g.borne.complete q k row at e);

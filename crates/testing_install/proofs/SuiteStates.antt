@@ -9,7 +9,7 @@ use Rattle.testing_install.specs.Closed.{IsClosed, IsInside, IsInstallable, mark
 use Rattle.testing_install.specs.Among.{IsLost, IsInstallableAmong, IsListOf}
 use Rattle.testing_install.specs.steps.Among.{IsGreatestAmong}
 use Rattle.testing_install.specs.Index.{PlacesByName}
-use Rattle.testing_install.specs.steps.Needers.{IsGraph}
+use Rattle.testing_install.specs.steps.Dependents.{IsGraph}
 use Rattle.testing_install.specs.steps.Suite.{IsRight, IsChanged, IsSuite}
 use Rattle.testing_install.specs.Tracked.{Tracked}
 use Rattle.testing_install.specs.steps.Tracked.{longer}
@@ -20,10 +20,10 @@ use Rattle.testing_install.proofs.Sharing.{slice_get_before}
 use Rattle.testing_install.proofs.Counting.{slice_get_some}
 
 -- a suite of no rows
-pub suite_empty : (rows : List Binary) (bearers needers : PlacesByName) (there installable : Tracked) → rows ≡ [] → there ≡ record { current = []; kept = [] } → installable ≡ record { current = []; kept = [] } → IsGraph [] bearers needers → IsSuite rows bearers needers there installable
-suite_empty rows bearers needers there installable er et ei graph =
+pub suite_empty : (rows : List Binary) (providers dependents : PlacesByName) (there installable : Tracked) → rows ≡ [] → there ≡ record { current = []; kept = [] } → installable ≡ record { current = []; kept = [] } → IsGraph [] providers dependents → IsSuite rows providers dependents there installable
+suite_empty rows providers dependents there installable er et ei graph =
     let none : Tracked = record { current = []; kept = [] } in
-    let begun : IsSuite [] bearers needers none none = record {
+    let begun : IsSuite [] providers dependents none none = record {
       graph = graph;
       right = record {
         there_len = refl;
@@ -37,7 +37,7 @@ suite_empty rows bearers needers there installable er et ei graph =
       there_kept = refl;
       installable_kept = refl;
     } in
-    subst (λ rs. IsSuite rs bearers needers there installable) (sym er) (subst (λ t. IsSuite [] bearers needers t installable) (sym et) (subst (λ t. IsSuite [] bearers needers none t) (sym ei) begun))
+    subst (λ rs. IsSuite rs providers dependents there installable) (sym er) (subst (λ t. IsSuite [] providers dependents t installable) (sym et) (subst (λ t. IsSuite [] providers dependents none t) (sym ei) begun))
 
 -- more rows behind, none of which is there
 module _ (rows more : List Binary) (there installable : List Bool) (n : ℕ) (right : IsRight rows there installable) where

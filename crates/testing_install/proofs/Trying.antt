@@ -105,5 +105,5 @@ tried_after rows there m kept current leaving coming old new e right after was s
     subst (λ xs. IsTried rows there xs new) e (step rows there (ap length e ∙ right.installable_len) after (subst (λ xs. IsTried rows there xs old) (sym e) was))
 
 -- a suite is ready where nothing is remembered
-pub ready_begun : (rows : List Binary) (bearers needers : PlacesByName) (there installable : Tracked) (t : LastTrial) → IsSuite rows bearers needers there installable → t.leaving.items ≡ [] → t.coming.items ≡ [] → t.falling.items ≡ [] → t.rising.items ≡ [] → IsReady rows bearers needers there installable t
-ready_begun rows bearers needers there installable t s el ec ef er = record { suite = s; remembered = nothing_is_tried rows there.current installable.current t el ec ef er s.right }
+pub ready_begun : (rows : List Binary) (providers dependents : PlacesByName) (there installable : Tracked) (t : LastTrial) → IsSuite rows providers dependents there installable → t.leaving.items ≡ [] → t.coming.items ≡ [] → t.falling.items ≡ [] → t.rising.items ≡ [] → IsReady rows providers dependents there installable t
+ready_begun rows providers dependents there installable t s el ec ef er = record { suite = s; remembered = nothing_is_tried rows there.current installable.current t el ec ef er s.right }

@@ -6,6 +6,6 @@ pub mod Claims
 pub mod Index
 pub mod Among
 pub mod Tracked
-pub mod Needers
+pub mod Dependents
 pub mod Suite
 pub mod steps

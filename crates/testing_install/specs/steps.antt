@@ -7,7 +7,7 @@ pub mod Ground
 pub mod Progress
 pub mod Among
 pub mod Tracked
-pub mod Needers
+pub mod Dependents
 pub mod Settling
 pub mod Suite
 pub mod Trials

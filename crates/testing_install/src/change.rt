@@ -6,7 +6,7 @@ ghost use Rattle.testing_install.specs.Among.{IsLost, after_change};
 ghost use Rattle.testing_install.specs.steps.Among.{IsGreatestAmong};
 ghost use Rattle.testing_install.specs.Closed.{marked};
 ghost use Rattle.testing_install.specs.Index.{places_at};
-ghost use Rattle.testing_install.specs.steps.Needers.{IsGraph, places_for};
+ghost use Rattle.testing_install.specs.steps.Dependents.{IsGraph, places_for};
 ghost use Rattle.testing_install.specs.Rows.{shared};
 ghost use Rattle.testing_install.specs.steps.Settling.{IsReviving, IsRevived};
 ghost use Rattle.testing_install.specs.steps.Suite.{IsRight, IsChanged};
@@ -79,26 +79,26 @@ fn revive_among(
 }
 
 // Marks the present, unmarked rows with a clause that has a name of this row's.
-fn revive_needers(
-    needers: &NameIndex,
+fn revive_dependents(
+    dependents: &NameIndex,
     there: &[bool],
     marks: &mut Marks,
     fresh: &mut SmallVec<usize, 4>,
     row: &Binary,
 ) -> Result<(), NoMemory>
     requires there { length there.now ≡ length marks.old.current }
-    requires needers { (name : List ℕ) → All (λ k. k < length there.now) (places_at needers.now name) }
+    requires dependents { (name : List ℕ) → All (λ k. k < length there.now) (places_at dependents.now name) }
     ensures kept { marks.new.kept ≡ marks.old.kept }
     ensures long { OnOk result (length marks.new.current ≡ length there.now) }
     ensures measure { OnOk result (length fresh.new.items + count_by (λ b. b) marks.old.current
         ≡ length fresh.old.items + count_by (λ b. b) marks.new.current) }
     ensures revived { OnOk result (IsRevived (marked there.now) marks.old.current marks.new.current fresh.old.items fresh.new.items
-        (places_for needers.now row.now) (length (places_for needers.now row.now))) }
+        (places_for dependents.now row.now) (length (places_for dependents.now row.now))) }
 {
-    let named = needers.places(row.name.as_str());
+    let named = dependents.places(row.name.as_str());
     revive_among(there, marks, fresh, named)?;
     for provision in row.provides.as_slice() {
-        let given = needers.places(provision.name.as_str());
+        let given = dependents.places(provision.name.as_str());
         revive_among(there, marks, fresh, given)?;
     }
     Ok(())
@@ -111,7 +111,7 @@ fn revive(
     marks: &mut Marks,
     fresh: &mut SmallVec<usize, 4>,
 ) -> Result<(), NoMemory>
-    requires graph { IsGraph (shared graph.now.rows.items) graph.now.bearers graph.now.needers }
+    requires graph { IsGraph (shared graph.now.rows.items) graph.now.providers graph.now.dependents }
     requires there { length there.now ≡ length graph.now.rows.items }
     requires marks { length marks.old.current ≡ length graph.now.rows.items }
     requires fresh { All (λ k. k < length graph.now.rows.items) fresh.old.items }
@@ -124,7 +124,7 @@ fn revive(
     let mut next = 0;
     'revivals: while next < fresh.len() {
         let row = graph.rows[fresh[next]].as_ref();
-        revive_needers(&graph.needers, there, marks, fresh, row)?;
+        revive_dependents(&graph.dependents, there, marks, fresh, row)?;
         next += 1;
     }
     Ok(())
@@ -139,7 +139,7 @@ pub fn change(
     leaving: &[usize],
     coming: &[usize],
 ) -> Result<SmallVec<usize, 4>, NoMemory>
-    requires graph { IsGraph (shared graph.now.rows.items) graph.now.bearers graph.now.needers }
+    requires graph { IsGraph (shared graph.now.rows.items) graph.now.providers graph.now.dependents }
     requires right { IsRight (shared graph.now.rows.items) there.old.current marks.old.current }
     requires leaving { All (λ k. k < length graph.now.rows.items) leaving.now }
     requires coming { All (λ k. k < length graph.now.rows.items) coming.now }
@@ -197,7 +197,7 @@ pub fn lost_by(
     leaving: &[usize],
     coming: &[usize],
 ) -> Result<Vec<usize>, NoMemory>
-    requires graph { IsGraph (shared graph.now.rows.items) graph.now.bearers graph.now.needers }
+    requires graph { IsGraph (shared graph.now.rows.items) graph.now.providers graph.now.dependents }
     requires right { IsRight (shared graph.now.rows.items) there.old.current marks.old.current }
     requires there { there.old.kept ≡ there.old.current }
     requires marks { marks.old.kept ≡ marks.old.current }

@@ -47,7 +47,7 @@ pub fn installable_counted(alloc: Global, rows: &[Row<'_>]) -> Result<Counted, N
     let ground = Ground {
         rows,
         claims: claims_of(alloc, rows)?,
-        bearers: index_of(alloc, rows)?,
+        providers: index_of(alloc, rows)?,
     };
     let (answers, turns, looks) = worked(alloc, &ground)?.into_parts();
     Ok(Counted {

@@ -61,12 +61,12 @@ fn next_start(
 fn find_behind(
     rows: &[Row],
     marks: &[bool],
-    bearers: &NameIndex,
+    providers: &NameIndex,
     clause: &Clause,
     lost: Option<usize>,
 ) -> Option<usize>
     requires marks { length marks.now ≡ length rows.now }
-    requires index { IsIndex (binaries rows.now) bearers.now }
+    requires index { IsIndex (binaries rows.now) providers.now }
     ensures { IfSome result (λ k. MeetsAt (binaries rows.now) (marked marks.now) clause.now k) }
 {
     let lost = lost?;
@@ -75,7 +75,7 @@ fn find_behind(
     for alternative in clause.as_slice() {
         start = next_start(start, lost, row.binary, alternative);
         if let Some(start) = start {
-            let left = places_from(bearers.places(alternative.name.as_str()), start);
+            let left = places_from(providers.places(alternative.name.as_str()), start);
             if let Some(place) = find_among(rows, marks, left, alternative) {
                 return Some(place);
             }
@@ -85,14 +85,14 @@ fn find_behind(
 }
 
 // The first marked row that meets the clause, in the order of its alternatives.
-fn find_first(rows: &[Row], marks: &[bool], bearers: &NameIndex, clause: &Clause) -> Option<usize>
+fn find_first(rows: &[Row], marks: &[bool], providers: &NameIndex, clause: &Clause) -> Option<usize>
     requires marks { length marks.now ≡ length rows.now }
-    requires index { IsIndex (binaries rows.now) bearers.now }
+    requires index { IsIndex (binaries rows.now) providers.now }
     ensures some { IfSome result (λ k. MeetsAt (binaries rows.now) (marked marks.now) clause.now k) }
     ensures none { IfNone result (IsMet (binaries rows.now) (marked marks.now) clause.now → ⊥) }
 {
     for alternative in clause.as_slice() {
-        let named = bearers.places(alternative.name.as_str());
+        let named = providers.places(alternative.name.as_str());
         if let Some(place) = find_among(rows, marks, named, alternative) {
             return Some(place);
         }
@@ -105,17 +105,17 @@ fn find_first(rows: &[Row], marks: &[bool], bearers: &NameIndex, clause: &Clause
 pub fn find(
     rows: &[Row],
     marks: &[bool],
-    bearers: &NameIndex,
+    providers: &NameIndex,
     clause: &Clause,
     lost: Option<usize>,
 ) -> Option<usize>
     requires marks { length marks.now ≡ length rows.now }
-    requires index { IsIndex (binaries rows.now) bearers.now }
+    requires index { IsIndex (binaries rows.now) providers.now }
     ensures some { IfSome result (λ k. MeetsAt (binaries rows.now) (marked marks.now) clause.now k) }
     ensures none { IfNone result (IsMet (binaries rows.now) (marked marks.now) clause.now → ⊥) }
 {
-    if let Some(place) = find_behind(rows, marks, bearers, clause, lost) {
+    if let Some(place) = find_behind(rows, marks, providers, clause, lost) {
         return Some(place);
     }
-    find_first(rows, marks, bearers, clause)
+    find_first(rows, marks, providers, clause)
 }

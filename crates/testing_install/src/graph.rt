@@ -1,56 +1,56 @@
-//! Shared rows, by what they bear and by what they need.
+//! Shared rows, by what they provide and by what they need.
 
 ghost use Rattle.std.specs.Prelude.{◌≡◌, ℕ, ◌≤◌, ◌<◌, true, false, List, [], ◌++◌, length, OnOk, IfOk};
 ghost use Rattle.std.specs.List.{All};
 ghost use Rattle.deb_control.specs.declared.binary.Binary.{Binary};
 ghost use Rattle.testing_install.specs.Closed.{IsMet, marked};
 ghost use Rattle.testing_install.specs.steps.Ground.{Misses, IsHit};
-ghost use Rattle.testing_install.specs.steps.Needers.{IsGraph};
+ghost use Rattle.testing_install.specs.steps.Dependents.{IsGraph};
 ghost use Rattle.testing_install.specs.Rows.{shared};
 
+use crate::dependents::note_needs;
 use crate::index::{NameIndex, note_row};
-use crate::needers::note_needs;
 use crate::satisfies::satisfies;
 use deb_control::{Alternative, Binary, Clause};
 use deb_version::NoMemory;
 use std::alloc::Global;
 use std::rc::Rc;
 
-/// Rows, and the bearers and needers of each name.
+/// Rows, and the providers and dependents of each name.
 #[derive(Drop)]
 pub struct Graph {
     pub rows: Vec<Rc<Binary>>,
-    pub bearers: NameIndex,
-    pub needers: NameIndex,
+    pub providers: NameIndex,
+    pub dependents: NameIndex,
 }
 
 /// A graph of no rows.
 pub fn empty_graph(alloc: Global) -> Graph
     ensures rows { result.rows.items ≡ [] }
-    ensures graph { IsGraph [] result.bearers result.needers }
+    ensures graph { IsGraph [] result.providers result.dependents }
 {
     Graph {
         rows: Vec::new(alloc),
-        bearers: NameIndex::new(alloc),
-        needers: NameIndex::new(alloc),
+        providers: NameIndex::new(alloc),
+        dependents: NameIndex::new(alloc),
     }
 }
 
-// Notes what the rows from a place on bear and need; those before it are already noted.
+// Notes what the rows from a place on provide and need; those before it are already noted.
 fn note_rows(
     alloc: Global,
     rows: &[Rc<Binary>],
     first: usize,
-    bearers: &mut NameIndex,
-    needers: &mut NameIndex,
+    providers: &mut NameIndex,
+    dependents: &mut NameIndex,
 ) -> Result<(), NoMemory>
     ensures { OnOk result ((old more : List Binary) → shared rows.now ≡ old ++ more → length old ≡ first
-        → IsGraph old bearers.old needers.old → IsGraph (shared rows.now) bearers.new needers.new) }
+        → IsGraph old providers.old dependents.old → IsGraph (shared rows.now) providers.new dependents.new) }
 {
     for place in first..rows.len() {
         let row = rows[place].as_ref();
-        note_row(alloc, bearers, row, place)?;
-        note_needs(alloc, needers, row, place)?;
+        note_row(alloc, providers, row, place)?;
+        note_needs(alloc, dependents, row, place)?;
     }
     Ok(())
 }
@@ -58,22 +58,22 @@ fn note_rows(
 /// The graph with more rows after its own.
 pub fn with_rows(alloc: Global, graph: Graph, rows: Vec<Rc<Binary>>) -> Result<Graph, NoMemory>
     ensures rows { IfOk result (λ g. shared g.rows.items ≡ shared graph.rows.items ++ shared rows.items) }
-    ensures graph { IfOk result (λ g. IsGraph (shared graph.rows.items) graph.bearers graph.needers → IsGraph (shared g.rows.items) g.bearers g.needers) }
+    ensures graph { IfOk result (λ g. IsGraph (shared graph.rows.items) graph.providers graph.dependents → IsGraph (shared g.rows.items) g.providers g.dependents) }
 {
     let Graph {
         rows: mut all,
-        mut bearers,
-        mut needers,
+        mut providers,
+        mut dependents,
     } = graph;
     let mut more = rows;
     let first = all.len();
-    bearers.reserve(more.len())?;
+    providers.reserve(more.len())?;
     all.append(&mut more)?;
-    note_rows(alloc, &all, first, &mut bearers, &mut needers)?;
+    note_rows(alloc, &all, first, &mut providers, &mut dependents)?;
     Ok(Graph {
         rows: all,
-        bearers,
-        needers,
+        providers,
+        dependents,
     })
 }
 
@@ -94,13 +94,13 @@ fn is_satisfied(graph: &Graph, marks: &[bool], places: &[usize], alternative: &A
 
 /// Some marked row meets the clause.
 pub fn is_met(graph: &Graph, marks: &[bool], clause: &Clause) -> bool
-    requires graph { IsGraph (shared graph.now.rows.items) graph.now.bearers graph.now.needers }
+    requires graph { IsGraph (shared graph.now.rows.items) graph.now.providers graph.now.dependents }
     requires marks { length marks.now ≡ length graph.now.rows.items }
     ensures yes { result ≡ true → IsMet (shared graph.now.rows.items) (marked marks.now) clause.now }
     ensures no { result ≡ false → IsMet (shared graph.now.rows.items) (marked marks.now) clause.now → ⊥ }
 {
     for alternative in clause.as_slice() {
-        let named = graph.bearers.places(alternative.name.as_str());
+        let named = graph.providers.places(alternative.name.as_str());
         if is_satisfied(graph, marks, named, alternative) {
             return true;
         }

@@ -10,12 +10,12 @@
 mod change;
 mod claims;
 mod counted;
+mod dependents;
 mod find;
 mod graph;
 mod index;
 pub mod laws;
 mod marks;
-mod needers;
 mod satisfies;
 mod settle;
 mod state;
@@ -25,8 +25,8 @@ mod work;
 
 pub use counted::{Counted, installable, installable_counted};
 use deb_control::Binary;
+pub use dependents::note_clause;
 pub use index::{NameIndex, hash_of, note_row};
-pub use needers::note_clause;
 pub use satisfies::meets;
 pub use suite::Suite;
 

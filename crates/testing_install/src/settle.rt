@@ -4,7 +4,7 @@ ghost use Rattle.std.specs.Prelude.{◌≡◌, ℕ, ◌+◌, ◌<◌, Bool, true
 ghost use Rattle.std.specs.List.{All, count_by};
 ghost use Rattle.std.specs.Option.{option_copied};
 ghost use Rattle.testing_install.specs.Closed.{IsMet, marked};
-ghost use Rattle.testing_install.specs.steps.Needers.{IsGraph, places_for};
+ghost use Rattle.testing_install.specs.steps.Dependents.{IsGraph, places_for};
 ghost use Rattle.testing_install.specs.Rows.{shared};
 ghost use Rattle.testing_install.specs.steps.Settling.{suspects, IsSized, IsSettling};
 
@@ -36,7 +36,7 @@ fn is_suspect(lost: Option<&Binary>, clause: &Clause) -> bool
 
 // The clause isn't suspect, or is met.
 fn is_sure(graph: &Graph, marks: &[bool], clause: &Clause, lost: Option<&Binary>) -> bool
-    requires graph { IsGraph (shared graph.now.rows.items) graph.now.bearers graph.now.needers }
+    requires graph { IsGraph (shared graph.now.rows.items) graph.now.providers graph.now.dependents }
     requires marks { length marks.now ≡ length graph.now.rows.items }
     ensures yes { result ≡ true → suspects (option_copied lost.entry) clause.now ≡ true → IsMet (shared graph.now.rows.items) (marked marks.now) clause.now }
     ensures no { result ≡ false → IsMet (shared graph.now.rows.items) (marked marks.now) clause.now → ⊥ }
@@ -49,7 +49,7 @@ fn is_sure(graph: &Graph, marks: &[bool], clause: &Clause, lost: Option<&Binary>
 
 // Each suspect clause of the package is met.
 fn is_upheld(graph: &Graph, marks: &[bool], binary: &Binary, lost: Option<&Binary>) -> bool
-    requires graph { IsGraph (shared graph.now.rows.items) graph.now.bearers graph.now.needers }
+    requires graph { IsGraph (shared graph.now.rows.items) graph.now.providers graph.now.dependents }
     requires marks { length marks.now ≡ length graph.now.rows.items }
     ensures yes { result ≡ true → All (λ clause. suspects (option_copied lost.entry) clause ≡ true → IsMet (shared graph.now.rows.items) (marked marks.now) clause) binary.now.clauses }
     ensures no { result ≡ false → All (IsMet (shared graph.now.rows.items) (marked marks.now)) binary.now.clauses → ⊥ }
@@ -84,7 +84,7 @@ fn look(
     place: usize,
     lost: Option<&Binary>,
 ) -> Result<(), NoMemory>
-    requires graph { IsGraph (shared graph.now.rows.items) graph.now.bearers graph.now.needers }
+    requires graph { IsGraph (shared graph.now.rows.items) graph.now.providers graph.now.dependents }
     requires place { place < length graph.now.rows.items }
     requires sized { IsSized (shared graph.now.rows.items) marks.old.current falls.old.waiting.items }
     ensures kept { marks.new.kept ≡ marks.old.kept }
@@ -113,7 +113,7 @@ pub fn check_clauses(
     places: &[usize],
     lost: Option<&Binary>,
 ) -> Result<(), NoMemory>
-    requires graph { IsGraph (shared graph.now.rows.items) graph.now.bearers graph.now.needers }
+    requires graph { IsGraph (shared graph.now.rows.items) graph.now.providers graph.now.dependents }
     requires places { All (λ k. k < length graph.now.rows.items) places.now }
     requires sized { IsSized (shared graph.now.rows.items) marks.old.current falls.old.waiting.items }
     ensures kept { marks.new.kept ≡ marks.old.kept }
@@ -131,26 +131,26 @@ pub fn check_clauses(
 }
 
 // Looks at the suspect clauses of the rows with a clause that has a name of the lost row's.
-fn look_at_needers(
+fn look_at_dependents(
     graph: &Graph,
     marks: &mut Marks,
     falls: &mut Falls,
     lost: &Binary,
 ) -> Result<(), NoMemory>
-    requires graph { IsGraph (shared graph.now.rows.items) graph.now.bearers graph.now.needers }
+    requires graph { IsGraph (shared graph.now.rows.items) graph.now.providers graph.now.dependents }
     requires sized { IsSized (shared graph.now.rows.items) marks.old.current falls.old.waiting.items }
     ensures kept { marks.new.kept ≡ marks.old.kept }
     ensures sized { OnOk result (IsSized (shared graph.now.rows.items) marks.new.current falls.new.waiting.items) }
     ensures measure { OnOk result (length falls.new.waiting.items + count_by (λ b. b) marks.new.current
         ≡ length falls.old.waiting.items + count_by (λ b. b) marks.old.current) }
     ensures step { OnOk result ((there : ℕ → Bool) (first : List Bool)
-        → IsSettling (shared graph.now.rows.items) there first marks.old.current falls.old.waiting.items falls.old.fallen.items (places_for graph.now.needers lost.now) (Some lost.now)
+        → IsSettling (shared graph.now.rows.items) there first marks.old.current falls.old.waiting.items falls.old.fallen.items (places_for graph.now.dependents lost.now) (Some lost.now)
         → IsSettling (shared graph.now.rows.items) there first marks.new.current falls.new.waiting.items falls.new.fallen.items [] (Some lost.now)) }
 {
-    let named = graph.needers.places(lost.name.as_str());
+    let named = graph.dependents.places(lost.name.as_str());
     check_clauses(graph, marks, falls, named, Some(lost))?;
     for provision in lost.provides.as_slice() {
-        let given = graph.needers.places(provision.name.as_str());
+        let given = graph.dependents.places(provision.name.as_str());
         check_clauses(graph, marks, falls, given, Some(lost))?;
     }
     Ok(())
@@ -158,7 +158,7 @@ fn look_at_needers(
 
 /// Gives each waiting row its turn, until none waits, and looks at the rows that may have needed it.
 pub fn propagate(graph: &Graph, marks: &mut Marks, falls: &mut Falls) -> Result<(), NoMemory>
-    requires graph { IsGraph (shared graph.now.rows.items) graph.now.bearers graph.now.needers }
+    requires graph { IsGraph (shared graph.now.rows.items) graph.now.providers graph.now.dependents }
     requires sized { IsSized (shared graph.now.rows.items) marks.old.current falls.old.waiting.items }
     ensures kept { marks.new.kept ≡ marks.old.kept }
     ensures empty { OnOk result (falls.new.waiting.items ≡ []) }
@@ -169,7 +169,7 @@ pub fn propagate(graph: &Graph, marks: &mut Marks, falls: &mut Falls) -> Result<
 {
     while let Some(place) = falls.waiting.pop() {
         let row = graph.rows[place].as_ref();
-        look_at_needers(graph, marks, falls, row)?;
+        look_at_dependents(graph, marks, falls, row)?;
     }
     Ok(())
 }

@@ -3,8 +3,8 @@ ghost use Rattle.std.specs.List.{All, slice_get};
 ghost use Rattle.deb_control.specs.declared.binary.Binary.{Binary as TheBinary};
 ghost use Rattle.testing_install.specs.Among.{IsInstallableAmong, IsLost, after_change};
 ghost use Rattle.testing_install.specs.Closed.{marked};
-ghost use Rattle.testing_install.specs.Index.{bears};
-ghost use Rattle.testing_install.specs.Needers.{needs_name};
+ghost use Rattle.testing_install.specs.Index.{provides_name};
+ghost use Rattle.testing_install.specs.Dependents.{needs_name};
 ghost use Rattle.testing_install.specs.Rows.{shared};
 
 use crate::graph::{Graph, empty_graph, with_rows};
@@ -49,7 +49,7 @@ impl Model for Suite {
 
     ghost view = { λ s. record { rows = shared s.graph.rows.items; there = s.there.current } };
 
-    ghost invariant = { λ s. IsReady (shared s.graph.rows.items) s.graph.bearers s.graph.needers s.there s.installable s.tried };
+    ghost invariant = { λ s. IsReady (shared s.graph.rows.items) s.graph.providers s.graph.dependents s.there s.installable s.tried };
 }
 
 impl Suite {
@@ -104,21 +104,21 @@ impl Suite {
         self.graph.rows[place].as_ref()
     }
 
-    /// The places of the rows that bear the name, present or absent. They may include places of other rows.
-    pub fn bearers(&self, name: &str) -> &[usize]
+    /// The places of the rows that provide the name, present or absent. They may include places of other rows.
+    pub fn providers(&self, name: &str) -> &[usize]
         ensures within { All (λ k. k < length self.now.rows) result.now }
-        ensures complete { (k : ℕ) (row : TheBinary) → slice_get self.now.rows k ≡ Some row → bears row name.now ≡ true → Contains result.now k }
+        ensures complete { (k : ℕ) (row : TheBinary) → slice_get self.now.rows k ≡ Some row → provides_name row name.now ≡ true → Contains result.now k }
     {
-        self.graph.bearers.places(name)
+        self.graph.providers.places(name)
     }
 
     /// The places of the rows with a clause that has the name, present or absent. They may include places of other
     /// rows.
-    pub fn needers(&self, name: &str) -> &[usize]
+    pub fn dependents(&self, name: &str) -> &[usize]
         ensures within { All (λ k. k < length self.now.rows) result.now }
         ensures complete { (k : ℕ) (row : TheBinary) → slice_get self.now.rows k ≡ Some row → needs_name row name.now ≡ true → Contains result.now k }
     {
-        self.graph.needers.places(name)
+        self.graph.dependents.places(name)
     }
 
     /// Which rows are present, by their places.

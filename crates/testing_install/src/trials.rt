@@ -5,7 +5,7 @@ ghost use Rattle.std.specs.List.{All};
 ghost use Rattle.deb_control.specs.declared.binary.Binary.{Binary as TheBinary};
 ghost use Rattle.testing_install.specs.Among.{IsLost, after_change};
 ghost use Rattle.testing_install.specs.Closed.{marked};
-ghost use Rattle.testing_install.specs.steps.Needers.{IsGraph};
+ghost use Rattle.testing_install.specs.steps.Dependents.{IsGraph};
 ghost use Rattle.testing_install.specs.Rows.{shared};
 ghost use Rattle.testing_install.specs.steps.Suite.{IsRight};
 ghost use Rattle.testing_install.specs.steps.Trials.{IsDifference, IsTried};
@@ -108,7 +108,7 @@ pub fn try_change(
     tried: &mut LastTrial,
     exchange: Exchange<'_>,
 ) -> Result<Vec<usize>, NoMemory>
-    requires graph { IsGraph (shared graph.now.rows.items) graph.now.bearers graph.now.needers }
+    requires graph { IsGraph (shared graph.now.rows.items) graph.now.providers graph.now.dependents }
     requires right { IsRight (shared graph.now.rows.items) there.old.current marks.old.current }
     requires there { there.old.kept ≡ there.old.current }
     requires marks { marks.old.kept ≡ marks.old.current }
@@ -162,7 +162,7 @@ pub fn make_change(
     tried: &LastTrial,
     exchange: Exchange<'_>,
 ) -> Result<(), NoMemory>
-    requires graph { IsGraph (shared graph.now.rows.items) graph.now.bearers graph.now.needers }
+    requires graph { IsGraph (shared graph.now.rows.items) graph.now.providers graph.now.dependents }
     requires right { IsRight (shared graph.now.rows.items) there.old.current marks.old.current }
     requires tried { IsTried (shared graph.now.rows.items) there.old.current marks.old.current tried.now }
     requires leaving { All (λ k. k < length graph.now.rows.items) exchange.leaving.now }

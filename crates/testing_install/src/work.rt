@@ -17,7 +17,7 @@ use std::alloc::Global;
 pub struct Ground<'a, 'r> {
     pub rows: &'r [Row<'a>],
     pub claims: Vec<Claim<'a>>,
-    pub bearers: NameIndex,
+    pub providers: NameIndex,
 }
 
 // Looks at a claim that may have rested on a lost row: it now rests on a marked row, or its row loses its mark.
@@ -27,7 +27,7 @@ fn look(
     claim: usize,
     lost: Option<usize>,
 ) -> Result<(), NoMemory>
-    requires ground { IsGround (binaries ground.now.rows.now) ground.now.claims.items ground.now.bearers }
+    requires ground { IsGround (binaries ground.now.rows.now) ground.now.claims.items ground.now.providers }
     requires claim { claim < length ground.now.claims.items }
     requires marks { length state.old.marks ≡ length ground.now.rows.now }
     requires resting { length state.old.resting ≡ length ground.now.rows.now }
@@ -38,7 +38,7 @@ fn look(
 {
     state.count_look();
     let Claim { owner, clause } = ground.claims[claim];
-    match find(ground.rows, state.marks(), &ground.bearers, clause, lost) {
+    match find(ground.rows, state.marks(), &ground.providers, clause, lost) {
         Some(place) => state.rest(claim, place),
         None => {
             if state.marks()[owner] {
@@ -56,7 +56,7 @@ fn check_clauses(
     claims: &[usize],
     lost: Option<usize>,
 ) -> Result<(), NoMemory>
-    requires ground { IsGround (binaries ground.now.rows.now) ground.now.claims.items ground.now.bearers }
+    requires ground { IsGround (binaries ground.now.rows.now) ground.now.claims.items ground.now.providers }
     requires work { IsWork (binaries ground.now.rows.now) state.old claims.now }
     ensures done { OnOk result (IsWork (binaries ground.now.rows.now) state.new []) }
     ensures counted { OnOk result (min (state.old.looks + length claims.now) (2 ^ 64 - 1) ≤ state.new.looks) }
@@ -70,7 +70,7 @@ fn check_clauses(
 
 // Gives each waiting row its turn, until none waits.
 fn propagate(alloc: Global, ground: &Ground<'_, '_>, state: &mut State) -> Result<(), NoMemory>
-    requires ground { IsGround (binaries ground.now.rows.now) ground.now.claims.items ground.now.bearers }
+    requires ground { IsGround (binaries ground.now.rows.now) ground.now.claims.items ground.now.providers }
     requires work { IsWork (binaries ground.now.rows.now) state.old [] }
     requires small { length ground.now.rows.now < 2 ^ 64 }
     ensures done { OnOk result (IsWork (binaries ground.now.rows.now) state.new []) }
@@ -96,7 +96,7 @@ fn all_claims(alloc: Global, count: usize) -> Result<Vec<usize>, NoMemory>
 
 /// The state after all turns.
 pub fn worked(alloc: Global, ground: &Ground<'_, '_>) -> Result<State, NoMemory>
-    requires { IsGround (binaries ground.now.rows.now) ground.now.claims.items ground.now.bearers }
+    requires { IsGround (binaries ground.now.rows.now) ground.now.claims.items ground.now.providers }
     ensures done { IfOk result (λ s. IsWork (binaries ground.now.rows.now) s []) }
     ensures empty { IfOk result (λ s. s.waiting ≡ []) }
     ensures counted { IfOk result (λ s. min (length ground.now.claims.items) (2 ^ 64 - 1) ≤ s.looks) }

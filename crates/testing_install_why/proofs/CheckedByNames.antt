@@ -1,4 +1,4 @@
--- A clause that a row meets has a name which the row bears, so the steps at those names are all that the row is held against.
+-- A clause that a row meets has a name which the row provides, so the steps at those names are all that the row is held against.
 use Rattle.std.proofs.Common.{◌≡◌, ℕ, ◌+◌, ◌<◌, ◌≤◌, true, List, [], length, get_or, Some, None, sym, refl, ap, ◌∙◌, subst, inl, inr, arith}
 use Rattle.std.specs.Prelude.{Contains}
 use Rattle.std.specs.List.{All, list_any, slice_get}
@@ -12,9 +12,9 @@ use Rattle.deb_control.specs.declared.relation.Alternative.{Alternative}
 use Rattle.deb_control.specs.declared.relation.Clause.{Clause}
 use Rattle.deb_control.specs.declared.relation.Provision.{Provision}
 use Rattle.testing_install.specs.Index.{PlacesByName, places_at}
-use Rattle.testing_install.specs.Needers.{IsNotedAt, names}
+use Rattle.testing_install.specs.Dependents.{IsNotedAt, names}
 use Rattle.testing_install.specs.Satisfies.{satisfies}
-use Rattle.testing_install.proofs.Finding.{any_at, any_true, satisfies_bears}
+use Rattle.testing_install.proofs.Finding.{any_at, any_true, satisfies_provides}
 use Rattle.testing_install_why.specs.declared.Step.{Step}
 use Rattle.testing_install_why.specs.steps.Checking.{ArePast, IsClauseIndex, IsPast}
 use Rattle.testing_install_why.specs.steps.Steps.{IsClauseOf}
@@ -44,7 +44,7 @@ noted_all rows steps noted n to h = record {
   complete = λ name m step clause at. to.complete name m step clause (omega (arith, h, slice_get_within steps m step at)) at;
 }
 
--- so it is with each step, where it is so with those at the names that the row bears
+-- so it is with each step, where it is so with those at the names that the row provides
 pub past_by_names : (rows : List Binary) (steps : List Step) (noted : PlacesByName) (row : Binary) (place : ℕ) → IsClauseIndex rows steps noted
     → All (IsPast rows steps row place) (places_at noted row.name) → All (λ (p : Provision). All (IsPast rows steps row place) (places_at noted p.name)) row.provides
     → ArePast rows steps row place (length steps)
@@ -56,7 +56,7 @@ past_by_names rows steps noted row place index own provided = record {
         let a : Alternative = get_or clause f.0 d in
         let named : names clause a.name ≡ true = any_true (λ (b : Alternative). bytes_eq b.name a.name) clause f.0 d f.1 ((bytes_eq-Decides a.name a.name).1 refl) in
         let has : Contains (places_at noted a.name) m = index.complete a.name m step clause at of named in
-        let past : IsPast rows steps row place m = elim (or_cases (bytes_eq row.name a.name) (list_any (λ (p : Provision). bytes_eq p.name a.name) row.provides) (satisfies_bears row a (f.2 d))) [
+        let past : IsPast rows steps row place m = elim (or_cases (bytes_eq row.name a.name) (list_any (λ (p : Provision). bytes_eq p.name a.name) row.provides) (satisfies_provides row a (f.2 d))) [
           | inl itself ↦ All-contains (IsPast rows steps row place) (places_at noted row.name) m own
               (subst (λ name. Contains (places_at noted name) m) (sym ((bytes_eq-Decides row.name a.name).0 itself)) has)
           | inr given ↦ (

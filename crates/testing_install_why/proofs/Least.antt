@@ -10,14 +10,14 @@ use Rattle.deb_control.specs.declared.relation.Alternative.{Alternative}
 use Rattle.deb_control.specs.declared.relation.Clause.{Clause}
 use Rattle.testing_install.specs.Index.{PlacesByName, places_at}
 use Rattle.testing_install_why.specs.declared.Step.{Step}
-use Rattle.testing_install_why.specs.steps.Bearers.{IsBearer, IsLast, IsLeast, IsNext}
+use Rattle.testing_install_why.specs.steps.Providers.{IsProvider, IsLast, IsLeast, IsNext}
 use Rattle.testing_install_why.specs.steps.Needed.{IsStepIndex}
 use Rattle.testing_install_why.specs.steps.Steps.{IsClauseOf}
-use Rattle.testing_install_why.proofs.MarkedSteps.{IsAmongFirst, IsNamedTo, bearer_is_named}
+use Rattle.testing_install_why.proofs.MarkedSteps.{IsAmongFirst, IsNamedTo, provider_is_named}
 
 -- a step below one number stands below another, if its own is less than that
-pub bearer_below : (rows : List Binary) (order : List Step) (m n : ℕ) (clause : Clause) (k : ℕ) → k < n → IsBearer rows order m clause k → IsBearer rows order n clause k
-bearer_below rows order m n clause k h b = record { step = b.step; row = b.row; earlier = h; is = b.is; stands = b.stands; does = b.does }
+pub provider_below : (rows : List Binary) (order : List Step) (m n : ℕ) (clause : Clause) (k : ℕ) → k < n → IsProvider rows order m clause k → IsProvider rows order n clause k
+provider_below rows order m n clause k h b = record { step = b.step; row = b.row; earlier = h; is = b.is; stands = b.stands; does = b.does }
 
 -- the first n of some numbers
 
@@ -38,24 +38,24 @@ first_or_last numbers n number m h at first = elim (cases_lt first.index n) [
 ]
 
 pub least_less : (rows : List Binary) (order : List Step) (end : ℕ) (clause : Clause) (numbers : List ℕ) (least n number : ℕ) → IsLeast rows order end clause least (IsAmongFirst numbers n) → n < length numbers → number ≡ get_or numbers n number
-    → IsBearer rows order least clause number → IsLeast rows order end clause number (IsAmongFirst numbers (n + 1))
+    → IsProvider rows order least clause number → IsLeast rows order end clause number (IsAmongFirst numbers (n + 1))
 least_less rows order end clause numbers least n number l h at b = record {
   most = omega (arith, l.most, b.earlier);
-  found = λ less. bearer_below rows order least end clause number less b;
+  found = λ less. provider_below rows order least end clause number less b;
   below = λ m first other. elim (first_or_last numbers n number m h at first) [
-    | inl before ↦ l.below m before (bearer_below rows order number least clause m (omega (arith, other.earlier, b.earlier)) other)
+    | inl before ↦ l.below m before (provider_below rows order number least clause m (omega (arith, other.earlier, b.earlier)) other)
     | inr same ↦ absurd (omega (arith, same, other.earlier))
   ];
 }
 
 pub least_stays : (rows : List Binary) (order : List Step) (end : ℕ) (clause : Clause) (numbers : List ℕ) (least n number : ℕ) → IsLeast rows order end clause least (IsAmongFirst numbers n) → n < length numbers → number ≡ get_or numbers n number
-    → (IsBearer rows order least clause number → ⊥) → IsLeast rows order end clause least (IsAmongFirst numbers (n + 1))
+    → (IsProvider rows order least clause number → ⊥) → IsLeast rows order end clause least (IsAmongFirst numbers (n + 1))
 least_stays rows order end clause numbers least n number l h at misses = record {
   most = l.most;
   found = l.found;
   below = λ m first other. elim (first_or_last numbers n number m h at first) [
     | inl before ↦ l.below m before other
-    | inr same ↦ misses (subst (IsBearer rows order least clause) same other)
+    | inr same ↦ misses (subst (IsProvider rows order least clause) same other)
   ];
 }
 
@@ -80,11 +80,11 @@ pub names_more : (rows : List Binary) (order : List Step) (noted : PlacesByName)
 names_more rows order noted end clause items least next n a name numbers l read h is named are new = record {
   most = omega (arith, l.most, new.most);
   found = λ low. elim (cases_lt next least) [
-    | inl less ↦ bearer_below rows order least end clause next low (new.found less)
-    | inr not ↦ (let same : least ≡ next = omega (arith, not, new.most) in subst (IsBearer rows order end clause) same (l.found (omega (arith, low, same))))
+    | inl less ↦ provider_below rows order least end clause next low (new.found less)
+    | inr not ↦ (let same : least ≡ next = omega (arith, not, new.most) in subst (IsProvider rows order end clause) same (l.found (omega (arith, low, same))))
   ];
   below = λ m has_name other. elim (cases_lt has_name.index n) [
-    | inl less ↦ l.below m (record { index = has_name.index; alternative = has_name.alternative; below = less; is = has_name.is; has = has_name.has }) (bearer_below rows order next least clause m (omega (arith, other.earlier, new.most)) other)
+    | inl less ↦ l.below m (record { index = has_name.index; alternative = has_name.alternative; below = less; is = has_name.is; has = has_name.has }) (provider_below rows order next least clause m (omega (arith, other.earlier, new.most)) other)
     | inr not ↦ (
         let at : slice_get clause n ≡ Some a = subst (λ xs. slice_get xs n ≡ Some a) read (slice_get_read items (length items) n a refl h is) in
         let same : has_name.index ≡ n = omega (arith, has_name.below, not) in
@@ -94,24 +94,24 @@ names_more rows order noted end clause items least next n a name numbers l read 
 }
 
 pub names_all : (rows : List Binary) (order : List Step) (noted : PlacesByName) (end : ℕ) (clause : Clause) (least n : ℕ) → IsStepIndex rows order noted → IsLeast rows order end clause least (IsNamedTo noted clause n) → length clause ≤ n
-    → IsLeast rows order end clause least (λ m. IsBearer rows order end clause m)
+    → IsLeast rows order end clause least (λ m. IsProvider rows order end clause m)
 names_all rows order noted end clause least n index l h = record {
   most = l.most;
   found = l.found;
-  below = λ m bearer. l.below m (bearer_is_named rows order noted end clause n m index h bearer);
+  below = λ m provider. l.below m (provider_is_named rows order noted end clause n m index h provider);
 }
 
 -- the step before which none stands whose row meets its clause
-pub last_by : (rows : List Binary) (order : List Step) (last : ℕ) (step : Step) (clause : Clause) (least : ℕ) → slice_get order last ≡ Some step → IsClauseOf rows step clause → IsLeast rows order last clause least (λ m. IsBearer rows order last clause m) → last ≤ least
+pub last_by : (rows : List Binary) (order : List Step) (last : ℕ) (step : Step) (clause : Clause) (least : ℕ) → slice_get order last ≡ Some step → IsClauseOf rows step clause → IsLeast rows order last clause least (λ m. IsProvider rows order last clause m) → last ≤ least
     → IsLast rows order last
 last_by rows order last step clause least at of l h = record {
   step = step;
   clause = clause;
   is = at;
   of = of;
-  none = λ m b. l.below m b (bearer_below rows order last least clause m (omega (arith, b.earlier, h)) b);
+  none = λ m b. l.below m b (provider_below rows order last least clause m (omega (arith, b.earlier, h)) b);
 }
 
-pub next_by : (rows : List Binary) (order : List Step) (last : ℕ) (step : Step) (clause : Clause) (least : ℕ) → slice_get order last ≡ Some step → IsClauseOf rows step clause → IsLeast rows order last clause least (λ m. IsBearer rows order last clause m) → least < last
+pub next_by : (rows : List Binary) (order : List Step) (last : ℕ) (step : Step) (clause : Clause) (least : ℕ) → slice_get order last ≡ Some step → IsClauseOf rows step clause → IsLeast rows order last clause least (λ m. IsProvider rows order last clause m) → least < last
     → IsNext rows order last least
-next_by rows order last step clause least at of l h = record { step = step; clause = clause; is = at; of = of; bearer = l.found h }
+next_by rows order last step clause least at of l h = record { step = step; clause = clause; is = at; of = of; provider = l.found h }

@@ -1,4 +1,4 @@
--- The places of the rows that bear a name of a clause.
+-- The places of the rows that provide a name of a clause.
 use Rattle.std.proofs.Common.{◌≡◌, ℕ, ◌+◌, ◌<◌, ◌≤◌, Bool, true, false, List, [], ◌++◌, length, get_or, Some, None, sym, ap, ◌∙◌, subst, arith}
 use Rattle.std.specs.List.{slice_get, All, AllWithin, Contains}
 use Rattle.std.proofs.lemmas.Bool.{false≢true}
@@ -8,9 +8,9 @@ use Rattle.deb_control.specs.declared.binary.Binary.{Binary}
 use Rattle.deb_control.specs.declared.relation.Alternative.{Alternative}
 use Rattle.deb_control.specs.declared.relation.Clause.{Clause}
 use Rattle.testing_install.specs.Closed.{marked}
-use Rattle.testing_install.specs.Index.{bears}
+use Rattle.testing_install.specs.Index.{provides_name}
 use Rattle.testing_install.specs.Satisfies.{satisfies, meets}
-use Rattle.testing_install.proofs.Finding.{any_at, satisfies_bears}
+use Rattle.testing_install.proofs.Finding.{any_at, satisfies_provides}
 use Rattle.testing_install.proofs.Places.{read_more}
 
 -- each row that satisfies the alternative stands at one of the places
@@ -28,12 +28,12 @@ named_none rows places clause e = record {
   among = λ i d low high. absurd (omega (arith, high));
 }
 
-pub named_next : (rows : List Binary) (old new more : List ℕ) (clause items : Clause) (name : List ℕ) (n : ℕ) (alternative : Alternative) → IsNamedTo rows old clause n → items ≡ clause → n < length items → alternative ≡ get_or items n alternative → name ≡ alternative.name → All (λ k. k < length rows) more → ((k : ℕ) (row : Binary) → slice_get rows k ≡ Some row → bears row name ≡ true → Contains more k) → new ≡ old ++ more → IsNamedTo rows new clause (n + 1)
+pub named_next : (rows : List Binary) (old new more : List ℕ) (clause items : Clause) (name : List ℕ) (n : ℕ) (alternative : Alternative) → IsNamedTo rows old clause n → items ≡ clause → n < length items → alternative ≡ get_or items n alternative → name ≡ alternative.name → All (λ k. k < length rows) more → ((k : ℕ) (row : Binary) → slice_get rows k ≡ Some row → provides_name row name ≡ true → Contains more k) → new ≡ old ++ more → IsNamedTo rows new clause (n + 1)
 named_next rows old new more clause items name n alternative s are h at named within complete e = record {
   within = subst (All (λ k. k < length rows)) (sym e) (All-append (λ k. k < length rows) old more s.within within);
   among = read_more (IsAmong rows new) clause items n alternative are h at
       (λ i d low high. record { each = λ k row stands does. subst (λ xs. Contains xs k) (sym e) (Contains-append_left old more k ((s.among i d low high).each k row stands does)) })
-      (record { each = λ k row stands does. subst (λ xs. Contains xs k) (sym e) (Contains-append_right old more k (complete k row stands (ap (bears row) named ∙ satisfies_bears row alternative does))) });
+      (record { each = λ k row stands does. subst (λ xs. Contains xs k) (sym e) (Contains-append_right old more k (complete k row stands (ap (provides_name row) named ∙ satisfies_provides row alternative does))) });
 }
 
 pub named_all : (rows : List Binary) (places : List ℕ) (clause : Clause) (n : ℕ) → IsNamedTo rows places clause n → length clause ≤ n → (k : ℕ) (row : Binary) → slice_get rows k ≡ Some row → meets row clause ≡ true → Contains places k
@@ -43,14 +43,14 @@ named_all rows places clause n s h k row at does =
     (s.among f.0 d (omega arith) (omega (arith, f.1, h))).each k row at (f.2 d)
 
 -- the row at the place isn't left, or doesn't meet the clause
-pub record IsNoBearer (rows : List Binary) (left : List Bool) (clause : Clause) (place : ℕ) : Type 0 where
+pub record IsNoProvider (rows : List Binary) (left : List Bool) (clause : Clause) (place : ℕ) : Type 0 where
   pub each : (row : Binary) → slice_get rows place ≡ Some row → marked left place ≡ true → meets row clause ≡ true → ⊥
 
-pub no_bearer_out : (rows : List Binary) (left : List Bool) (clause : Clause) (place : ℕ) → marked left place ≡ false → IsNoBearer rows left clause place
-no_bearer_out rows left clause place off = record { each = λ row at on. absurd (false≢true (sym off ∙ on)) }
+pub no_provider_out : (rows : List Binary) (left : List Bool) (clause : Clause) (place : ℕ) → marked left place ≡ false → IsNoProvider rows left clause place
+no_provider_out rows left clause place off = record { each = λ row at on. absurd (false≢true (sym off ∙ on)) }
 
-pub no_bearer : (rows : List Binary) (left : List Bool) (clause : Clause) (place : ℕ) (row : Binary) → slice_get rows place ≡ Some row → meets row clause ≡ false → IsNoBearer rows left clause place
-no_bearer rows left clause place row at misses = record { each = λ other stands on does. false≢true (sym misses ∙ ap (λ (b : Binary). meets b clause) (same_Some row other (sym at ∙ stands)) ∙ does) }
+pub no_provider : (rows : List Binary) (left : List Bool) (clause : Clause) (place : ℕ) (row : Binary) → slice_get rows place ≡ Some row → meets row clause ≡ false → IsNoProvider rows left clause place
+no_provider rows left clause place row at misses = record { each = λ other stands on does. false≢true (sym misses ∙ ap (λ (b : Binary). meets b clause) (same_Some row other (sym at ∙ stands)) ∙ does) }
 
-pub no_bearers : (rows : List Binary) (left : List Bool) (clause : Clause) (places : List ℕ) (n : ℕ) → AllWithin (IsNoBearer rows left clause) places 0 n → length places ≤ n → (k : ℕ) (row : Binary) → Contains places k → slice_get rows k ≡ Some row → marked left k ≡ true → meets row clause ≡ true → ⊥
-no_bearers rows left clause places n none h k row c = (subst (IsNoBearer rows left clause) c.2 (none c.0 k (omega arith) (omega (arith, c.1, h)))).each row
+pub no_providers : (rows : List Binary) (left : List Bool) (clause : Clause) (places : List ℕ) (n : ℕ) → AllWithin (IsNoProvider rows left clause) places 0 n → length places ≤ n → (k : ℕ) (row : Binary) → Contains places k → slice_get rows k ≡ Some row → marked left k ≡ true → meets row clause ≡ true → ⊥
+no_providers rows left clause places n none h k row c = (subst (IsNoProvider rows left clause) c.2 (none c.0 k (omega arith) (omega (arith, c.1, h)))).each row

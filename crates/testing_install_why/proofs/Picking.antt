@@ -9,10 +9,10 @@ use Rattle.testing_install_why.specs.declared.Step.{Step}
 use Rattle.testing_install_why.specs.Order.{IsNamed, Falls, IsGroundless}
 use Rattle.testing_install_why.specs.steps.Certificate.{IsCertificate}
 use Rattle.testing_install_why.specs.steps.Needed.{IsMarkedFor, IsNeeded}
-use Rattle.testing_install_why.specs.steps.Bearers.{IsBearer}
+use Rattle.testing_install_why.specs.steps.Providers.{IsProvider}
 use Rattle.testing_install_why.proofs.Taking.{at_end, at_either, named_more}
 
--- one step more of which each bearer stands in the list
+-- one step more of which each provider stands in the list
 pub groundless_more : (rows : List Binary) (there : ℕ → Bool) (steps : List Step) (s : Step) → IsGroundless rows there steps → Falls rows there steps (length steps) s → IsGroundless rows there (steps ++ s ∷ [])
 groundless_more rows there steps s g f = record {
   each = λ n step at. elim (at_either steps s n step at) [
@@ -58,8 +58,8 @@ pick_more rows order needed last n steps s need h at here p = record {
         here = f.here;
         unmet = λ k other stands on does.
             let b = f.unmet k other stands on does in
-            let bearer : IsBearer rows order n f.is.clause b.number = record { step = b.step; row = other; earlier = b.earlier; is = b.stands; stands = ap (slice_get rows) b.same ∙ stands; does = does } in
-            let m = need.done n s f.is.clause b.number (omega arith) h at here (record { row = f.is.row; stands = f.is.stands; needs = f.is.needs }) bearer in
+            let provider : IsProvider rows order n f.is.clause b.number = record { step = b.step; row = other; earlier = b.earlier; is = b.stands; stands = ap (slice_get rows) b.same ∙ stands; does = does } in
+            let m = need.done n s f.is.clause b.number (omega arith) h at here (record { row = f.is.row; stands = f.is.stands; needs = f.is.needs }) provider in
             let x = p.named b.number b.step b.earlier b.stands m in
             record { number = x.number; step = x.step; earlier = x.earlier; stands = x.stands; same = x.same ∙ b.same };
       });
@@ -99,6 +99,6 @@ need_more rows order needed new last number f p = record {
   ends = f.grown last p.ends;
   done = λ n step clause m low high at on of b. elim (cases_lt number n) [
     | inl l ↦ f.grown m (p.done n step clause m (omega (arith, l)) high at (sym (f.above n low) ∙ on) of b)
-    | inr g ↦ (let same : n ≡ number = omega (arith, low, g) in f.done step clause m (ap (slice_get order) (sym same) ∙ at) of (subst (λ x. IsBearer rows order x clause m) same b))
+    | inr g ↦ (let same : n ≡ number = omega (arith, low, g) in f.done step clause m (ap (slice_get order) (sym same) ∙ at) of (subst (λ x. IsProvider rows order x clause m) same b))
   ];
 }

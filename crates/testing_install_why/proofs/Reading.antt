@@ -10,7 +10,7 @@ use Rattle.testing_install.specs.Satisfies.{meets}
 use Rattle.testing_install_why.specs.declared.Step.{Step}
 use Rattle.testing_install_why.specs.Order.{IsStep, IsGroundless}
 use Rattle.testing_install_why.specs.steps.Chain.{IsMetAt, IsChain}
-use Rattle.testing_install_why.specs.steps.Bearers.{IsBearer, IsNext, IsLast}
+use Rattle.testing_install_why.specs.steps.Providers.{IsProvider, IsNext, IsLast}
 use Rattle.testing_install_why.specs.steps.Steps.{AreSteps, IsClauseOf}
 
 -- a step's row and clause can be read
@@ -34,7 +34,7 @@ one_clause rows s clause i c =
 
 -- no row of the first n steps meets the clause
 pub record NoneBelow (rows : List Binary) (order : List Step) (end : ℕ) (clause : Clause) (n : ℕ) : Type 0 where
-  pub each : (m : ℕ) → m < n → IsBearer rows order end clause m → ⊥
+  pub each : (m : ℕ) → m < n → IsProvider rows order end clause m → ⊥
 
 pub none_below : (rows : List Binary) (order : List Step) (end : ℕ) (clause : Clause) → NoneBelow rows order end clause 0
 none_below rows order end clause = record { each = λ m h. absurd (omega (arith, h)) }
@@ -51,7 +51,7 @@ none_more rows order end clause n step row at stands misses below = record {
   ];
 }
 
-pub none_all : (rows : List Binary) (order : List Step) (end : ℕ) (clause : Clause) (n : ℕ) → end ≤ n → NoneBelow rows order end clause n → (m : ℕ) → IsBearer rows order end clause m → ⊥
+pub none_all : (rows : List Binary) (order : List Step) (end : ℕ) (clause : Clause) (n : ℕ) → end ≤ n → NoneBelow rows order end clause n → (m : ℕ) → IsProvider rows order end clause m → ⊥
 none_all rows order end clause n h below m b = below.each m (omega (arith, h, b.earlier)) b
 
 -- what holds while a chain is followed: a chain from the last step is joined to it
@@ -67,7 +67,7 @@ follow_more rows order first last next rest u f n at = record {
   within = slice_get_within order next u at;
   joins = λ there g s t at_s at_t more c.
       let here = g.each last n.step n.is in
-      let b = n.bearer in
+      let b = n.provider in
       let fell = g.each next b.step b.is in
       let same : b.step ≡ t = same_Some b.step t (sym b.is ∙ at_t) in
       let alike : u ≡ t = same_Some u t (sym at ∙ at_t) in

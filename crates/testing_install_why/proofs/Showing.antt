@@ -5,7 +5,7 @@ use Rattle.std.proofs.lemmas.Bool.{cases_lt}
 use Rattle.std.proofs.lemmas.Option.{same_Some}
 use Rattle.deb_control.specs.declared.binary.Binary.{Binary}
 use Rattle.testing_install_why.specs.declared.Step.{Step}
-use Rattle.testing_install_why.specs.steps.Bearers.{IsStepOf}
+use Rattle.testing_install_why.specs.steps.Providers.{IsStepOf}
 use Rattle.testing_install_why.specs.Certificate.{IsShownBy}
 use Rattle.testing_install_why.specs.steps.Certificate.{IsCertificate}
 use Rattle.testing_install_why.specs.Order.{IsNamed, IsGroundless}

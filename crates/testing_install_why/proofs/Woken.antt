@@ -11,9 +11,9 @@ use Rattle.deb_control.specs.declared.relation.Alternative.{Alternative}
 use Rattle.deb_control.specs.declared.relation.Clause.{Clause}
 use Rattle.deb_control.specs.declared.relation.Provision.{Provision}
 use Rattle.testing_install.specs.Closed.{marked}
-use Rattle.testing_install.specs.Needers.{names, needs_name}
+use Rattle.testing_install.specs.Dependents.{names, needs_name}
 use Rattle.testing_install.specs.Satisfies.{meets, satisfies}
-use Rattle.testing_install.proofs.Finding.{any_at, any_true, satisfies_bears}
+use Rattle.testing_install.proofs.Finding.{any_at, any_true, satisfies_provides}
 use Rattle.testing_install.proofs.Places.{read_more}
 use Rattle.testing_install_why.specs.steps.Reaching.{IsGrown}
 use Rattle.testing_install_why.specs.steps.Woken.{IsWokenAt, IsWokenFor}
@@ -53,7 +53,7 @@ woken_named rows held name places all complete = record {
       subst (λ x. marked held x ≡ false) c.2 (all c.0 k c.1);
 }
 
--- the names that a package bears, one after the other
+-- the names that a package provides, one after the other
 
 pub record AreWokenTo (rows : List Binary) (binary : Binary) (old new : List Bool) (before after : List ℕ) (n : ℕ) : Type 0 where
   pub grown : IsGrown old new before after
@@ -78,7 +78,7 @@ names_more rows binary items old mid new before between after n p name w are h a
   given = read_more (λ (q : Provision). IsWokenAt rows new q.name) binary.provides items n p are h at (λ i d low high. still_woken rows mid new (get_or binary.provides i d).name g.shut (w.given i d low high)) (subst (IsWokenAt rows new) named here);
 }
 
--- a row with a clause that the package meets has a name in it which the package bears
+-- a row with a clause that the package meets has a name in it which the package provides
 pub names_all : (rows : List Binary) (binary : Binary) (old new : List Bool) (before after : List ℕ) (n : ℕ) → AreWokenTo rows binary old new before after n → length binary.provides ≤ n → IsWokenFor rows new binary
 names_all rows binary old new before after n w h = record {
   each = λ k row at need.
@@ -89,7 +89,7 @@ names_all rows binary old new before after n w h = record {
       let a : Alternative = get_or clause f.0 d in
       let named : names clause a.name ≡ true = any_true (λ (b : Alternative). bytes_eq b.name a.name) clause f.0 d f.1 ((bytes_eq-Decides a.name a.name).1 refl) in
       let needs : needs_name row a.name ≡ true = any_true (λ x. names x a.name) row.clauses c.0 [] c.1 named in
-      elim (or_cases (bytes_eq binary.name a.name) (list_any (λ (p : Provision). bytes_eq p.name a.name) binary.provides) (satisfies_bears binary a (f.2 d))) [
+      elim (or_cases (bytes_eq binary.name a.name) (list_any (λ (p : Provision). bytes_eq p.name a.name) binary.provides) (satisfies_provides binary a (f.2 d))) [
         | inl itself ↦ (
             let same : binary.name ≡ a.name = (bytes_eq-Decides binary.name a.name).0 itself in
             w.own.each k row at (ap (λ name. needs_name row name) same ∙ needs))

@@ -1,6 +1,6 @@
 //! Whether steps show that a row isn't installable among rows that are all present. The check reads only rows and
 //! steps, whatever their origin. Steps are noted by the names in their clauses, so a row is compared only with steps
-//! whose clause has a name that it bears.
+//! whose clause has a name that it provides.
 
 ghost use Rattle.std.specs.Prelude.{◌≡◌, true, length, IfOk, IfSome};
 ghost use Rattle.std.specs.List.{All};
@@ -12,7 +12,7 @@ ghost use Rattle.testing_install_why.specs.steps.Checking.{ArePast, IsClauseInde
 ghost use Rattle.testing_install_why.specs.Order.{IsNamed};
 
 use crate::Step;
-use crate::checking::{are_steps, clause_at, ends_at};
+use crate::checks::{are_steps, clause_at, ends_at};
 use deb_control::Binary;
 use deb_version::NoMemory;
 use std::alloc::Global;
@@ -127,7 +127,7 @@ fn are_past_provided(
     true
 }
 
-// This is true of each step, for one row: a clause that the row meets has a name that it bears.
+// This is true of each step, for one row: a clause that the row meets has a name that it provides.
 fn are_past_by(
     rows: &[Row<'_>],
     steps: &[Step],

@@ -1,6 +1,6 @@
 ghost use Rattle.std.specs.Prelude.{◌≡◌, ℕ, ◌<◌, ◌≤◌, Bool, length, Some, IfOk, IfSome, IfNone, Contains};
 ghost use Rattle.std.specs.List.{slice_get};
-ghost use Rattle.testing_install_why.specs.steps.Bearers.{IsBearer, IsLast, IsLeast, IsNext};
+ghost use Rattle.testing_install_why.specs.steps.Providers.{IsProvider, IsLast, IsLeast, IsNext};
 ghost use Rattle.testing_install_why.specs.steps.Chain.{IsChain};
 ghost use Rattle.testing_install_why.specs.steps.Needed.{IsStepIndex};
 ghost use Rattle.testing_install_why.specs.Order.{IsGroundless};
@@ -8,7 +8,7 @@ ghost use Rattle.testing_install_why.specs.steps.Steps.{AreSteps};
 ghost use Rattle.testing_install_why.specs.declared.Step.{Step as TheStep};
 
 use crate::Step;
-use crate::bearers::{clause_of, is_bearer, noted_steps};
+use crate::providers::{clause_of, is_provider, noted_steps};
 use deb_control::Clause;
 use deb_version::NoMemory;
 use std::alloc::Global;
@@ -28,7 +28,7 @@ fn least_among(
 {
     let mut least = end;
     for number in numbers {
-        if is_bearer(suite, order, clause, *number, least) {
+        if is_provider(suite, order, clause, *number, least) {
             least = *number;
         }
     }
@@ -36,7 +36,7 @@ fn least_among(
 }
 
 // The number of the first step below the end whose row meets the clause, or the end if there is none.
-fn first_bearer(
+fn first_provider(
     suite: &Suite,
     order: &[Step],
     noted: &NameIndex,
@@ -46,7 +46,7 @@ fn first_bearer(
     requires end { end < length order.now }
     requires steps { AreSteps suite.now.rows order.now }
     requires noted { IsStepIndex suite.now.rows order.now noted.now }
-    ensures { IsLeast suite.now.rows order.now end clause.now result (λ m. IsBearer suite.now.rows order.now end clause.now m) }
+    ensures { IsLeast suite.now.rows order.now end clause.now result (λ m. IsProvider suite.now.rows order.now end clause.now m) }
 {
     let mut least = end;
     for alternative in clause.as_slice() {
@@ -65,7 +65,7 @@ fn next_of(suite: &Suite, order: &[Step], noted: &NameIndex, last: usize) -> Opt
     ensures none { IfNone result (IsLast suite.now.rows order.now last) }
 {
     let clause = clause_of(suite, order[last]);
-    let first = first_bearer(suite, order, noted, clause, last);
+    let first = first_provider(suite, order, noted, clause, last);
     if first < last { Some(first) } else { None }
 }
 

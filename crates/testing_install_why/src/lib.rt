@@ -5,22 +5,22 @@
 //! later one. It can be checked line by line, with no other knowledge.
 #![tactic(auto)]
 
-mod bearers;
 mod by_names;
 mod chain;
-mod checking;
+mod checks;
 pub mod laws;
 mod needed;
 mod order;
+mod providers;
 mod reached;
 mod shown;
-mod waking;
+mod wakes;
 
-pub use bearers::{clause_of, row_of};
 pub use by_names::is_shown;
 pub use chain::chain_from;
 pub use needed::certificate_of;
 pub use order::order_over;
+pub use providers::{clause_of, row_of};
 pub use shown::certificate;
 
 /// A row, by its place, and one of its clauses, by its number.

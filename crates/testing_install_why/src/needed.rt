@@ -7,7 +7,7 @@ ghost use Rattle.testing_install_why.specs.steps.Steps.{AreSteps};
 ghost use Rattle.testing_install_why.specs.declared.Step.{Step as TheStep};
 
 use crate::Step;
-use crate::bearers::{clause_of, is_bearer, noted_steps};
+use crate::providers::{clause_of, is_provider, noted_steps};
 use deb_control::Clause;
 use deb_version::NoMemory;
 use std::alloc::Global;
@@ -28,14 +28,14 @@ fn mark_among(
     ensures { IsMarkedWhere suite.now.rows order.now needed.old needed.new number clause.now (λ m. Contains numbers.now m) }
 {
     for earlier in numbers {
-        if is_bearer(suite, order, clause, *earlier, number) {
+        if is_provider(suite, order, clause, *earlier, number) {
             needed[*earlier] = true;
         }
     }
 }
 
 // Marks the steps before this one with rows that meet its clause, found at the names of its alternatives.
-fn mark_bearers(
+fn mark_providers(
     suite: &Suite,
     order: &[Step],
     noted: &NameIndex,
@@ -73,7 +73,7 @@ fn needed_by(
     while number > 0 {
         number -= 1;
         if needed[number] {
-            mark_bearers(suite, order, &noted, &mut needed, number);
+            mark_providers(suite, order, &noted, &mut needed, number);
         }
     }
     Ok(needed)

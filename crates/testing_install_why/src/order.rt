@@ -11,13 +11,13 @@ ghost use Rattle.testing_install_why.specs.steps.Steps.{AreSteps};
 ghost use Rattle.testing_install_why.specs.steps.Taking.{FailsAt, FailsBy, IsHeldAt, IsLooked, IsOrder};
 
 use crate::Step;
-use crate::waking::wake_needers;
+use crate::wakes::wake_dependents;
 use deb_control::{Binary, Clause};
 use deb_version::NoMemory;
 use std::alloc::Global;
 use testing_install::{Suite, meets};
 
-/// The places of the rows that bear a name in the clause, including each row that meets it.
+/// The places of the rows that provide a name in the clause, including each row that meets it.
 pub fn named_by(alloc: Global, suite: &Suite, clause: &Clause) -> Result<Vec<usize>, NoMemory>
     ensures within { IfOk result (λ places. All (λ k. k < length suite.now.rows) places.items) }
     ensures complete { IfOk result (λ places. (k : ℕ) (row : TheBinary) → slice_get suite.now.rows k ≡ Some row
@@ -25,7 +25,7 @@ pub fn named_by(alloc: Global, suite: &Suite, clause: &Clause) -> Result<Vec<usi
 {
     let mut places = Vec::new(alloc);
     for alternative in clause.as_slice() {
-        places.extend_from_slice(suite.bearers(alternative.name.as_str()))?;
+        places.extend_from_slice(suite.providers(alternative.name.as_str()))?;
     }
     Ok(places)
 }
@@ -129,7 +129,7 @@ fn take_next(
     };
     steps.push(step)?;
     left[step.place] = false;
-    wake_needers(suite, suite.binary(step.place), held, waiting)?;
+    wake_dependents(suite, suite.binary(step.place), held, waiting)?;
     Ok(true)
 }
 
@@ -155,7 +155,7 @@ fn take_out(
 
 /// A groundless list of rows at the places. Rows with a clause that no remaining row meets are removed, one after
 /// another. If each row that bears on them is at one of the places or installable, the list has each present row at
-/// them that isn't installable. A row is checked once, and again after each removed row that bears a name in its
+/// them that isn't installable. A row is checked once, and again after each removed row that provides a name in its
 /// clauses. The only error is running out of memory.
 pub fn order_over(alloc: Global, suite: &Suite, places: &[usize]) -> Result<Vec<Step>, NoMemory>
     requires { All (λ k. k < length suite.now.rows) places.now }

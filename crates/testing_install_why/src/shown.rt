@@ -7,7 +7,7 @@ ghost use Rattle.testing_install.specs.Closed.{marked};
 ghost use Rattle.testing_install_why.specs.Order.{IsNamed};
 ghost use Rattle.testing_install_why.specs.steps.Order.{IsReaching};
 ghost use Rattle.testing_install_why.specs.Certificate.{IsShownBy};
-ghost use Rattle.testing_install_why.specs.steps.Bearers.{IsStepOf};
+ghost use Rattle.testing_install_why.specs.steps.Providers.{IsStepOf};
 
 use crate::Step;
 use crate::needed::certificate_of;

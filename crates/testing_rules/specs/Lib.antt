@@ -24,4 +24,4 @@ pub use Rattle.testing_rules_laws.specs.Words
 pub use Rattle.testing_rules_laws.specs.Laws
 pub use Rattle.testing_rules_laws.specs.MoveLaws
 pub use Rattle.testing_rules_laws.specs.TakenLaws
-pub use Rattle.testing_rules_laws.specs.Fallen
+pub use Rattle.testing_rules_excuses.specs.Fallen

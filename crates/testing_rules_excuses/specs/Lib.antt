@@ -1,3 +1,4 @@
+pub mod Fallen
 pub mod Readiness
 pub mod Lines
 pub mod Origins

@@ -11,7 +11,7 @@ ghost use Rattle.testing_rules_excuses.specs.steps.Said.{said_lists};
 use crate::bug_search::bug_at;
 use crate::days::asked_days;
 use crate::reasons::{blocks, removes};
-use crate::saying::SourceFacts;
+use crate::source_facts::SourceFacts;
 use deb_version::{NoMemory, Version};
 use std::alloc::{AllocError, Global};
 use testing_rules_facts::is_of_source;

@@ -5,17 +5,17 @@
 mod entry;
 mod halves;
 mod log;
-mod restoring;
+mod restored;
 mod row_changes;
 mod rows;
 mod select;
-mod trimming;
+mod trims;
 mod uploads;
 
 pub use entry::{Builds, FactUpdate, Sent, entry_of};
 pub use halves::move_upper_half;
 pub use log::{Log, Shifted};
-pub use restoring::{
+pub use restored::{
     said_bug, said_build, said_delays, said_drop, said_hint, said_unhint, said_upload,
 };
 pub use row_changes::changes;
@@ -27,5 +27,5 @@ pub use select::{
     is_current, is_of_source, is_same_version, later_delays, message_order, outlives, unhint_order,
     upload_order, urgency_rank,
 };
-pub use trimming::trim_uploads;
+pub use trims::trim_uploads;
 pub use uploads::place_of_kept;

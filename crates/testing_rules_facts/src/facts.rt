@@ -22,7 +22,7 @@ ghost use Rattle.testing_rules_model.specs.steps.WithMessage.{stands_beside};
 ghost use Rattle.testing_rules_model.specs.declared.facts.UploadIn.{UploadIn as AnUpload};
 
 use crate::build_blocks::BuildBlocks;
-use crate::copying::{copy_all, copy_boxed, copy_log, copy_said};
+use crate::copies::{copy_all, copy_boxed, copy_log, copy_said};
 use crate::shared_clauses::LastClauses;
 use crate::shifts::{hint_left, last_row, unhint_left};
 use crate::taken::{put_bug, put_drop, put_hint, put_kept, put_unhint, put_upload};

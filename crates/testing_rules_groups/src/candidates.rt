@@ -4,7 +4,7 @@ ghost use Rattle.std.specs.Prelude.{◌≡◌};
 ghost use Rattle.testing_rules_items.specs.Words.{byte_cmp};
 
 use crate::flags::{flags_of, set};
-use crate::standing::StandingMoves;
+use crate::testing_after::StandingMoves;
 use deb_control::{NoMemory, Text};
 use std::alloc::Global;
 use std::cmp::Ordering;

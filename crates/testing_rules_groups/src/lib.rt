@@ -2,17 +2,17 @@
 //! nothing about its result: whoever prints its groups lets a run try them first.
 #![tactic(auto)]
 
-mod agreeing;
+mod agreement;
 mod candidates;
-mod dying;
+mod dead;
+mod dependence;
 mod flags;
 mod found;
 mod groups;
 mod knots;
-mod resting;
 mod scope;
 mod search;
-mod standing;
+mod testing_after;
 
 pub use found::{DeadSource, Found, LongGroup};
 pub use search::{Start, find_groups};

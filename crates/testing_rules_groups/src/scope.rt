@@ -94,7 +94,7 @@ impl<'a> Scope<'a> {
     }
 
     /// The row at the place is on the architecture and meets the clause.
-    fn is_bearer(&self, arch: u32, clause: &Clause, place: usize) -> bool {
+    fn is_provider(&self, arch: u32, clause: &Clause, place: usize) -> bool {
         match self.row(place) {
             Some(row) => is_row_on(arch, &row) && meets(row.binary, clause),
             None => false,
@@ -102,34 +102,34 @@ impl<'a> Scope<'a> {
     }
 
     /// Adds the places whose rows are on the architecture and meet the clause.
-    fn push_bearers(
+    fn push_providers(
         &self,
-        bearers: &mut Vec<usize>,
+        providers: &mut Vec<usize>,
         arch: u32,
         clause: &Clause,
         places: &[usize],
     ) -> Result<(), NoMemory> {
         for place in places {
-            if self.is_bearer(arch, clause, *place) {
-                bearers.push(*place)?;
+            if self.is_provider(arch, clause, *place) {
+                providers.push(*place)?;
             }
         }
         Ok(())
     }
 
     /// The places of the rows that are on the architecture and meet the clause.
-    pub fn bearers(
+    pub fn providers(
         &self,
         alloc: Global,
         arch: u32,
         clause: &Clause,
     ) -> Result<Vec<usize>, NoMemory> {
-        let mut bearers = Vec::new(alloc);
+        let mut providers = Vec::new(alloc);
         for alternative in clause.as_slice() {
             let places = self.pool.of_name(alternative.name.as_str());
-            self.push_bearers(&mut bearers, arch, clause, places)?;
+            self.push_providers(&mut providers, arch, clause, places)?;
         }
-        Ok(bearers)
+        Ok(providers)
     }
 
     /// The row at the other place has this row's key.

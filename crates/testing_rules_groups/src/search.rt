@@ -1,15 +1,15 @@
 //! The search for groups. It works top down: it leaves out the dead, lets all others move together, and only then asks
 //! who rests on whom.
 
-use crate::agreeing::{Agreement, agree, all_moving};
+use crate::agreement::{Agreement, agree, all_moving};
 use crate::candidates::{brought_rows, current_rows, named, number_of, remaining};
-use crate::dying::{Living, find_living};
+use crate::dead::{Living, find_living};
+use crate::dependence::rests_of;
 use crate::flags::{copy_flags, is_one_more, is_set};
 use crate::found::Found;
 use crate::groups::{push_groups, reached};
-use crate::resting::rests_of;
 use crate::scope::{ArchRows, Scope, arch_rows};
-use crate::standing::standing_moves;
+use crate::testing_after::standing_moves;
 use deb_control::{NoMemory, Text};
 use std::alloc::Global;
 use testing_rules_facts::{Facts, built_rows};

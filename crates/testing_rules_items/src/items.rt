@@ -1,4 +1,4 @@
-//! Lists in types with one name.
+//! A list that contracts see as such.
 
 ghost use Rattle.std.specs.Prelude.{◌≡◌};
 

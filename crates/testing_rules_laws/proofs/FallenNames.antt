@@ -18,7 +18,7 @@ use Rattle.testing_rules_items.proofs.Members.{tail_of}
 use Rattle.testing_rules_model.proofs.Sets.{at_front, maps}
 use Rattle.testing_rules_model.proofs.Least.{to_filter}
 use Rattle.testing_rules_model.specs.steps.KeptFacts.{AreFallen}
-use Rattle.testing_rules_laws.specs.Fallen.{fallen_names}
+use Rattle.testing_rules_excuses.specs.Fallen.{fallen_names}
 
 -- above what isn't below: of w below v, and not below s, v is above s
 module _ {K : Type 0} {cmp : K → K → Ordering} (o : IsTotalOrder cmp) where

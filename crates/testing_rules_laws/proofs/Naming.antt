@@ -191,7 +191,7 @@ module _ (xs : List Given) (s : Covered) (one : HasOneOfEach s) (named : NamesIn
   pub own_message : (x : Given) (m : CoveredItem) → Contains xs x → Contains s m → m.sender ≡ x.0.sender → m.number ≡ x.0.number → m ≡ message_of x
   own_message x m c d es en = one m (message_of x) d (named x c) es en
 
-  module _ {B : Type 0} (says : CoveredItem → Option B) (sender number : B → ℕ) (bears : (m : CoveredItem) (y : B) → says m ≡ Some y → (sender y ≡ m.sender) × (number y ≡ m.number))
+  module _ {B : Type 0} (says : CoveredItem → Option B) (sender number : B → ℕ) (provides_name : (m : CoveredItem) (y : B) → says m ≡ Some y → (sender y ≡ m.sender) × (number y ≡ m.number))
       (k : FactKind) (row : B → FactRow) (row_is : (b : B) → row b ≡ record { kind = k; sender = sender b; number = number b; place = 0 })
       (zs : List B) (from : (b : B) → Contains zs b → Contains (filter_map says s) b)
       (rows : List FactRow) (same : SameElements (map (λ x. x.0) xs) rows)
@@ -199,7 +199,7 @@ module _ (xs : List Given) (s : Covered) (one : HasOneOfEach s) (named : NamesIn
     given_is : (x : Given) (b : B) → Contains xs x → Contains zs b → row b ≡ x.0 → says (message_of x) ≡ Some b
     given_is x b c d e =
         let m = given_by says s b (from b d) in
-        let borne = bears m.0 b m.2 in
+        let borne = provides_name m.0 b m.2 in
         let at : x.0 ≡ record { kind = k; sender = sender b; number = number b; place = 0 } = sym e ∙ row_is b in
         let own = own_message x m.0 c m.1 (sym borne.0 ∙ sym (ap (λ (r : FactRow). r.sender) at)) (sym borne.1 ∙ sym (ap (λ (r : FactRow). r.number) at)) in
         ap says (sym own) ∙ m.2

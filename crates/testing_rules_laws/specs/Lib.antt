@@ -24,5 +24,4 @@ pub use Rattle.testing_rules_items.specs.Words
 pub mod Laws
 pub mod MoveLaws
 pub mod TakenLaws
-pub mod Fallen
 pub mod steps

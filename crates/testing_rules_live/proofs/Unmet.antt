@@ -9,9 +9,9 @@ use Rattle.deb_control.specs.declared.binary.Binary.{Binary}
 use Rattle.deb_control.specs.declared.relation.Alternative.{Alternative}
 use Rattle.deb_control.specs.declared.relation.Clause.{Clause}
 use Rattle.testing_install.specs.Closed.{marked}
-use Rattle.testing_install.specs.Index.{bears}
+use Rattle.testing_install.specs.Index.{provides_name}
 use Rattle.testing_install.specs.Satisfies.{satisfies, meets}
-use Rattle.testing_install.proofs.Finding.{any_at, satisfies_bears}
+use Rattle.testing_install.proofs.Finding.{any_at, satisfies_provides}
 use Rattle.testing_rules_items.specs.Words.{Text}
 use Rattle.testing_rules_live.specs.steps.Lacks.{meets_on, stands_for_it}
 use Rattle.testing_rules_model.specs.declared.suite.RowIn.{RowIn}
@@ -37,8 +37,8 @@ second_of_both : (a b : Bool) → (a && b) ≡ true → b ≡ true
 second_of_both true b h = h
 second_of_both false b h = absurd (false≢true h)
 
--- a package bears its own name
-pub bears_own : (b : Binary) (name : Text) → b.name ≡ name → bears b name ≡ true
+-- a package provides its own name
+pub bears_own : (b : Binary) (name : Text) → b.name ≡ name → provides_name b name ≡ true
 bears_own b name e = ap (λ own. own || list_any (λ p. bytes_eq p.name name) b.provides) ((bytes_eq-Decides b.name name).1 e)
 
 -- none of some elements passes where not any does
@@ -49,13 +49,13 @@ module _ (arch : ℕ) (pool : List RowIn) (stands : List Bool) (clause : Clause)
   abbrev test : ℕ → Bool
   test = stands_for_it arch pool stands clause
 
-  -- no row that bears the alternative's name stands for the clause
+  -- no row that provides the alternative's name stands for the clause
   pub record IsMissed (a : Alternative) : Type 0 where
-    pub each : (k : ℕ) (r : RowIn) → slice_get pool k ≡ Some r → bears r.binary a.name ≡ true → stands_for_it arch pool stands clause k ≡ false
+    pub each : (k : ℕ) (r : RowIn) → slice_get pool k ≡ Some r → provides_name r.binary a.name ≡ true → stands_for_it arch pool stands clause k ≡ false
 
-  -- the places of a name have all rows that bear it
-  pub missed_under : (name : Text) (named : List ℕ) → ((k : ℕ) (r : RowIn) → slice_get pool k ≡ Some r → bears r.binary name ≡ true → Contains named k) → list_any test named ≡ false
-      → (k : ℕ) (r : RowIn) → slice_get pool k ≡ Some r → bears r.binary name ≡ true → test k ≡ false
+  -- the places of a name have all rows that provide it
+  pub missed_under : (name : Text) (named : List ℕ) → ((k : ℕ) (r : RowIn) → slice_get pool k ≡ Some r → provides_name r.binary name ≡ true → Contains named k) → list_any test named ≡ false
+      → (k : ℕ) (r : RowIn) → slice_get pool k ≡ Some r → provides_name r.binary name ≡ true → test k ≡ false
   missed_under name named complete out k r at b = none_of test named k out (complete k r at b)
 
   stands_not : (n : ℕ) → AllWithin IsMissed clause 0 n → length clause ≤ n → (k : ℕ) → test k ≡ true → ⊥
@@ -64,7 +64,7 @@ module _ (arch : ℕ) (pool : List RowIn) (stands : List Bool) (clause : Clause)
       let does : meets row.0.binary clause ≡ true = second_of_both (is_row_on arch row.0) (meets row.0.binary clause) row.2 in
       let f = any_at (satisfies row.0.binary) clause does in
       let d : Alternative = record { name = []; relation = None } in
-      let bears_it = satisfies_bears row.0.binary (get_or clause f.0 d) (f.2 d) in
+      let bears_it = satisfies_provides row.0.binary (get_or clause f.0 d) (f.2 d) in
       false≢true (sym ((missed f.0 d (omega arith) (omega (arith, f.1, h))).each k row.0 row.1 bears_it) ∙ on)
 
   -- nothing stands for the clause where each of its alternatives is missed

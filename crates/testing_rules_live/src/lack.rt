@@ -3,7 +3,7 @@
 
 ghost use Rattle.std.specs.Prelude.{◌≡◌, ℕ, ◌<◌, false, true, IfSome, Contains, Some, length};
 ghost use Rattle.std.specs.List.{All, list_any, slice_get};
-ghost use Rattle.testing_install.specs.Index.{bears};
+ghost use Rattle.testing_install.specs.Index.{provides_name};
 ghost use Rattle.testing_rules_live.specs.steps.Lacks.{meets_on, stands_for_it, IsUnmet, IsLack};
 ghost use Rattle.testing_rules_model.specs.declared.suite.RowIn.{RowIn as ARow};
 ghost use Rattle.testing_rules_model.specs.JudgedRows.{row_of};
@@ -44,9 +44,9 @@ fn is_met_among(arch: u32, suites: &CarriedSuites, clause: &Clause, places: &[us
         .any(|place| is_met_at(arch, suites, clause, *place))
 }
 
-/// A row that bears the name is present, on the architecture and meets the clause.
+/// A row that provides the name is present, on the architecture and meets the clause.
 fn is_met_under(arch: u32, suites: &CarriedSuites, clause: &Clause, name: &str) -> bool
-    ensures { result ≡ false → (k : ℕ) (r : ARow) → slice_get suites.now.rows k ≡ Some r → bears r.binary name.now ≡ true
+    ensures { result ≡ false → (k : ℕ) (r : ARow) → slice_get suites.now.rows k ≡ Some r → provides_name r.binary name.now ≡ true
         → stands_for_it arch suites.now.rows suites.now.stands clause.now k ≡ false }
 {
     is_met_among(arch, suites, clause, suites.pool().of_name(name))

@@ -40,38 +40,38 @@ module _ (n k : ℕ) where
   abbrev said : Item → CoveredItem
   said i = record { sender = n; number = k; item = i }
 
-  pub upload_bears : (i : Item) (y : UploadIn) → upload_of (said i) ≡ Some y → (y.sender ≡ n) × (y.number ≡ k)
-  upload_bears (item.Upload a b c d) y e = let s : y.sender ≡ n = cc in let t : y.number ≡ k = cc in (s, t)
-  upload_bears i y e = let no : None ≡ Some y = e in absurd (let never : ⊥ = cc in never)
+  pub upload_provides : (i : Item) (y : UploadIn) → upload_of (said i) ≡ Some y → (y.sender ≡ n) × (y.number ≡ k)
+  upload_provides (item.Upload a b c d) y e = let s : y.sender ≡ n = cc in let t : y.number ≡ k = cc in (s, t)
+  upload_provides i y e = let no : None ≡ Some y = e in absurd (let never : ⊥ = cc in never)
 
-  pub drop_bears : (i : Item) (y : DropIn) → drop_of (said i) ≡ Some y → (y.sender ≡ n) × (y.number ≡ k)
-  drop_bears (item.Dropped a b c) y e = let s : y.sender ≡ n = cc in let t : y.number ≡ k = cc in (s, t)
-  drop_bears i y e = let no : None ≡ Some y = e in absurd (let never : ⊥ = cc in never)
+  pub drop_provides : (i : Item) (y : DropIn) → drop_of (said i) ≡ Some y → (y.sender ≡ n) × (y.number ≡ k)
+  drop_provides (item.Dropped a b c) y e = let s : y.sender ≡ n = cc in let t : y.number ≡ k = cc in (s, t)
+  drop_provides i y e = let no : None ≡ Some y = e in absurd (let never : ⊥ = cc in never)
 
-  pub bug_bears : (i : Item) (y : BugIn) → bug_of (said i) ≡ Some y → (y.sender ≡ n) × (y.number ≡ k)
-  bug_bears (item.Bug a b c d f) y e = let s : y.sender ≡ n = cc in let t : y.number ≡ k = cc in (s, t)
-  bug_bears i y e = let no : None ≡ Some y = e in absurd (let never : ⊥ = cc in never)
+  pub bug_provides : (i : Item) (y : BugIn) → bug_of (said i) ≡ Some y → (y.sender ≡ n) × (y.number ≡ k)
+  bug_provides (item.Bug a b c d f) y e = let s : y.sender ≡ n = cc in let t : y.number ≡ k = cc in (s, t)
+  bug_provides i y e = let no : None ≡ Some y = e in absurd (let never : ⊥ = cc in never)
 
-  pub hint_bears : (i : Item) (y : HintIn) → hint_of (said i) ≡ Some y → (y.sender ≡ n) × (y.number ≡ k)
-  hint_bears (item.Hint a) y e = let s : y.sender ≡ n = cc in let t : y.number ≡ k = cc in (s, t)
-  hint_bears i y e = let no : None ≡ Some y = e in absurd (let never : ⊥ = cc in never)
+  pub hint_provides : (i : Item) (y : HintIn) → hint_of (said i) ≡ Some y → (y.sender ≡ n) × (y.number ≡ k)
+  hint_provides (item.Hint a) y e = let s : y.sender ≡ n = cc in let t : y.number ≡ k = cc in (s, t)
+  hint_provides i y e = let no : None ≡ Some y = e in absurd (let never : ⊥ = cc in never)
 
-  pub unhint_bears : (i : Item) (y : UnhintIn) → unhint_of (said i) ≡ Some y → (y.sender ≡ n) × (y.number ≡ k)
-  unhint_bears (item.Unhint a) y e = let s : y.sender ≡ n = cc in let t : y.number ≡ k = cc in (s, t)
-  unhint_bears i y e = let no : None ≡ Some y = e in absurd (let never : ⊥ = cc in never)
+  pub unhint_provides : (i : Item) (y : UnhintIn) → unhint_of (said i) ≡ Some y → (y.sender ≡ n) × (y.number ≡ k)
+  unhint_provides (item.Unhint a) y e = let s : y.sender ≡ n = cc in let t : y.number ≡ k = cc in (s, t)
+  unhint_provides i y e = let no : None ≡ Some y = e in absurd (let never : ⊥ = cc in never)
 
-  pub delays_bears : (i : Item) (y : DelaysIn) → delays_of (said i) ≡ Some y → (y.sender ≡ n) × (y.number ≡ k)
-  delays_bears (item.Delays a b c d) y e = let s : y.sender ≡ n = cc in let t : y.number ≡ k = cc in (s, t)
-  delays_bears i y e = let no : None ≡ Some y = e in absurd (let never : ⊥ = cc in never)
+  pub delays_provides : (i : Item) (y : DelaysIn) → delays_of (said i) ≡ Some y → (y.sender ≡ n) × (y.number ≡ k)
+  delays_provides (item.Delays a b c d) y e = let s : y.sender ≡ n = cc in let t : y.number ≡ k = cc in (s, t)
+  delays_provides i y e = let no : None ≡ Some y = e in absurd (let never : ⊥ = cc in never)
 
 -- of what a set gives, two of one sender and number are one
-module _ {B : Type 0} (f : CoveredItem → Option B) (sender number : B → ℕ) (bears : Bears f sender number) (s : Covered) (one : HasOneOfEach s) where
+module _ {B : Type 0} (f : CoveredItem → Option B) (sender number : B → ℕ) (provides_name : Bears f sender number) (s : Covered) (one : HasOneOfEach s) where
   pub one_given : (x y : B) → Contains (filter_map f s) x → Contains (filter_map f s) y → sender x ≡ sender y → number x ≡ number y → x ≡ y
   one_given x y c d es en =
       let m = given_by f s x c in
       let o = given_by f s y d in
-      let bm = bears m.0 x m.2 in
-      let bo = bears o.0 y o.2 in
+      let bm = provides_name m.0 x m.2 in
+      let bo = provides_name o.0 y o.2 in
       let same = one m.0 o.0 m.1 o.1 (sym bm.0 ∙ es ∙ bo.0) (sym bm.1 ∙ en ∙ bo.1) in
       let both : Some x ≡ Some y = sym m.2 ∙ ap f same ∙ o.2 in
       cc
@@ -85,41 +85,41 @@ module _ (s : Covered) (one : HasOneOfEach s) where
   tied_uploads x y c d e =
       let h = then_equal (version_cmp y.version x.version) (ordering_then (nat_cmp x.sender y.sender) (nat_cmp x.number y.number)) e in
       let k = by_two x.sender y.sender x.number y.number h.1 in
-      one_given upload_of (λ u. u.sender) (λ u. u.number) (λ m. upload_bears m.sender m.number m.item) s one x y c d k.0 k.1
+      one_given upload_of (λ u. u.sender) (λ u. u.number) (λ m. upload_provides m.sender m.number m.item) s one x y c d k.0 k.1
 
   tied_drops : TiedAmong drop_order (drops_in s)
   tied_drops x y c d e =
       let h = then_equal (version_cmp y.version x.version) (ordering_then (nat_cmp x.sender y.sender) (nat_cmp x.number y.number)) e in
       let k = by_two x.sender y.sender x.number y.number h.1 in
-      one_given drop_of (λ u. u.sender) (λ u. u.number) (λ m. drop_bears m.sender m.number m.item) s one x y c d k.0 k.1
+      one_given drop_of (λ u. u.sender) (λ u. u.number) (λ m. drop_provides m.sender m.number m.item) s one x y c d k.0 k.1
 
   tied_bugs : TiedAmong bug_order (bugs_in s)
   tied_bugs x y c d e =
       let k = by_two y.number x.number x.sender y.sender e in
-      one_given bug_of (λ u. u.sender) (λ u. u.number) (λ m. bug_bears m.sender m.number m.item) s one x y c d k.1 (sym k.0)
+      one_given bug_of (λ u. u.sender) (λ u. u.number) (λ m. bug_provides m.sender m.number m.item) s one x y c d k.1 (sym k.0)
 
   tied_hints : TiedAmong hint_order (hints_in s)
   tied_hints x y c d e =
       let k = by_two x.number y.number x.sender y.sender e in
-      one_given hint_of (λ u. u.sender) (λ u. u.number) (λ m. hint_bears m.sender m.number m.item) s one x y c d k.1 k.0
+      one_given hint_of (λ u. u.sender) (λ u. u.number) (λ m. hint_provides m.sender m.number m.item) s one x y c d k.1 k.0
 
   tied_unhints : TiedAmong unhint_order (unhints_in s)
   tied_unhints x y c d e =
       let k = by_two x.number y.number x.sender y.sender e in
-      one_given unhint_of (λ u. u.sender) (λ u. u.number) (λ m. unhint_bears m.sender m.number m.item) s one x y c d k.1 k.0
+      one_given unhint_of (λ u. u.sender) (λ u. u.number) (λ m. unhint_provides m.sender m.number m.item) s one x y c d k.1 k.0
 
   tied_delays : TiedAmong delays_order (delays_in s)
   tied_delays x y c d e =
       let k = by_two y.number x.number x.sender y.sender e in
-      one_given delays_of (λ u. u.sender) (λ u. u.number) (λ m. delays_bears m.sender m.number m.item) s one x y c d k.1 (sym k.0)
+      one_given delays_of (λ u. u.sender) (λ u. u.number) (λ m. delays_provides m.sender m.number m.item) s one x y c d k.1 (sym k.0)
 
 -- builds of one message
 module _ (n k : ℕ) where
-  placed_bears : (p : ℕ) (bs : List Binary) (b : BuildIn) → Contains (placed_from p n k bs) b → (b.sender ≡ n) × (b.number ≡ k) × (p ≤ b.place)
-  placed_bears p [] b c = none_among b c
-  placed_bears p (x ∷ bs) b c = elim (first_or_rest _ (placed_from (p + 1) n k bs) b c) [
+  placed_provides : (p : ℕ) (bs : List Binary) (b : BuildIn) → Contains (placed_from p n k bs) b → (b.sender ≡ n) × (b.number ≡ k) × (p ≤ b.place)
+  placed_provides p [] b c = none_among b c
+  placed_provides p (x ∷ bs) b c = elim (first_or_rest _ (placed_from (p + 1) n k bs) b c) [
     | inl e ↦ let low : p ≡ b.place = ap (λ (z : BuildIn). z.place) e in (sym (ap (λ (z : BuildIn). z.sender) e), sym (ap (λ (z : BuildIn). z.number) e), omega arith)
-    | inr among ↦ let h = placed_bears (p + 1) bs b among in (h.0, h.1, let low : p + 1 ≤ b.place = h.2 in omega arith)
+    | inr among ↦ let h = placed_provides (p + 1) bs b among in (h.0, h.1, let low : p + 1 ≤ b.place = h.2 in omega arith)
   ]
 
   one_place : (p : ℕ) (bs : List Binary) (a b : BuildIn) → Contains (placed_from p n k bs) a → Contains (placed_from p n k bs) b → a.place ≡ b.place → a ≡ b
@@ -127,16 +127,16 @@ module _ (n k : ℕ) where
   one_place p (x ∷ bs) a b c d e = elim (first_or_rest _ (placed_from (p + 1) n k bs) a c) [
     | inl ea ↦ elim (first_or_rest _ (placed_from (p + 1) n k bs) b d) [
       | inl eb ↦ sym ea ∙ eb
-      | inr lb ↦ let at : p ≡ a.place = ap (λ (z : BuildIn). z.place) ea in let low : p + 1 ≤ b.place = (placed_bears (p + 1) bs b lb).2 in absurd (omega arith)
+      | inr lb ↦ let at : p ≡ a.place = ap (λ (z : BuildIn). z.place) ea in let low : p + 1 ≤ b.place = (placed_provides (p + 1) bs b lb).2 in absurd (omega arith)
     ]
     | inr la ↦ elim (first_or_rest _ (placed_from (p + 1) n k bs) b d) [
-      | inl eb ↦ let at : p ≡ b.place = ap (λ (z : BuildIn). z.place) eb in let low : p + 1 ≤ a.place = (placed_bears (p + 1) bs a la).2 in absurd (omega arith)
+      | inl eb ↦ let at : p ≡ b.place = ap (λ (z : BuildIn). z.place) eb in let low : p + 1 ≤ a.place = (placed_provides (p + 1) bs a la).2 in absurd (omega arith)
       | inr lb ↦ one_place (p + 1) bs a b la lb e
     ]
   ]
 
   pub builds_bear : (i : Item) (b : BuildIn) → Contains (builds_of (said n k i)) b → (b.sender ≡ n) × (b.number ≡ k)
-  builds_bear (item.Build bs) b c = let h = placed_bears 1 bs b c in (h.0, h.1)
+  builds_bear (item.Build bs) b c = let h = placed_provides 1 bs b c in (h.0, h.1)
   builds_bear i b c = none_among b c
 
   pub one_build : (i : Item) (a b : BuildIn) → Contains (builds_of (said n k i)) a → Contains (builds_of (said n k i)) b → a.place ≡ b.place → a ≡ b

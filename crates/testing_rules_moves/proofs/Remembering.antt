@@ -1,4 +1,4 @@
--- Candidates that were refused stay so until a row comes in that bears a name of their clause.
+-- Candidates that were refused stay so until a row comes in that provides a name of their clause.
 use Rattle.std.specs.Prelude.{ℕ, zero, suc, ◌+◌, ◌<◌, Bool, true, false, List, [], ◌∷◌, ◌++◌, Contains, Some, None, is_none, option_map, Result, Ok, Err, OnOk, replicate, length, take, get_or, slice_set}
 use Rattle.std.specs.Borrow.{Bor}
 use Rattle.std.specs.List.{slice_get, list_any, flat_map}
@@ -15,11 +15,11 @@ use Rattle.deb_control.specs.declared.relation.Clause.{Clause}
 use Rattle.deb_control.specs.declared.relation.Provision.{Provision}
 use Rattle.testing_install.specs.Among.{with_all}
 use Rattle.testing_install.specs.Closed.{marked}
-use Rattle.testing_install.specs.Index.{PlacesByName, places_at, bears}
-use Rattle.testing_install.specs.Needers.{names, IsNotedAt}
-use Rattle.testing_install.specs.steps.Needers.{places_for}
+use Rattle.testing_install.specs.Index.{PlacesByName, places_at, provides_name}
+use Rattle.testing_install.specs.Dependents.{names, IsNotedAt}
+use Rattle.testing_install.specs.steps.Dependents.{places_for}
 use Rattle.testing_install.specs.Satisfies.{satisfies}
-use Rattle.testing_install.proofs.Finding.{any_true, any_at, satisfies_bears}
+use Rattle.testing_install.proofs.Finding.{any_true, any_at, satisfies_provides}
 use Rattle.testing_install.proofs.Marking.{with_stays, with_here, with_elsewhere, mark_within}
 use Rattle.testing_install.proofs.Members.{contains_part}
 use Rattle.testing_install.proofs.Needing.{found_more}
@@ -70,8 +70,8 @@ numbers_of_part excuses xs ys part numbered = record { each = λ c d. numbered.e
 
 -- Flags that are cleared.
 
--- the places at each name that the package bears
-in_places : (noted : PlacesByName) (b : Binary) (name : Text) (k : ℕ) → bears b name ≡ true → Contains (places_at noted name) k → Contains (places_for noted b) k
+-- the places at each name that the package provides
+in_places : (noted : PlacesByName) (b : Binary) (name : Text) (k : ℕ) → provides_name b name ≡ true → Contains (places_at noted name) k → Contains (places_for noted b) k
 in_places noted b name k e c = elim (or_cases (bytes_eq b.name name) (list_any (λ p. bytes_eq p.name name) b.provides) e) [
   | inl own ↦ (
       let same : b.name ≡ name = (bytes_eq-Decides b.name name).0 own in
@@ -125,7 +125,7 @@ woken_more rows old mid new row before flags noted =
       woken = λ k r name c b at on. elim (Contains-push_cases rows row r c) [
         | inl among ↦ before.woken k r name among b at (left_set ks mid.flags.items k (left k on))
         | inr own ↦ left_out ks mid.flags.items k (left k on)
-            (in_places mid.noted row.binary name k (ap (λ (q : RowIn). bears q.binary name) own ∙ b) (subst (λ i. Contains (places_at i name) k) (sym before.noted) at))
+            (in_places mid.noted row.binary name k (ap (λ (q : RowIn). provides_name q.binary name) own ∙ b) (subst (λ i. Contains (places_at i name) k) (sym before.noted) at))
       ];
     }
 
@@ -206,7 +206,7 @@ module _ (m : Moment) (excuses : List Excuse) where
               let d : Alternative = record { name = []; relation = None } in
               let a = get_or r.clause f.0 d in
               let named : names r.clause a.name ≡ true = any_true (λ b. bytes_eq b.name a.name) r.clause f.0 d f.1 ((bytes_eq-Decides a.name a.name).1 refl) in
-              woken.woken k q a.name c (satisfies_bears q.binary a (f.2 d)) (r.at_names a.name named) on);
+              woken.woken k q a.name c (satisfies_provides q.binary a (f.2 d)) (r.at_names a.name named) on);
           at_names = λ name n. subst (λ i. Contains (places_at i name) k) (sym woken.noted) (r.at_names name n);
         };
   }

@@ -6,7 +6,7 @@ use Rattle.testing_rules_items.specs.Words.{Text}
 use Rattle.testing_rules_model.specs.declared.excuse.Excuse.{Excuse}
 use Rattle.testing_rules_model.specs.declared.update.Offender.{Offender}
 use Rattle.testing_rules_model.specs.Suite.{Suite}
-use Rattle.testing_rules_moves.specs.steps.Runs.{Basis, Run, go_on, moment_of, broken_by_move}
+use Rattle.testing_rules_moves.specs.steps.Runs.{RunBasis, Run, go_on, moment_of, broken_by_move}
 use Rattle.testing_rules_model.specs.Updates.{Outcome, then_do, in_turn, decide, offender_alone, moved_alone}
 use Rattle.testing_rules_model.specs.steps.Updates.{accepted, waiting, is_allowed_alone, move_circle, wait}
 use Rattle.testing_rules_moves.proofs.InTurn.{turn-next, turns-over, hint-next, hint-skipped, hints-over, passing-next, passing-skipped, passing-over}
@@ -16,7 +16,7 @@ use Rattle.testing_rules_moves.proofs.Circle.{circle-next, circle-over, wait-for
 abbrev with_outcome : Run → Outcome → Run
 with_outcome r o = record { basis = r.basis; outcome = o }
 
-module _ {A B : Type 0} (step : Basis → B → Suite → Outcome) (f : A → B) (xs : List A) (i : ℕ) where
+module _ {A B : Type 0} (step : RunBasis → B → Suite → Outcome) (f : A → B) (xs : List A) (i : ℕ) where
   -- one turn of those from i on
   pub run-next : (d : A) → i < length xs → (r : Run)
       → go_on (go_on r (λ b. step b (f (get_or xs i d)))) (λ b. in_turn (step b) (map f (drop (i + 1) xs))) ≡ go_on r (λ b. in_turn (step b) (map f (drop i xs)))
@@ -26,7 +26,7 @@ module _ {A B : Type 0} (step : Basis → B → Suite → Outcome) (f : A → B)
   pub run-over : (r : Run) → length xs ≤ i → go_on r (λ b. in_turn (step b) (map f (drop i xs))) ≡ r
   run-over r h = ap (with_outcome r) (turns-over (step r.basis) f xs i r.outcome h)
 
-module _ {A B : Type 0} (step : Basis → B → Suite → Outcome) (turns : A → List B) (test : A → Bool) (hs : List A) (i : ℕ) where
+module _ {A B : Type 0} (step : RunBasis → B → Suite → Outcome) (turns : A → List B) (test : A → Bool) (hs : List A) (i : ℕ) where
   -- the turns of one element that passes
   pub run_hint-next : (d : A) → i < length hs → test (get_or hs i d) ≡ true → (r : Run)
       → go_on (go_on r (λ b. in_turn (step b) (turns (get_or hs i d)))) (λ b. in_turn (step b) (flat_map turns (filter test (drop (i + 1) hs))))
@@ -42,7 +42,7 @@ module _ {A B : Type 0} (step : Basis → B → Suite → Outcome) (turns : A �
   pub run_hints-over : length hs ≤ i → (r : Run) → go_on r (λ b. in_turn (step b) (flat_map turns (filter test (drop i hs)))) ≡ r
   run_hints-over h r = ap (with_outcome r) (hints-over (step r.basis) turns test hs i h r.outcome)
 
-module _ {A : Type 0} (step : Basis → A → Suite → Outcome) (test : A → Bool) (hs : List A) (i : ℕ) where
+module _ {A : Type 0} (step : RunBasis → A → Suite → Outcome) (test : A → Bool) (hs : List A) (i : ℕ) where
   -- the turn of one element that passes
   pub run_passing-next : (d : A) → i < length hs → test (get_or hs i d) ≡ true → (r : Run)
       → go_on (go_on r (λ b. step b (get_or hs i d))) (λ b. in_turn (step b) (filter test (drop (i + 1) hs))) ≡ go_on r (λ b. in_turn (step b) (filter test (drop i hs)))
@@ -62,11 +62,11 @@ abbrev pub allowed_in : Run → Excuse → Bool
 allowed_in r = is_allowed_alone r.basis.archs r.basis.sources r.basis.rows r.outcome.suite
 
 -- the single moves of a circle
-abbrev pub circle_in : List Excuse → Basis → Suite → Outcome
+abbrev pub circle_in : List Excuse → RunBasis → Suite → Outcome
 circle_in es b = move_circle b.archs b.sources b.rows es
 
 -- a candidate moves alone
-abbrev pub alone_in : Excuse → Basis → Suite → Outcome
+abbrev pub alone_in : Excuse → RunBasis → Suite → Outcome
 alone_in e b t = decide (accepted e) (moved_alone b.sources b.rows t e)
 
 -- no candidate of the circle may move

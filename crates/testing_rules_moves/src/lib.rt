@@ -2,16 +2,16 @@
 #![tactic(auto)]
 
 mod beside;
-mod breaking;
+mod breaks;
 mod groups;
+mod hint_turns;
 mod live;
 mod migration;
 mod refusals;
 mod singles;
-mod turning;
 mod turns;
 
 pub use beside::{broken_by_group, broken_by_removal};
+pub use hint_turns::{at_group, at_removal, hinted};
 pub use migration::migrate;
-pub use turning::{at_group, at_removal, hinted};
 pub use turns::Basis;

@@ -12,7 +12,7 @@ ghost use Rattle.testing_rules_model.specs.declared.excuse.Excuse.{Excuse as AnE
 ghost use Rattle.testing_rules_moves.specs.steps.Refusals.{AreRefused, AreWoken};
 ghost use Rattle.testing_rules_moves.specs.steps.Runs.{after_move, broken_by_move, after_removal, broken_by_removal, IsLacking};
 
-use crate::breaking;
+use crate::breaks;
 use crate::refusals::{Refusals, no_refusals};
 use deb_control::{Clause, Text};
 use deb_version::{NoMemory, Version};
@@ -125,7 +125,7 @@ impl<'u, 'a> LiveTesting<'u, 'a> {
     {
         let near = place_of_group(self.unstable.sources, group, self.near);
         self.near = near;
-        let (offender, _change) = breaking::broken_by_move(
+        let (offender, _change) = breaks::broken_by_move(
             alloc,
             &mut self.rows,
             self.archs,
@@ -142,7 +142,7 @@ impl<'u, 'a> LiveTesting<'u, 'a> {
         ensures lacks { IfOk result (λ found. IfSome found (λ clause. IsLacking group.now self.now clause.now)) }
         ensures refused { IfOk result (λ found. IfSome found (λ clause. is_none (broken_by_move group.now self.now) ≡ false)) }
     {
-        breaking::lack_by_move(alloc, &self.rows, self.unstable, self.near, group)
+        breaks::lack_by_move(alloc, &self.rows, self.unstable, self.near, group)
     }
 
     /// None of this many candidates was refused so far.
@@ -171,7 +171,7 @@ impl<'u, 'a> LiveTesting<'u, 'a> {
     {
         let near = place_of_group(self.unstable.sources, group, self.near);
         self.near = near;
-        let (offender, change) = breaking::broken_by_move(
+        let (offender, change) = breaks::broken_by_move(
             alloc,
             &mut self.rows,
             self.archs,
@@ -182,7 +182,7 @@ impl<'u, 'a> LiveTesting<'u, 'a> {
         if offender.is_some() {
             return Ok(offender);
         }
-        breaking::wake_by_change(&self.rows, &change, refusals);
+        breaks::wake_by_change(&self.rows, &change, refusals);
         self.sources
             .move_group(alloc, self.unstable.sources, near, group)?;
         let rows = mem::replace(&mut self.rows, LiveRows::Listed(Vec::new(alloc)));
@@ -199,7 +199,7 @@ impl<'u, 'a> LiveTesting<'u, 'a> {
         ensures same { self.new ≡ self.old }
         ensures offender { IfOk result (λ o. o ≡ broken_by_removal name.now self.old) }
     {
-        breaking::broken_by_removal(alloc, &mut self.rows, self.archs, self.unstable, name)
+        breaks::broken_by_removal(alloc, &mut self.rows, self.archs, self.unstable, name)
     }
 
     /// Removes a source.

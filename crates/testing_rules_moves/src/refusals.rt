@@ -1,11 +1,11 @@
-//! Candidates refused for a clause that no row met. They aren't tried again until a row comes that bears a name in the
-//! clause.
+//! Candidates refused for a clause that no row met. They aren't tried again until a row comes that provides a name in
+//! the clause.
 
 ghost use Rattle.std.specs.Prelude.{◌≡◌, true, false, [], OnOk, IfOk, replicate, slice_set};
 ghost use Rattle.testing_install.specs.Among.{with_all};
 ghost use Rattle.testing_install.specs.Closed.{marked};
 ghost use Rattle.testing_install.specs.Index.{places_at};
-ghost use Rattle.testing_install.specs.Needers.{IsNotedAt, names};
+ghost use Rattle.testing_install.specs.Dependents.{IsNotedAt, names};
 ghost use Rattle.testing_rules_moves.specs.steps.LentItems.{lent_excuses};
 ghost use Rattle.testing_rules_moves.specs.steps.Refusals.{excuses_of, AreNumbered, woken_by};
 
@@ -95,7 +95,7 @@ fn wake_at(flags: &mut Vec<bool>, noted: &NameIndex, name: &str)
     clear_flags(flags, noted.places(name));
 }
 
-/// Clears the flags noted at a name that the package bears.
+/// Clears the flags noted at a name that the package provides.
 fn wake_by(flags: &mut Vec<bool>, noted: &NameIndex, binary: &Binary)
     ensures { flags.new.items ≡ woken_by noted.now binary.now flags.old.items }
 {

@@ -60,7 +60,7 @@ impl<'u, 'a> Turns<'u, 'a> {
         }
     }
 
-    /// No decision yet, over testing with the suites kept of its rows.
+    /// No decision yet, over this testing, with the suites kept for its rows, if any.
     pub fn over(
         alloc: Global,
         basis: &Basis<'u, 'a>,

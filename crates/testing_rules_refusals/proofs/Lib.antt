@@ -12,4 +12,4 @@ pub mod Working
 pub mod Leaving
 pub mod Freeing
 pub mod Blocks
-pub mod LineBearers
+pub mod LineProviders

@@ -41,12 +41,12 @@ abbrev pub need_at : List RowIn → List Step → ℕ → Option RowNeed
 need_at rows steps number = option_map_or (need_by rows) (step_at steps number) None
 
 -- the row of the line with the number meets the clause (Debian Policy 7.1 and 7.5)
-abbrev pub is_bearer : List RowIn → List Step → Clause → ℕ → Bool
-is_bearer rows steps clause number = option_map_or (λ n. meets n.row.binary clause) (need_at rows steps number) false
+abbrev pub is_provider : List RowIn → List Step → Clause → ℕ → Bool
+is_provider rows steps clause number = option_map_or (λ n. meets n.row.binary clause) (need_at rows steps number) false
 
 -- the numbers of the lines whose rows meet the clause
-abbrev pub bearers : List RowIn → List Step → Clause → List ℕ
-bearers rows steps clause = filter (is_bearer rows steps clause) (range_with_len 1 (length steps))
+abbrev pub providers : List RowIn → List Step → Clause → List ℕ
+providers rows steps clause = filter (is_provider rows steps clause) (range_with_len 1 (length steps))
 
 -- the given rows that meet the clause
 abbrev pub meeting : Clause → List RowIn → List RowIn

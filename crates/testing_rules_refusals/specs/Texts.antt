@@ -15,7 +15,7 @@ use Rattle.testing_rules_model.specs.Suite.{Suite}
 use Rattle.testing_rules_excuses.specs.declared.states.State.{State}
 use Rattle.testing_rules_excuses.specs.declared.states.State.TheVariants.{Waits, NotCandidate, NotCurrent, ComesToo, InTesting}
 use Rattle.testing_rules_excuses.specs.States.{is_current_in, state_of}
-use Rattle.testing_rules_refusals.specs.declared.telling.Telling.{Telling}
+use Rattle.testing_rules_refusals.specs.declared.proof_text.Telling.{Telling}
 use Rattle.testing_rules_refusals.specs.Lines.{package_text, need_line, leaves_line}
 use Rattle.testing_rules_refusals.specs.Told.{ToldLine}
 use Rattle.testing_rules_reports.specs.Reports.{words, reason_words}

@@ -7,7 +7,7 @@ use Rattle.testing_rules_items.specs.Words.{is_empty}
 use Rattle.testing_rules_model.specs.declared.suite.RowIn.{RowIn}
 use Rattle.testing_rules_model.specs.JudgedRows.{lent}
 use Rattle.testing_rules_refusals.specs.declared.told.Told.{Told}
-use Rattle.testing_rules_refusals.specs.Needs.{RowNeed, need_of, need_at, bearers, meeting}
+use Rattle.testing_rules_refusals.specs.Needs.{RowNeed, need_of, need_at, providers, meeting}
 use Rattle.testing_install_why.specs.declared.Step.{Step}
 
 -- a line: its number, a row with a clause, who meets the clause, or if nobody does, who met it before and who of
@@ -30,7 +30,7 @@ met_where is_unmet clause rows = if is_unmet then meeting clause rows else []
 -- the line of a row and its clause
 abbrev pub line_of_need : List RowIn → List Step → List RowIn → List RowIn → ℕ → RowNeed → ToldLine
 line_of_need rows steps before unstable number n =
-    let met_by = bearers rows steps n.clause in
+    let met_by = providers rows steps n.clause in
     record {
       number = number;
       need = n;

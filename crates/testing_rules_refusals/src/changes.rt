@@ -16,9 +16,9 @@ ghost use Rattle.testing_rules_refusals.specs.Told.{lines_of};
 ghost use Rattle.testing_rules_refusals.specs.ToldChange.{IsToldChange, IsToldMove, IsToldRemoval};
 ghost use Rattle.testing_rules_suites.specs.steps.AfterMoves as after;
 
+use crate::proof_text::{Telling, refusal_text};
 use crate::refusal::{Refusal, refused};
 use crate::shown::shown_of;
-use crate::telling::{Telling, refusal_text};
 use crate::told::refusal_lines;
 use deb_control::Text;
 use deb_version::NoMemory;

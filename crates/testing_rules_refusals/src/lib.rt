@@ -2,26 +2,26 @@
 //! installable after it. And why no group at all frees a source, in blocks of such lines.
 #![tactic(auto)]
 
-mod bearing;
 mod changes;
-mod failing;
+mod failures;
 mod judged;
 pub mod laws;
 mod lines;
+mod living;
 mod needs;
+mod proof_text;
+mod providers;
 mod reach;
 mod refusal;
 mod shown;
-mod standing;
 mod stuck;
-mod telling;
 mod told;
 
 pub use changes::{group_refusal, removal_refusal, why_waits};
 pub use lines::{push_clause, push_leaving, push_need, push_package};
+pub use living::{is_in_testing, version_in};
 pub use needs::{Need, meeting, need_at};
+pub use proof_text::{Telling, push_reasons, refusal_text};
 pub use refusal::{Refusal, refused};
-pub use standing::{is_in_testing, version_in};
 pub use stuck::{BehindHints, Suspect, stuck_text};
-pub use telling::{Telling, push_reasons, refusal_text};
 pub use told::{Told, refusal_lines};

@@ -9,27 +9,27 @@ use testing_install::{NameIndex, Row, meets};
 use testing_install_why::Step;
 use testing_rules_model::LentRow;
 
-/// Notes the place of a row at each name that it bears.
+/// Notes the place of a row at each name that it provides.
 fn note_row(
     alloc: Global,
-    bearers: &mut NameIndex,
+    providers: &mut NameIndex,
     binary: &Binary,
     place: usize,
 ) -> Result<(), NoMemory> {
-    bearers.note(alloc, binary.name.as_str(), place)?;
+    providers.note(alloc, binary.name.as_str(), place)?;
     for provision in binary.provides.as_slice() {
-        bearers.note(alloc, provision.name.as_str(), place)?;
+        providers.note(alloc, provision.name.as_str(), place)?;
     }
     Ok(())
 }
 
-/// The places of the rows at each name that they bear.
-fn bearers_of(alloc: Global, rows: &[Row<'_>]) -> Result<NameIndex, NoMemory> {
-    let mut bearers = NameIndex::new(alloc);
+/// The places of the rows at each name that they provide.
+fn providers_of(alloc: Global, rows: &[Row<'_>]) -> Result<NameIndex, NoMemory> {
+    let mut providers = NameIndex::new(alloc);
     for place in 0..rows.len() {
-        note_row(alloc, &mut bearers, rows[place].binary, place)?;
+        note_row(alloc, &mut providers, rows[place].binary, place)?;
     }
-    Ok(bearers)
+    Ok(providers)
 }
 
 /// Adds the places that weren't seen before and whose rows meet the clause.
@@ -53,13 +53,13 @@ fn reach_among(
 /// Adds the places of the rows that meet the clause.
 fn reach_by(
     rows: &[Row<'_>],
-    bearers: &NameIndex,
+    providers: &NameIndex,
     clause: &Clause,
     seen: &mut HashSet<usize>,
     reached: &mut Vec<usize>,
 ) -> Result<(), NoMemory> {
     for alternative in clause.as_slice() {
-        let places = bearers.places(alternative.name.as_str());
+        let places = providers.places(alternative.name.as_str());
         reach_among(rows, clause, places, seen, reached)?;
     }
     Ok(())
@@ -68,13 +68,13 @@ fn reach_by(
 /// Adds the places of the rows that meet a clause of the package.
 fn reach_from(
     rows: &[Row<'_>],
-    bearers: &NameIndex,
+    providers: &NameIndex,
     binary: &Binary,
     seen: &mut HashSet<usize>,
     reached: &mut Vec<usize>,
 ) -> Result<(), NoMemory> {
     for clause in binary.clauses.as_slice() {
-        reach_by(rows, bearers, clause, seen, reached)?;
+        reach_by(rows, providers, clause, seen, reached)?;
     }
     Ok(())
 }
@@ -89,7 +89,7 @@ fn row_at<'a>(rows: &[Row<'a>], reached: &[usize], turn: usize) -> Option<Row<'a
 
 /// The place, followed by those of all rows that clauses reach from its row.
 pub fn reached_from(alloc: Global, rows: &[Row<'_>], place: usize) -> Result<Vec<usize>, NoMemory> {
-    let bearers = bearers_of(alloc, rows)?;
+    let providers = providers_of(alloc, rows)?;
     let mut seen = HashSet::new(alloc);
     let mut reached = Vec::new(alloc);
     seen.insert(place)?;
@@ -98,7 +98,7 @@ pub fn reached_from(alloc: Global, rows: &[Row<'_>], place: usize) -> Result<Vec
         let Some(row) = row_at(rows, &reached, turn) else {
             return Ok(reached);
         };
-        reach_from(rows, &bearers, row.binary, &mut seen, &mut reached)?;
+        reach_from(rows, &providers, row.binary, &mut seen, &mut reached)?;
     }
     Ok(reached)
 }

@@ -10,7 +10,7 @@ ghost use Rattle.testing_rules_refusals.specs.Refusals.{IsRefusal};
 ghost use Rattle.testing_rules_refusals.specs.steps.Refusals.{AreAllThere, IsFirstFailing, IsRefusalOn};
 ghost use Rattle.testing_rules_suites.specs.steps.JudgedRows.{answers};
 
-use crate::failing::place_of_first;
+use crate::failures::place_of_first;
 use crate::judged::{judged, judged_by, suite_of};
 use deb_control::Text;
 use deb_version::NoMemory;

@@ -18,11 +18,11 @@ ghost use Rattle.testing_rules_reports.specs.Reports.{offender_text};
 ghost use Rattle.testing_rules_suites.specs.steps.JudgedRows.{answers};
 
 use crate::changes::text_of;
+use crate::living::{coming_rows, has_key_of, in_key_order, living, rows_that_may_stand};
 use crate::needs::need_at;
+use crate::proof_text::{Telling, is_current_in};
 use crate::refusal::{Refusal, judged_rows};
 use crate::shown::steps_for;
-use crate::standing::{coming_rows, has_key_of, in_key_order, living, rows_that_may_stand};
-use crate::telling::{Telling, is_current_in};
 use deb_control::{Clause, Text};
 use deb_version::NoMemory;
 use std::alloc::{AllocError, Global};
@@ -56,7 +56,7 @@ pub struct BehindHints<'g> {
 
 /// The input of blocks: the architectures, unstable, the excuses of the run, and a testing with its rows.
 #[derive(Clone, Copy)]
-struct Ground<'g, 'a> {
+struct BlockInput<'g, 'a> {
     archs: &'g Archs,
     unstable: Unstable<'g, 'a>,
     excuses: &'g [Excuse],
@@ -154,23 +154,23 @@ fn staying_place(
 /// The first place of a row of the suspect's package that is due: its own, or else one that stays.
 fn due_place(
     alloc: Global,
-    ground: &Ground<'_, '_>,
+    input: &BlockInput<'_, '_>,
     live: &[Text],
     coming: &[LentRow],
     rows: &[LentRow],
     suspect: &Suspect,
 ) -> Result<Option<usize>, NoMemory>
-    requires old { lent ground.now.rows.now ≡ ground.now.testing.now.rows }
-    requires coming { lent coming.now ≡ words.coming_rows (unboxed ground.now.unstable.sources.now) (lent ground.now.unstable.rows.now) live.now }
-    requires rows { lent rows.now ≡ moves.rows_on suspect.now.arch (words.may_stand (unboxed ground.now.unstable.sources.now) (lent ground.now.unstable.rows.now) live.now suspect.now.name ground.now.testing.now) }
-    ensures { IfOk result (λ found. IfSome found (λ place. standing.IsDueAt (unboxed ground.now.unstable.sources.now) (lent ground.now.unstable.rows.now) live.now ground.now.testing.now
+    requires old { lent input.now.rows.now ≡ input.now.testing.now.rows }
+    requires coming { lent coming.now ≡ words.coming_rows (unboxed input.now.unstable.sources.now) (lent input.now.unstable.rows.now) live.now }
+    requires rows { lent rows.now ≡ moves.rows_on suspect.now.arch (words.may_stand (unboxed input.now.unstable.sources.now) (lent input.now.unstable.rows.now) live.now suspect.now.name input.now.testing.now) }
+    ensures { IfOk result (λ found. IfSome found (λ place. standing.IsDueAt (unboxed input.now.unstable.sources.now) (lent input.now.unstable.rows.now) live.now input.now.testing.now
         suspect.now.name (record { arch = suspect.now.arch; «package» = suspect.now.«package» }) (lent rows.now) place)) }
 {
     let (arch, package) = (suspect.arch, suspect.package.as_str());
     if let Some(place) = own_place(rows, arch, package, suspect.name.as_str()) {
         return Ok(Some(place));
     }
-    let before = judged_rows(alloc, arch, ground.rows)?;
+    let before = judged_rows(alloc, arch, input.rows)?;
     Ok(staying_place(rows, arch, package, &before, live, coming))
 }
 
@@ -190,22 +190,22 @@ fn is_among(names: &[Text], name: &str) -> bool
 /// live.
 fn shown_among<'a>(
     alloc: Global,
-    ground: &Ground<'_, 'a>,
+    input: &BlockInput<'_, 'a>,
     live: &[Text],
     suspect: &Suspect,
 ) -> Result<Option<Refusal<'a>>, NoMemory>
-    requires sources { AreBySource (unboxed ground.now.unstable.sources.now) }
-    requires old { lent ground.now.rows.now ≡ ground.now.testing.now.rows }
+    requires sources { AreBySource (unboxed input.now.unstable.sources.now) }
+    requires old { lent input.now.rows.now ≡ input.now.testing.now.rows }
     requires lives { list_any (bytes_eq suspect.now.name) live.now ≡ true }
-    requires listed { suspect.now.arch < length ground.now.archs.now }
-    ensures { IfOk result (λ found. IfSome found (λ r. standing.IsBlockOf ground.now.archs.now (unboxed ground.now.unstable.sources.now) (lent ground.now.unstable.rows.now) live.now ground.now.testing.now
+    requires listed { suspect.now.arch < length input.now.archs.now }
+    ensures { IfOk result (λ found. IfSome found (λ r. standing.IsBlockOf input.now.archs.now (unboxed input.now.unstable.sources.now) (lent input.now.unstable.rows.now) live.now input.now.testing.now
         suspect.now.name r.offender (lent r.rows.items) r.steps.items)) }
 {
     let arch = suspect.arch;
-    in_key_order(ground.testing);
-    let coming = coming_rows(alloc, ground.unstable, live)?;
-    let rows = rows_that_may_stand(alloc, arch, ground.rows, &coming, &suspect.name)?;
-    let Some(place) = due_place(alloc, ground, live, &coming, &rows, suspect)? else {
+    in_key_order(input.testing);
+    let coming = coming_rows(alloc, input.unstable, live)?;
+    let rows = rows_that_may_stand(alloc, arch, input.rows, &coming, &suspect.name)?;
+    let Some(place) = due_place(alloc, input, live, &coming, &rows, suspect)? else {
         return Ok(None);
     };
     let Some(steps) = steps_for(alloc, &rows, place)? else {
@@ -222,19 +222,19 @@ fn shown_among<'a>(
 /// The same, if the suspect is living, and its architecture is listed.
 fn block_of<'a>(
     alloc: Global,
-    ground: &Ground<'_, 'a>,
+    input: &BlockInput<'_, 'a>,
     live: &[Text],
     suspect: &Suspect,
 ) -> Result<Option<Refusal<'a>>, NoMemory>
-    requires sources { AreBySource (unboxed ground.now.unstable.sources.now) }
-    requires old { lent ground.now.rows.now ≡ ground.now.testing.now.rows }
-    ensures { IfOk result (λ found. IfSome found (λ r. standing.IsBlockOf ground.now.archs.now (unboxed ground.now.unstable.sources.now) (lent ground.now.unstable.rows.now) live.now ground.now.testing.now
+    requires sources { AreBySource (unboxed input.now.unstable.sources.now) }
+    requires old { lent input.now.rows.now ≡ input.now.testing.now.rows }
+    ensures { IfOk result (λ found. IfSome found (λ r. standing.IsBlockOf input.now.archs.now (unboxed input.now.unstable.sources.now) (lent input.now.unstable.rows.now) live.now input.now.testing.now
         suspect.now.name r.offender (lent r.rows.items) r.steps.items)) }
 {
-    if suspect.arch >= ground.archs.len() || !is_among(live, suspect.name.as_str()) {
+    if suspect.arch >= input.archs.len() || !is_among(live, suspect.name.as_str()) {
         return Ok(None);
     }
-    shown_among(alloc, ground, live, suspect)
+    shown_among(alloc, input, live, suspect)
 }
 
 /// The first line of a block.
@@ -265,46 +265,46 @@ fn version_of<'a>(excuses: &'a [Excuse], name: &str) -> &'a str
 /// The lines of a block after its first one.
 fn lines_of<'a>(
     alloc: Global,
-    ground: &Ground<'_, 'a>,
+    input: &BlockInput<'_, 'a>,
     dead: &[Text],
     live: &[Text],
     refusal: &Refusal<'a>,
 ) -> Result<Text, NoMemory>
-    requires { AreBySource (unboxed ground.now.unstable.sources.now) }
-    ensures { IfOk result (λ text. text ≡ texts.refusal_text ground.now.testing.now (record { archs = ground.now.archs.now; sources = unboxed ground.now.unstable.sources.now; excuses = ground.now.excuses.now; coming = live.now; stuck = dead.now })
-        (told_words.lines_of (lent refusal.now.rows.items) refusal.now.steps.items (moves.rows_on refusal.now.offender.arch (lent ground.now.rows.now))
-        (moves.rows_on refusal.now.offender.arch (lent ground.now.unstable.rows.now)))) }
+    requires { AreBySource (unboxed input.now.unstable.sources.now) }
+    ensures { IfOk result (λ text. text ≡ texts.refusal_text input.now.testing.now (record { archs = input.now.archs.now; sources = unboxed input.now.unstable.sources.now; excuses = input.now.excuses.now; coming = live.now; stuck = dead.now })
+        (told_words.lines_of (lent refusal.now.rows.items) refusal.now.steps.items (moves.rows_on refusal.now.offender.arch (lent input.now.rows.now))
+        (moves.rows_on refusal.now.offender.arch (lent input.now.unstable.rows.now)))) }
 {
     let telling = Telling {
-        archs: ground.archs,
-        unstable: ground.unstable,
-        excuses: ground.excuses,
-        testing: ground.testing,
+        archs: input.archs,
+        unstable: input.unstable,
+        excuses: input.excuses,
+        testing: input.testing,
         coming: live,
         stuck: dead,
     };
-    text_of(alloc, &telling, ground.rows, refusal)
+    text_of(alloc, &telling, input.rows, refusal)
 }
 
 /// All lines of a block.
 fn block_text<'a>(
     alloc: Global,
-    ground: &Ground<'_, 'a>,
+    input: &BlockInput<'_, 'a>,
     dead: &[Text],
     live: &[Text],
     name: &str,
     refusal: &Refusal<'a>,
 ) -> Result<Text, NoMemory>
-    requires { AreBySource (unboxed ground.now.unstable.sources.now) }
-    ensures { IfOk result (λ text. text ≡ words.stuck_line ground.now.archs.now ground.now.excuses.now (record { name = name.now; offender = refusal.now.offender; steps = refusal.now.steps.items })
-        ++ texts.refusal_text ground.now.testing.now (record { archs = ground.now.archs.now; sources = unboxed ground.now.unstable.sources.now; excuses = ground.now.excuses.now; coming = live.now; stuck = dead.now })
-        (told_words.lines_of (lent refusal.now.rows.items) refusal.now.steps.items (moves.rows_on refusal.now.offender.arch (lent ground.now.rows.now))
-        (moves.rows_on refusal.now.offender.arch (lent ground.now.unstable.rows.now)))) }
+    requires { AreBySource (unboxed input.now.unstable.sources.now) }
+    ensures { IfOk result (λ text. text ≡ words.stuck_line input.now.archs.now input.now.excuses.now (record { name = name.now; offender = refusal.now.offender; steps = refusal.now.steps.items })
+        ++ texts.refusal_text input.now.testing.now (record { archs = input.now.archs.now; sources = unboxed input.now.unstable.sources.now; excuses = input.now.excuses.now; coming = live.now; stuck = dead.now })
+        (told_words.lines_of (lent refusal.now.rows.items) refusal.now.steps.items (moves.rows_on refusal.now.offender.arch (lent input.now.rows.now))
+        (moves.rows_on refusal.now.offender.arch (lent input.now.unstable.rows.now)))) }
 {
     let mut text = String::new(alloc);
-    let version = version_of(ground.excuses, name);
-    push_stuck(&mut text, ground.archs, name, version, &refusal.offender)?;
-    let lines = lines_of(alloc, ground, dead, live, refusal)?;
+    let version = version_of(input.excuses, name);
+    push_stuck(&mut text, input.archs, name, version, &refusal.offender)?;
+    let lines = lines_of(alloc, input, dead, live, refusal)?;
     text.push_str(lines.as_str())?;
     Ok(Text::from_string(text))
 }
@@ -312,21 +312,21 @@ fn block_text<'a>(
 /// The block of the suspect while these are dead. There is none if the search was wrong about it.
 fn told_block(
     alloc: Global,
-    ground: &Ground<'_, '_>,
+    input: &BlockInput<'_, '_>,
     dead: &[Text],
     suspect: &Suspect,
 ) -> Result<Option<Text>, NoMemory>
-    requires sources { AreBySource (unboxed ground.now.unstable.sources.now) }
-    requires old { lent ground.now.rows.now ≡ ground.now.testing.now.rows }
-    ensures { IfOk result (λ found. IfSome found (λ text. standing.IsToldBlock ground.now.archs.now (unboxed ground.now.unstable.sources.now) (lent ground.now.unstable.rows.now) ground.now.excuses.now ground.now.testing.now
+    requires sources { AreBySource (unboxed input.now.unstable.sources.now) }
+    requires old { lent input.now.rows.now ≡ input.now.testing.now.rows }
+    ensures { IfOk result (λ found. IfSome found (λ text. standing.IsToldBlock input.now.archs.now (unboxed input.now.unstable.sources.now) (lent input.now.unstable.rows.now) input.now.excuses.now input.now.testing.now
         dead.now suspect.now.name text)) }
 {
-    let live = living(alloc, ground.excuses, ground.testing, dead)?;
-    let Some(refusal) = block_of(alloc, ground, &live, suspect)? else {
+    let live = living(alloc, input.excuses, input.testing, dead)?;
+    let Some(refusal) = block_of(alloc, input, &live, suspect)? else {
         return Ok(None);
     };
     let name = suspect.name.as_str();
-    let text = block_text(alloc, ground, dead, &live, name, &refusal)?;
+    let text = block_text(alloc, input, dead, &live, name, &refusal)?;
     Ok(Some(text))
 }
 
@@ -370,18 +370,18 @@ fn with_block(
 /// Adds the suspect's block before the blocks so far, whose sources count as dead for it.
 fn with_block_of(
     alloc: Global,
-    ground: &Ground<'_, '_>,
+    input: &BlockInput<'_, '_>,
     told: ToldBlocks,
     suspect: &Suspect,
 ) -> Result<Option<ToldBlocks>, NoMemory>
-    requires sources { AreBySource (unboxed ground.now.unstable.sources.now) }
-    requires old { lent ground.now.rows.now ≡ ground.now.testing.now.rows }
-    requires told { standing.AreToldBlocks ground.now.archs.now (unboxed ground.now.unstable.sources.now) (lent ground.now.unstable.rows.now) ground.now.excuses.now ground.now.testing.now
+    requires sources { AreBySource (unboxed input.now.unstable.sources.now) }
+    requires old { lent input.now.rows.now ≡ input.now.testing.now.rows }
+    requires told { standing.AreToldBlocks input.now.archs.now (unboxed input.now.unstable.sources.now) (lent input.now.unstable.rows.now) input.now.excuses.now input.now.testing.now
         told.names.items told.text }
-    ensures { IfOk result (λ found. IfSome found (λ more. standing.AreToldBlocks ground.now.archs.now (unboxed ground.now.unstable.sources.now) (lent ground.now.unstable.rows.now) ground.now.excuses.now ground.now.testing.now
+    ensures { IfOk result (λ found. IfSome found (λ more. standing.AreToldBlocks input.now.archs.now (unboxed input.now.unstable.sources.now) (lent input.now.unstable.rows.now) input.now.excuses.now input.now.testing.now
         more.names.items more.text)) }
 {
-    let Some(block) = told_block(alloc, ground, &told.names, suspect)? else {
+    let Some(block) = told_block(alloc, input, &told.names, suspect)? else {
         return Ok(None);
     };
     let more = with_block(alloc, told, &suspect.name, &block)?;
@@ -392,17 +392,17 @@ fn with_block_of(
 /// wrong about one of them.
 fn told_blocks(
     alloc: Global,
-    ground: &Ground<'_, '_>,
+    input: &BlockInput<'_, '_>,
     suspects: &[&Suspect],
 ) -> Result<Option<ToldBlocks>, NoMemory>
-    requires sources { AreBySource (unboxed ground.now.unstable.sources.now) }
-    requires old { lent ground.now.rows.now ≡ ground.now.testing.now.rows }
-    ensures { IfOk result (λ found. IfSome found (λ told. standing.AreToldBlocks ground.now.archs.now (unboxed ground.now.unstable.sources.now) (lent ground.now.unstable.rows.now) ground.now.excuses.now ground.now.testing.now
+    requires sources { AreBySource (unboxed input.now.unstable.sources.now) }
+    requires old { lent input.now.rows.now ≡ input.now.testing.now.rows }
+    ensures { IfOk result (λ found. IfSome found (λ told. standing.AreToldBlocks input.now.archs.now (unboxed input.now.unstable.sources.now) (lent input.now.unstable.rows.now) input.now.excuses.now input.now.testing.now
         told.names.items told.text)) }
 {
     let mut told = no_blocks(alloc);
     for suspect in suspects {
-        match with_block_of(alloc, ground, told, *suspect)? {
+        match with_block_of(alloc, input, told, *suspect)? {
             Some(more) => told = more,
             None => return Ok(None),
         }
@@ -434,17 +434,17 @@ fn want(suspects: &[Suspect], round: u32, name: &str, wanted: &mut Vec<bool>) {
 }
 
 /// Marks the suspects of earlier rounds as wanted that would bring a row meeting the clause.
-fn want_bearers(
-    ground: &Ground<'_, '_>,
+fn want_providers(
+    input: &BlockInput<'_, '_>,
     suspects: &[Suspect],
     round: u32,
     clause: &Clause,
     wanted: &mut Vec<bool>,
 )
-    requires { AreBySource (unboxed ground.now.unstable.sources.now) }
+    requires { AreBySource (unboxed input.now.unstable.sources.now) }
 {
-    for row in ground.unstable.rows {
-        if meets(row.binary, clause) && is_current_in(ground.unstable.sources, row) {
+    for row in input.unstable.rows {
+        if meets(row.binary, clause) && is_current_in(input.unstable.sources, row) {
             want(suspects, round, row.binary.source.as_str(), wanted);
         }
     }
@@ -454,22 +454,22 @@ fn want_bearers(
 /// need.
 fn want_for(
     alloc: Global,
-    ground: &Ground<'_, '_>,
+    input: &BlockInput<'_, '_>,
     suspects: &[Suspect],
     suspect: &Suspect,
     wanted: &mut Vec<bool>,
 ) -> Result<(), NoMemory>
-    requires sources { AreBySource (unboxed ground.now.unstable.sources.now) }
-    requires old { lent ground.now.rows.now ≡ ground.now.testing.now.rows }
+    requires sources { AreBySource (unboxed input.now.unstable.sources.now) }
+    requires old { lent input.now.rows.now ≡ input.now.testing.now.rows }
 {
     let dead = names_before(alloc, suspects, suspect.round)?;
-    let live = living(alloc, ground.excuses, ground.testing, &dead)?;
-    let Some(refusal) = block_of(alloc, ground, &live, suspect)? else {
+    let live = living(alloc, input.excuses, input.testing, &dead)?;
+    let Some(refusal) = block_of(alloc, input, &live, suspect)? else {
         return Ok(());
     };
     for before in 0..refusal.steps.len() {
         if let Some(need) = need_at(&refusal.rows, &refusal.steps, before + 1) {
-            want_bearers(ground, suspects, suspect.round, need.clause, wanted);
+            want_providers(input, suspects, suspect.round, need.clause, wanted);
         }
     }
     Ok(())
@@ -502,18 +502,18 @@ fn those_wanted<'s>(
 /// The suspects whose blocks the source's block rests on, itself last, if the suspects are ordered by round.
 fn resting<'s>(
     alloc: Global,
-    ground: &Ground<'_, '_>,
+    input: &BlockInput<'_, '_>,
     suspects: &'s [Suspect],
     source: &str,
 ) -> Result<Vec<&'s Suspect>, NoMemory>
-    requires sources { AreBySource (unboxed ground.now.unstable.sources.now) }
-    requires old { lent ground.now.rows.now ≡ ground.now.testing.now.rows }
+    requires sources { AreBySource (unboxed input.now.unstable.sources.now) }
+    requires old { lent input.now.rows.now ≡ input.now.testing.now.rows }
 {
     let mut wanted = want_first(alloc, suspects, source)?;
     for behind in 0..suspects.len() {
         let place = suspects.len() - 1 - behind;
         if wanted.get(place) == Some(&true) {
-            want_for(alloc, ground, suspects, &suspects[place], &mut wanted)?;
+            want_for(alloc, input, suspects, &suspects[place], &mut wanted)?;
         }
     }
     those_wanted(alloc, suspects, &wanted)
@@ -529,19 +529,19 @@ fn is_first(names: &[Text], source: &str) -> bool
     }
 }
 
-/// The text of the blocks of the source, over this ground.
+/// The text of the blocks of the source, over this input.
 fn text_over(
     alloc: Global,
-    ground: &Ground<'_, '_>,
+    input: &BlockInput<'_, '_>,
     suspects: &[Suspect],
     source: &str,
 ) -> Result<Option<Text>, NoMemory>
-    requires sources { AreBySource (unboxed ground.now.unstable.sources.now) }
-    requires old { lent ground.now.rows.now ≡ ground.now.testing.now.rows }
-    ensures { IfOk result (λ found. IfSome found (words.IsStuckText ground.now.archs.now (unboxed ground.now.unstable.sources.now) (lent ground.now.unstable.rows.now) ground.now.excuses.now ground.now.testing.now source.now)) }
+    requires sources { AreBySource (unboxed input.now.unstable.sources.now) }
+    requires old { lent input.now.rows.now ≡ input.now.testing.now.rows }
+    ensures { IfOk result (λ found. IfSome found (words.IsStuckText input.now.archs.now (unboxed input.now.unstable.sources.now) (lent input.now.unstable.rows.now) input.now.excuses.now input.now.testing.now source.now)) }
 {
-    let chosen = resting(alloc, ground, suspects, source)?;
-    let Some(told) = told_blocks(alloc, ground, &chosen)? else {
+    let chosen = resting(alloc, input, suspects, source)?;
+    let Some(told) = told_blocks(alloc, input, &chosen)? else {
         return Ok(None);
     };
     if !is_first(&told.names, source) {
@@ -565,14 +565,14 @@ fn text_over_rows(
         rows: basis.rows,
     };
     let old = lend_rows(alloc, testing.rows())?;
-    let ground = Ground {
+    let input = BlockInput {
         archs: basis.archs,
         unstable,
         excuses: basis.excuses,
         testing,
         rows: &old,
     };
-    text_over(alloc, &ground, suspects, source)
+    text_over(alloc, &input, suspects, source)
 }
 
 /// A proof that no group frees the source, in blocks of lines, over a run behind its hints. The suspects are what a

@@ -8,8 +8,8 @@ ghost use Rattle.testing_rules_refusals.specs.Needs.{need_of};
 ghost use Rattle.testing_rules_refusals.specs.Told as rules;
 ghost use Rattle.testing_rules_refusals.specs.Told.{told_of};
 
-use crate::bearing::{bearers, noted_lines};
 use crate::needs::{Need, meeting, need_at};
+use crate::providers::{noted_lines, providers};
 use crate::refusal::Refusal;
 use deb_control::Clause;
 use deb_version::NoMemory;
@@ -56,7 +56,7 @@ fn line_of_need<'a>(
     requires { IsLineIndex (lent shown.now.rows.now) shown.now.steps.now shown.now.noted.now }
     ensures { IfOk result (λ told. told_of told ≡ rules.line_of_need (lent shown.now.rows.now) shown.now.steps.now (lent shown.now.before.now) (lent shown.now.unstable.now) number (need_of need.entry)) }
 {
-    let met_by = bearers(alloc, shown.rows, shown.steps, shown.noted, need.clause)?;
+    let met_by = providers(alloc, shown.rows, shown.steps, shown.noted, need.clause)?;
     let is_unmet = met_by.is_empty();
     let leaving = met_where(alloc, is_unmet, shown.before, need.clause)?;
     let offers = met_where(alloc, is_unmet, shown.unstable, need.clause)?;
@@ -70,7 +70,7 @@ fn line_of_need<'a>(
 }
 
 /// The rows on an architecture after a change and before it, those of unstable, and the steps over the first, with the
-/// numbers of their lines at each name that the lines' rows bear.
+/// numbers of their lines at each name that the lines' rows provide.
 #[derive(Clone, Copy)]
 struct Shown<'g, 'a> {
     rows: &'g [LentRow<'a>],

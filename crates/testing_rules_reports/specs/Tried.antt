@@ -4,8 +4,8 @@ use Rattle.std.specs.Str.Lines.{lines}
 use Rattle.jiff_core.specs.declared.civil.date.Date.{Date}
 use Rattle.jiff.specs.Words.{date_text}
 use Rattle.testing_rules_reports.specs.Changes.{changes, excuse_lines}
-use Rattle.testing_rules_reports.specs.declared.telling.Decided.{Decided}
-use Rattle.testing_rules_reports.specs.declared.telling.TrialReport.{TrialReport}
+use Rattle.testing_rules_reports.specs.declared.hint_lines.Decided.{Decided}
+use Rattle.testing_rules_reports.specs.declared.hint_lines.TrialReport.{TrialReport}
 
 -- the line on a sender's hint with this number, tried for a run of a date
 abbrev pub try_line : ℕ → Date → List ℕ → ℕ → List ℕ → List ℕ

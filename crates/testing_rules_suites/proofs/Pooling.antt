@@ -7,9 +7,9 @@ use Rattle.std.proofs.lemmas.Bool.{cases_lt}
 use Rattle.std.proofs.lemmas.List.{length-append, length-map, map-append, get_or_at}
 use Rattle.std.proofs.lemmas.Slice.Eq.{bytes_eq-Decides}
 use Rattle.deb_control.specs.declared.binary.Binary.{Binary}
-use Rattle.testing_install.specs.Index.{bears, PlacesByName, places_at}
+use Rattle.testing_install.specs.Index.{provides_name, PlacesByName, places_at}
 use Rattle.testing_install.specs.steps.Index.{IsIndex}
-use Rattle.testing_install.specs.Needers.{IsNotedAt}
+use Rattle.testing_install.specs.Dependents.{IsNotedAt}
 use Rattle.testing_install.proofs.Sharing.{slice_get_before}
 use Rattle.testing_rules_model.specs.declared.suite.RowIn.{RowIn}
 use Rattle.testing_rules_items.specs.Words.{Text}
@@ -35,8 +35,8 @@ module _ (texts : List Text) (text : Text) (old new : PlacesByName) (n : ℕ) (l
     ];
   }
 
--- one package more, whose place is noted at the names that it bears
-module _ (rows : List Binary) (row : Binary) (old new : PlacesByName) (n : ℕ) (long : n ≡ length rows) (to : IsIndex rows old) (noted : IsNotedAt (bears row) old new n) where
+-- one package more, whose place is noted at the names that it provides
+module _ (rows : List Binary) (row : Binary) (old new : PlacesByName) (n : ℕ) (long : n ≡ length rows) (to : IsIndex rows old) (noted : IsNotedAt (provides_name row) old new n) where
   count : length (rows ++ row ∷ []) ≡ n + 1
   count = omega (arith, length-append rows (row ∷ []), long)
 
@@ -49,13 +49,13 @@ module _ (rows : List Binary) (row : Binary) (old new : PlacesByName) (n : ℕ) 
           let same : k ≡ n = omega (arith, g, slice_get_within (rows ++ row ∷ []) k other at, count) in
           let here : slice_get (rows ++ row ∷ []) n ≡ Some row = slice_get_read (rows ++ row ∷ []) (n + 1) n row (sym count) (omega arith) (sym (get_or_at rows row [] row n (sym long))) in
           let alike : other ≡ row = same_Some other row (sym at ∙ ap (slice_get (rows ++ row ∷ [])) same ∙ here) in
-          subst (Contains (places_at new q)) (sym same) (noted.noted q (sym (ap (λ r. bears r q) alike) ∙ e)))
+          subst (Contains (places_at new q)) (sym same) (noted.noted q (sym (ap (λ r. provides_name r q) alike) ∙ e)))
     ];
   }
 
 -- one row more
 pub pool_behind : (rows : List RowIn) (row : RowIn) (s0 n0 s1 n1 : PlacesByName) (place : ℕ) → place ≡ length rows → IsPool rows s0 n0
-    → IsNotedAt (λ q. bytes_eq q row.binary.source) s0 s1 place → IsNotedAt (bears row.binary) n0 n1 place → IsPool (rows ++ row ∷ []) s1 n1
+    → IsNotedAt (λ q. bytes_eq q row.binary.source) s0 s1 place → IsNotedAt (provides_name row.binary) n0 n1 place → IsPool (rows ++ row ∷ []) s1 n1
 pool_behind rows row s0 n0 s1 n1 place e p sourced named =
     let source : RowIn → Text = λ r. r.binary.source in
     let binary_of : RowIn → Binary = λ r. r.binary in

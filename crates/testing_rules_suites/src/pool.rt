@@ -2,7 +2,7 @@
 
 ghost use Rattle.std.specs.Prelude.{◌≡◌, ℕ, ◌∷◌, ◌++◌, [], ◌<◌, true, length, Some, Contains, OnOk, IfOk};
 ghost use Rattle.std.specs.List.{All, slice_get};
-ghost use Rattle.testing_install.specs.Index.{bears};
+ghost use Rattle.testing_install.specs.Index.{provides_name};
 ghost use Rattle.testing_rules_model.specs.declared.suite.RowIn.{RowIn as ARow};
 ghost use Rattle.testing_rules_model.specs.JudgedRows.{lent, row_of};
 ghost use Rattle.testing_rules_suites.specs.steps.Pools.{IsPool, HasPlaces};
@@ -16,8 +16,8 @@ use std::rc::Rc;
 use testing_install::{NameIndex, note_row};
 use testing_rules_model::{LentRow, RowIn};
 
-/// The rows, with their places by the source that they name, by the names that the package bears, and in the order of
-/// their keys.
+/// The rows, with their places by the source that they name, by the names that the package provides, and in the order
+/// of their keys.
 pub struct Pool {
     rows: Vec<RowIn>,
     by_source: NameIndex,
@@ -142,10 +142,10 @@ impl Pool {
         self.by_source.places(name)
     }
 
-    /// The places of the rows whose package bears the name, its own or a provided one. They may include other places.
+    /// The places of the rows whose package provides the name, its own included. They may include other places.
     pub fn of_name(&self, name: &str) -> &[usize]
         ensures within { All (λ k. k < length self.now) result.now }
-        ensures complete { (k : ℕ) (r : ARow) → slice_get self.now k ≡ Some r → bears r.binary name.now ≡ true → Contains result.now k }
+        ensures complete { (k : ℕ) (r : ARow) → slice_get self.now k ≡ Some r → provides_name r.binary name.now ≡ true → Contains result.now k }
     {
         self.by_name.places(name)
     }

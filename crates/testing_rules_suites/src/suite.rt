@@ -9,8 +9,8 @@ ghost use Rattle.testing_rules_model.specs.steps.Places.{IsPlaceFor};
 ghost use Rattle.testing_rules_items.specs.Words.{byte_cmp};
 
 use crate::carried_suites::CarriedSuites;
+use crate::lent_suites::over_rows;
 use crate::order_rows;
-use crate::standing::over_rows;
 use deb_version::NoMemory;
 use std::alloc::{AllocError, Global};
 use std::cmp::Ordering;

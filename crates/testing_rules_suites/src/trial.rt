@@ -33,7 +33,7 @@ fn first_watched<'a>(arch: u32, pool: &'a Pool, places: &[usize]) -> Option<&'a 
 
 /// The first name in byte order of a watched row that the architecture would lose by the change. The suite has the
 /// pool's rows on the architecture, and is unchanged.
-fn first_lost<'a>(
+fn first_lost_in_suite<'a>(
     alloc: Global,
     arch: u32,
     pool: &'a Pool,
@@ -66,7 +66,7 @@ fn lost_on<'a>(
         → IsFirstLost arch pool.now there change.now.leaving.items change.now.coming.items (option_copied name)) }
 {
     let suite = &mut suites[arch as usize];
-    first_lost(alloc, arch, pool, suite, change)
+    first_lost_in_suite(alloc, arch, pool, suite, change)
 }
 
 /// The first row that the change would lose, by architecture in listed order and then by name.

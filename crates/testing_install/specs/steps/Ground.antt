@@ -1,4 +1,4 @@
--- What a search knows about the rows: their clauses, and the rows that bear each name.
+-- What a search knows about the rows: their clauses, and the rows that provide each name.
 use Rattle.std.specs.Prelude.{◌≡◌, ℕ, Bool, true, List, map, Some, Contains}
 use Rattle.std.specs.List.{slice_get}
 use Rattle.deb_control.specs.declared.binary.Binary.{Binary}
@@ -15,9 +15,9 @@ abbrev pub pairs : List Claim → List (ℕ × Clause)
 pairs claims = map (λ c. (c.owner, c.clause.now)) claims
 
 -- the claims are those of the rows, and the map is their index
-pub record IsGround (rows : List Binary) (claims : List Claim) (bearers : PlacesByName) : Type 0 where
+pub record IsGround (rows : List Binary) (claims : List Claim) (providers : PlacesByName) : Type 0 where
   pub claims_are : pairs claims ≡ claims_from 0 rows
-  pub index : IsIndex rows bearers
+  pub index : IsIndex rows providers
 
 -- no row of the set at these places satisfies the alternative
 pub record Misses (rows : List Binary) (set : ℕ → Bool) (alternative : Alternative) (places : List ℕ) : Type 0 where

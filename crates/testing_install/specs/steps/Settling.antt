@@ -37,8 +37,8 @@ pub record IsSettling (rows : List Binary) (there : ℕ → Bool) (first marks :
   pub fell : (k : ℕ) → Contains fallen k → (marked first k ≡ true) × (marked marks k ≡ false)
   pub all : (k : ℕ) → marked first k ≡ true → marked marks k ≡ false → Contains fallen k
 
--- what is true while rows get their marks back: the rows fresh have come or got one, the needers of those from next on
--- are still to be visited; before the change the old set was marked
+-- what is true while rows get their marks back: the rows fresh have come or got one, the dependents of those from next
+-- on are still to be visited; before the change the old set was marked
 pub record IsReviving (rows : List Binary) (there old : ℕ → Bool) (start marks : List Bool) (fresh : List ℕ) (next : ℕ) : Type 0 where
   pub inside : (k : ℕ) → marked marks k ≡ true → there k ≡ true
   pub grown : (k : ℕ) → marked start k ≡ true → marked marks k ≡ true

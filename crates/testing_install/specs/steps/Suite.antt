@@ -4,7 +4,7 @@ use Rattle.deb_control.specs.declared.binary.Binary.{Binary}
 use Rattle.testing_install.specs.steps.Among.{IsGreatestAmong}
 use Rattle.testing_install.specs.Closed.{marked}
 use Rattle.testing_install.specs.Index.{PlacesByName}
-use Rattle.testing_install.specs.steps.Needers.{IsGraph}
+use Rattle.testing_install.specs.steps.Dependents.{IsGraph}
 use Rattle.testing_install.specs.Tracked.{Tracked}
 
 -- there is one mark per row, and the installable rows are the greatest closed set of present rows
@@ -21,8 +21,8 @@ pub record IsChanged (rows : List Binary) (old_there old_installable there insta
   pub broken : (k : ℕ) → Contains lost k → (marked there k ≡ true) × (marked installable k ≡ false)
 
 -- the suite is right, and no change is left to keep or undo
-pub record IsSuite (rows : List Binary) (bearers needers : PlacesByName) (there installable : Tracked) : Type 0 where
-  pub graph : IsGraph rows bearers needers
+pub record IsSuite (rows : List Binary) (providers dependents : PlacesByName) (there installable : Tracked) : Type 0 where
+  pub graph : IsGraph rows providers dependents
   pub right : IsRight rows there.current installable.current
   pub there_kept : there.kept ≡ there.current
   pub installable_kept : installable.kept ≡ installable.current

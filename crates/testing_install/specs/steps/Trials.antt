@@ -20,6 +20,6 @@ pub record IsTried (rows : List Binary) (there installable : List Bool) (tried :
   pub right : IsRight rows (after_change tried.leaving.items tried.coming.items there) (after_change tried.falling.items tried.rising.items installable)
 
 -- the suite is right, and stays right with the remembered result of a trial
-pub record IsReady (rows : List Binary) (bearers needers : PlacesByName) (there installable : Tracked) (tried : LastTrial) : Type 0 where
-  pub suite : IsSuite rows bearers needers there installable
+pub record IsReady (rows : List Binary) (providers dependents : PlacesByName) (there installable : Tracked) (tried : LastTrial) : Type 0 where
+  pub suite : IsSuite rows providers dependents there installable
   pub remembered : IsTried rows there.current installable.current tried

@@ -4,7 +4,7 @@ use Rattle.std.specs.List.{slice_get}
 use Rattle.deb_control.specs.declared.binary.Binary.{Binary}
 use Rattle.deb_control.specs.declared.relation.Clause.{Clause}
 use Rattle.testing_install.specs.Index.{PlacesByName, places_at}
-use Rattle.testing_install.specs.Needers.{names}
+use Rattle.testing_install.specs.Dependents.{names}
 use Rattle.testing_install.specs.Satisfies.{meets}
 use Rattle.testing_install_why.specs.declared.Step.{Step}
 use Rattle.testing_install_why.specs.Order.{IsNamed}

@@ -4,7 +4,7 @@ use Rattle.std.specs.List.{slice_get}
 use Rattle.deb_control.specs.declared.binary.Binary.{Binary}
 use Rattle.testing_install.specs.steps.Among.{may_need}
 use Rattle.testing_install.specs.Closed.{marked}
-use Rattle.testing_install.specs.Needers.{needs_name}
+use Rattle.testing_install.specs.Dependents.{needs_name}
 
 -- no row with a clause that has the name is held
 pub record IsWokenAt (rows : List Binary) (held : List Bool) (name : List ℕ) : Type 0 where

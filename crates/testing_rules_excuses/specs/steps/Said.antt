@@ -8,7 +8,7 @@ use Rattle.testing_rules_model.specs.FactLists.{FactLists}
 use Rattle.testing_rules_model.specs.JudgedRows.{lent}
 use Rattle.testing_rules_model.specs.Suite.{Suite}
 use Rattle.testing_rules_model.specs.Unstable.{built_rows, is_in_force, is_of_source}
-use Rattle.testing_rules_excuses.specs.declared.saying.SourceFacts.{SourceFacts}
+use Rattle.testing_rules_excuses.specs.declared.source_facts.SourceFacts.{SourceFacts}
 use Rattle.testing_rules_excuses.specs.Said.{SaidLists}
 
 -- what is said of a source in the code's type

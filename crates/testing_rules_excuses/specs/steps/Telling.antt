@@ -5,7 +5,7 @@ use Rattle.testing_rules_model.specs.declared.excuse.Excuse.{Excuse}
 use Rattle.testing_rules_model.specs.declared.excuse.Reason.{Reason}
 use Rattle.testing_rules_model.specs.Boxed.{unboxed}
 use Rattle.testing_rules_model.specs.steps.FactOrder.{AreByNumber}
-use Rattle.testing_rules_excuses.specs.declared.telling.LineInput.{LineInput}
+use Rattle.testing_rules_excuses.specs.declared.reason_lines.LineInput.{LineInput}
 use Rattle.testing_rules_excuses.specs.Lines.{reason_text, excuse_lines, origin_text}
 use Rattle.testing_rules_excuses.specs.steps.Said.{said_lists}
 

@@ -1,7 +1,7 @@
--- Steps beside `specs/Fallen.antt`.
+-- Steps beside what testing lost.
 use Rattle.testing_rules_model.specs.Suite.{Suite}
 use Rattle.testing_rules_model.specs.steps.KeptFacts.{AreFallen}
-use Rattle.testing_rules_laws.specs.Fallen.{fallen_names}
+use Rattle.testing_rules_excuses.specs.Fallen.{fallen_names}
 
 -- For each other source, what counts with the new testing counted with the old one.
 abbrev pub NamesAreFallen : Type 0

@@ -5,9 +5,9 @@ use Rattle.deb_control.specs.declared.binary.Binary.{Binary}
 use Rattle.deb_control.specs.declared.relation.Clause.{Clause}
 use Rattle.testing_install.specs.Among.{with_all}
 use Rattle.testing_install.specs.Closed.{marked}
-use Rattle.testing_install.specs.Index.{PlacesByName, places_at, bears}
-use Rattle.testing_install.specs.Needers.{names}
-use Rattle.testing_install.specs.steps.Needers.{places_for}
+use Rattle.testing_install.specs.Index.{PlacesByName, places_at, provides_name}
+use Rattle.testing_install.specs.Dependents.{names}
+use Rattle.testing_install.specs.steps.Dependents.{places_for}
 use Rattle.testing_rules_items.specs.Words.{Text}
 use Rattle.testing_rules_live.specs.declared.live_rows.LiveRows.{LiveRows}
 use Rattle.testing_rules_live.specs.declared.live_rows.LiveRows.TheVariants.{Pooled, Listed}
@@ -46,7 +46,7 @@ pub record AreRefused (m : Moment) (excuses : List Excuse) (r : Refusals) : Type
   pub in_order : AreByKey m.suite.rows
   pub each : (number : ℕ) (e : Excuse) → slice_get excuses number ≡ Some e → marked r.flags.items number ≡ true → IsRefused m r.noted number e.source
 
--- the flags without those noted at a name that the package bears
+-- the flags without those noted at a name that the package provides
 abbrev pub woken_by : PlacesByName → Binary → List Bool → List Bool
 woken_by noted b flags = with_all false (places_for noted b) flags
 
@@ -54,7 +54,7 @@ woken_by noted b flags = with_all false (places_for noted b) flags
 pub record AreWoken (rows : List RowIn) (old new : Refusals) : Type 0 where
   pub noted : new.noted ≡ old.noted
   pub kept : (number : ℕ) → marked new.flags.items number ≡ true → marked old.flags.items number ≡ true
-  pub woken : (number : ℕ) (r : RowIn) (name : Text) → Contains rows r → bears r.binary name ≡ true → Contains (places_at old.noted name) number → marked new.flags.items number ≡ true → ⊥
+  pub woken : (number : ℕ) (r : RowIn) (name : Text) → Contains rows r → provides_name r.binary name ≡ true → Contains (places_at old.noted name) number → marked new.flags.items number ≡ true → ⊥
 
 -- if the rows are those of a pool, the places of the change are places in it
 abbrev pub IsWithinRows : LiveRows → Change → Type 0

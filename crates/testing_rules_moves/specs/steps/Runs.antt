@@ -18,14 +18,14 @@ use Rattle.testing_rules_model.specs.Updates.{Outcome, then_do, in_turn, remove_
 use Rattle.testing_rules_model.specs.steps.Updates.{wait_all}
 
 -- what stays during a run: the architectures, and unstable's sources and rows
-pub record Basis : Type 0 where
+pub record RunBasis : Type 0 where
   pub archs : List Text
   pub sources : List UploadIn
   pub rows : List RowIn
 
 -- testing at some moment of a run
 pub record Moment : Type 0 where
-  pub basis : Basis
+  pub basis : RunBasis
   pub suite : Suite
 
 -- testing after the group has moved
@@ -50,7 +50,7 @@ broken_by_removal name m = offender_of m.basis.archs m.suite.rows (remove_source
 
 -- a run so far: its decisions, and the resulting testing
 pub record Run : Type 0 where
-  pub basis : Basis
+  pub basis : RunBasis
   pub outcome : Outcome
 
 -- testing at this point of the run
@@ -58,7 +58,7 @@ abbrev pub moment_of : Run → Moment
 moment_of r = record { basis = r.basis; suite = r.outcome.suite }
 
 -- a run after one more step
-abbrev pub go_on : Run → (Basis → Suite → Outcome) → Run
+abbrev pub go_on : Run → (RunBasis → Suite → Outcome) → Run
 go_on r step = record { basis = r.basis; outcome = then_do r.outcome (step r.basis) }
 
 -- a run after all its turns

@@ -4,7 +4,7 @@ use Rattle.std.specs.List.{list_any}
 use Rattle.std.specs.Str.{bytes_eq}
 use Rattle.testing_rules_model.specs.JudgedRows.{lent}
 use Rattle.testing_rules_reports.specs.steps.LentLines.{has_line}
-use Rattle.testing_rules_refusals.specs.declared.standing.Arrival.{Arrival}
+use Rattle.testing_rules_refusals.specs.declared.living.Arrival.{Arrival}
 
 -- the set has the names of the rows' packages
 abbrev pub IsArrival : Arrival → Type 0

@@ -25,7 +25,7 @@ pub record HasPlaces (count : ℕ) (places : List ℕ) : Type 0 where
   pub within : All (λ k. k < count) places
   pub each : (k : ℕ) → k < count → Contains places k
 
--- the two maps are the indexes of the rows by source and by the names that their packages bear
+-- the two maps are the indexes of the rows by source and by the names that their packages provide
 pub record IsPool (rows : List RowIn) (by_source by_name : PlacesByName) : Type 0 where
   pub sources : IsTextIndex (sources_of rows) by_source
   pub names : IsIndex (packages_of rows) by_name

@@ -1,4 +1,4 @@
-use Rattle.testing_install_why.specs.steps.Bearers.{IsLeast}
+use Rattle.testing_install_why.specs.steps.Providers.{IsLeast}
 use Rattle.testing_install_why.proofs.MarkedSteps.{IsAmongFirst}
 use Rattle.testing_install_why.proofs.chain.least_among.Given as goal
 

@@ -8,4 +8,4 @@ returns-else-first-last-clause-none c =
     let order = c.args.order.now in
     let step = get_or order c.args.last (record { place = 0; need = 0 }) in
     let at = slice_get-get_or order c.args.last (record { place = 0; need = 0 }) c.requires.last in
-    last_by c.args.suite.now.rows order c.args.last step c.clause_of-clause.result.now c.first_bearer-first.result at c.clause_of-clause.ensures c.first_bearer-first.ensures (omega (arith, c.if-first-last.false))
+    last_by c.args.suite.now.rows order c.args.last step c.clause_of-clause.result.now c.first_provider-first.result at c.clause_of-clause.ensures c.first_provider-first.ensures (omega (arith, c.if-first-last.false))

@@ -7,8 +7,8 @@ use Rattle.testing_install_why.proofs.needed.needed_by.Goals as goal
 pub loop-number-preserved-then-index : goal.loop-number-preserved-then-index
 loop-number-preserved-then-index c =
     let before : c.loop-number.number - 1 + 1 ≡ c.loop-number.number = omega (arith, c.loop-number-test.true) in (
-      rw (with_items_is c.loop-number.needed c.mark_bearers.new.needed (omega (arith, c.mark_bearers.ensures.long, c.deref_mut.ensures.len)))
-          (need_more c.args.suite.now.rows c.args.order.now c.loop-number.needed.items c.mark_bearers.new.needed c.args.last (c.loop-number.number - 1) (rw (sym c.deref_mut.ensures.value) c.mark_bearers.ensures)
+      rw (with_items_is c.loop-number.needed c.mark_providers.new.needed (omega (arith, c.mark_providers.ensures.long, c.deref_mut.ensures.len)))
+          (need_more c.args.suite.now.rows c.args.order.now c.loop-number.needed.items c.mark_providers.new.needed c.args.last (c.loop-number.number - 1) (rw (sym c.deref_mut.ensures.value) c.mark_providers.ensures)
           (subst (λ n. IsNeeded c.args.suite.now.rows c.args.order.now c.loop-number.needed.items c.args.last n) (sym before) c.loop-number.invariant.0)),
       omega (arith, c.loop-number.invariant.1),
     )

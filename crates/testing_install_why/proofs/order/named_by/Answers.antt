@@ -7,7 +7,7 @@ loop-alternative-init c = named_none _ _ _ c.new-places.ensures.items
 
 pub loop-alternative-preserved : goal.loop-alternative-preserved
 loop-alternative-preserved c =
-    named_next c.args.suite.now.rows _ _ _ c.args.clause.now _ _ _ _ c.loop-alternative.invariant c.as_slice-alternative-items.ensures c.loop-alternative-test.true c.alternative-item.is c.as_str.ensures c.bearers.ensures.within c.bearers.ensures.complete c.in_ok-extend_from_slice.ensures.items
+    named_next c.args.suite.now.rows _ _ _ c.args.clause.now _ _ _ _ c.loop-alternative.invariant c.as_slice-alternative-items.ensures c.loop-alternative-test.true c.alternative-item.is c.as_str.ensures c.providers.ensures.within c.providers.ensures.complete c.in_ok-extend_from_slice.ensures.items
 
 pub returns-clause-within : goal.returns-clause-within
 returns-clause-within c = c.loop-alternative.invariant.within

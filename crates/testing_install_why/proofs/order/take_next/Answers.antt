@@ -11,7 +11,7 @@ returns-clause-looked c = λ _ places l.
     let fails = rw c.in-Some.is at c.in_ok-step.ensures.some in
     let looked = rw c.in-Some.is at c.in_ok-step.ensures.looked in
     let below : step.place < length c.args.left.now = omega (arith, place_in rows step fails.is, c.requires.left) in
-    looked_out rows places c.args.left.now c.next_out.new.held c.wake_needers.new.held c.next_out.new.waiting.items c.wake_needers.new.waiting.items step.place c.binary.result.now (looked places l) below c.binary.ensures c.in_ok-wake_needers.ensures.grown c.in_ok-wake_needers.ensures.woken
+    looked_out rows places c.args.left.now c.next_out.new.held c.wake_dependents.new.held c.next_out.new.waiting.items c.wake_dependents.new.waiting.items step.place c.binary.result.now (looked places l) below c.binary.ensures c.in_ok-wake_dependents.ensures.grown c.in_ok-wake_dependents.ensures.woken
 
 pub returns-clause-order : goal.returns-clause-order
 returns-clause-order c = λ there o.

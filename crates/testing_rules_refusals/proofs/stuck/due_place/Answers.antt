@@ -12,7 +12,7 @@ use Rattle.testing_rules_refusals.proofs.stuck.due_place.Goals as goal
 pub returns-in-Some : goal.returns-in-Some
 returns-in-Some c =
     let a = c.args in
-    let g = a.ground.now in
+    let g = a.input.now in
     let s = a.suspect.now in
     let rows = lent a.rows.now in
     let place = c.in-Some.place in
@@ -23,7 +23,7 @@ returns-in-Some c =
 pub returns : goal.returns
 returns c =
     let a = c.args in
-    let g = a.ground.now in
+    let g = a.input.now in
     let s = a.suspect.now in
     let rows = lent a.rows.now in
     let before = ap answers c.deref.ensures.value ∙ c.in_ok-before.ensures ∙ ap (judged_on s.arch) c.requires.old in

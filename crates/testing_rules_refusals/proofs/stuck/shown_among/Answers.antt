@@ -15,7 +15,7 @@ due_place-requires-clause-coming c = ap lent c.deref-2.ensures.value ∙ c.in_ok
 pub due_place-requires-clause-rows : goal.due_place-requires-clause-rows
 due_place-requires-clause-rows c =
     let a = c.args in
-    let g = a.ground.now in
+    let g = a.input.now in
     let s = a.suspect.now in
     ap lent c.deref-3.ensures.value
     ∙ stand_on (unboxed g.unstable.sources.now) (lent g.unstable.rows.now) a.live.now s.name c.requires.lives s.arch g.testing.now (lent c.in_ok-rows.rows.items) (lent g.rows.now)
@@ -24,7 +24,7 @@ due_place-requires-clause-rows c =
 pub returns : goal.returns
 returns c =
     let a = c.args in
-    let g = a.ground.now in
+    let g = a.input.now in
     let s = a.suspect.now in
     let sources = unboxed g.unstable.sources.now in
     let unstable = lent g.unstable.rows.now in

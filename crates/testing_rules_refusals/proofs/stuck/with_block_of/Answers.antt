@@ -10,7 +10,7 @@ use Rattle.testing_rules_refusals.proofs.stuck.with_block_of.Goals as goal
 pub returns : goal.returns
 returns c =
     let a = c.args in
-    let g = a.ground.now in
+    let g = a.input.now in
     let archs = g.archs.now in
     let sources = unboxed g.unstable.sources.now in
     let unstable = lent g.unstable.rows.now in

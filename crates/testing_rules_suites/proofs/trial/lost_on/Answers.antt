@@ -11,8 +11,8 @@ use Rattle.testing_rules_items.specs.Words.{Text}
 use Rattle.testing_rules_items.proofs.Weaker.{if_ok_weaker}
 use Rattle.testing_rules_suites.proofs.trial.lost_on.Goals as goal
 
-pub first_lost-requires : goal.first_lost-requires
-first_lost-requires c =
+pub first_lost_in_suite-requires : goal.first_lost_in_suite-requires
+first_lost_in_suite-requires c =
     let suite = c.index_mut-suite.result.now in
     c.requires.over.each c.args.arch suite (slice_get-get_or c.args.suites.now.items c.args.arch suite c.requires.arch ∙ ap Some (sym c.index_mut-suite.ensures.value))
 
@@ -26,5 +26,5 @@ returns-clause-first c =
     let Lost : ArchRows → Option (Bor Text) → Type 0 =
     λ s name. (stands there : List Bool) → IsSuiteOn arch pool stands s → length there ≡ length pool → IsOn arch pool (marked stands) (marked there)
     → IsFirstLost arch pool there c.args.change.now.leaving.items c.args.change.now.coming.items (option_copied name) in
-    if_ok_weaker (Lost suite) (λ name. (other : ArchRows) → slice_get suites arch ≡ Some other → Lost other name) c.first_lost.result
-    (λ name told other here. subst (λ s. Lost s name) (same_Some suite other (sym at ∙ here)) told) c.first_lost.ensures.first
+    if_ok_weaker (Lost suite) (λ name. (other : ArchRows) → slice_get suites arch ≡ Some other → Lost other name) c.first_lost_in_suite.result
+    (λ name told other here. subst (λ s. Lost s name) (same_Some suite other (sym at ∙ here)) told) c.first_lost_in_suite.ensures.first

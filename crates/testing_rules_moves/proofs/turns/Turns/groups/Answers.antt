@@ -2,7 +2,7 @@ use Rattle.std.proofs.Common.{arith, ◌∙◌, sym, ap, ◌+◌, ◌<◌, ◌�
 use Rattle.testing_rules_model.specs.Unstable.{is_in_force}
 use Rattle.testing_rules_model.specs.Suite.{Suite}
 use Rattle.testing_rules_model.specs.declared.facts.HintIn.{HintIn}
-use Rattle.testing_rules_moves.specs.steps.Runs.{Basis, Run, go_on}
+use Rattle.testing_rules_moves.specs.steps.Runs.{RunBasis, Run, go_on}
 use Rattle.testing_rules_model.specs.Updates.{Outcome, in_turn, move_easy}
 use Rattle.testing_rules_moves.proofs.Runs.{run_passing-next, run_passing-skipped, run_passing-over}
 use Rattle.testing_rules_moves.proofs.turns.Turns.groups.Goals as goal
@@ -13,7 +13,7 @@ loop-hint-preserved c =
     let hints = c.args.hints.now in
     let i = c.loop-hint.hint-index in
     let d = c.hint-item.result in
-    let step : Basis → HintIn → Suite → Outcome = λ b. move_easy b.archs b.sources b.rows c.args.excuses.now in
+    let step : RunBasis → HintIn → Suite → Outcome = λ b. move_easy b.archs b.sources b.rows c.args.excuses.now in
     let stands = is_in_force c.args.unhints.now in
     let below : i < length hints = omega arith in
     let test = ap stands (sym c.hint-item.is) ∙ sym c.is_in_force.ensures in
@@ -32,6 +32,6 @@ loop-hint-preserved c =
 pub returns : goal.returns
 returns c =
     let hints = c.args.hints.now in
-    let step : Basis → HintIn → Suite → Outcome = λ b. move_easy b.archs b.sources b.rows c.args.excuses.now in
+    let step : RunBasis → HintIn → Suite → Outcome = λ b. move_easy b.archs b.sources b.rows c.args.excuses.now in
     let over : length hints ≤ c.loop-hint.hint-index = omega arith in
     sym (run_passing-over step (is_in_force c.args.unhints.now) hints c.loop-hint.hint-index over c.loop-hint.self) ∙ c.loop-hint.invariant

@@ -3,7 +3,7 @@ use Rattle.std.specs.List.{flat_map}
 use Rattle.testing_rules_items.specs.declared.item.HintItem.{HintItem}
 use Rattle.testing_rules_model.specs.Unstable.{is_in_force}
 use Rattle.testing_rules_model.specs.Suite.{Suite}
-use Rattle.testing_rules_moves.specs.steps.Runs.{Basis, Run, go_on}
+use Rattle.testing_rules_moves.specs.steps.Runs.{RunBasis, Run, go_on}
 use Rattle.testing_rules_model.specs.Updates.{Outcome, in_turn, remove_item, removals_of}
 use Rattle.testing_rules_moves.proofs.Runs.{run_hint-next, run_hint-skipped, run_hints-over}
 use Rattle.testing_rules_moves.proofs.turns.Turns.removals.Goals as goal
@@ -14,7 +14,7 @@ loop-hint-preserved c =
     let hints = c.args.hints.now in
     let i = c.loop-hint.hint-index in
     let d = c.hint-item.result in
-    let step : Basis → ℕ × HintItem → Suite → Outcome = λ b. remove_item b.archs in
+    let step : RunBasis → ℕ × HintItem → Suite → Outcome = λ b. remove_item b.archs in
     let stands = is_in_force c.args.unhints.now in
     let below : i < length hints = omega arith in
     let test = ap stands (sym c.hint-item.is) ∙ sym c.is_in_force.ensures in
@@ -34,5 +34,5 @@ pub returns : goal.returns
 returns c =
     let hints = c.args.hints.now in
     let over : length hints ≤ c.loop-hint.hint-index = omega arith in
-    let step : Basis → ℕ × HintItem → Suite → Outcome = λ b. remove_item b.archs in
+    let step : RunBasis → ℕ × HintItem → Suite → Outcome = λ b. remove_item b.archs in
     sym (run_hints-over step removals_of (is_in_force c.args.unhints.now) hints c.loop-hint.hint-index over c.loop-hint.self) ∙ c.loop-hint.invariant

@@ -1,7 +1,7 @@
 use Rattle.std.proofs.Common.{arith, ◌∙◌, sym, ap, ℕ, ◌+◌, ◌<◌, ◌≤◌, length, drop, map}
 use Rattle.testing_rules_items.specs.declared.item.HintItem.{HintItem}
 use Rattle.testing_rules_model.specs.Suite.{Suite}
-use Rattle.testing_rules_moves.specs.steps.Runs.{Basis, Run, go_on}
+use Rattle.testing_rules_moves.specs.steps.Runs.{RunBasis, Run, go_on}
 use Rattle.testing_rules_model.specs.Updates.{Outcome, in_turn, remove_item}
 use Rattle.testing_rules_moves.proofs.Runs.{run-next, run-over}
 use Rattle.testing_rules_moves.proofs.turns.Turns.remove_items.Goals as goal
@@ -11,7 +11,7 @@ loop-item-preserved c =
     let items = c.args.items.now in
     let i = c.loop-item.item-index in
     let d = c.item-item.result in
-    let step : Basis → ℕ × HintItem → Suite → Outcome = λ b. remove_item b.archs in
+    let step : RunBasis → ℕ × HintItem → Suite → Outcome = λ b. remove_item b.archs in
     let f : HintItem → ℕ × HintItem = λ x. (c.args.hint, x) in
     let below : i < length items = omega arith in
     ap (λ (r : Run). go_on r (λ b. in_turn (step b) (map f (drop (i + 1) items))))
@@ -24,5 +24,5 @@ returns c =
     let items = c.args.items.now in
     let f : HintItem → ℕ × HintItem = λ x. (c.args.hint, x) in
     let over : length items ≤ c.loop-item.item-index = omega arith in
-    let step : Basis → ℕ × HintItem → Suite → Outcome = λ b. remove_item b.archs in
+    let step : RunBasis → ℕ × HintItem → Suite → Outcome = λ b. remove_item b.archs in
     sym (run-over step f items c.loop-item.item-index c.loop-item.self over) ∙ c.loop-item.invariant

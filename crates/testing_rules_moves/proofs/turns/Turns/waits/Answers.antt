@@ -3,7 +3,7 @@ use Rattle.std.specs.Borrow.{Bor}
 use Rattle.testing_rules_model.specs.declared.excuse.Excuse.{Excuse}
 use Rattle.testing_rules_moves.specs.steps.LentItems.{lent_excuses}
 use Rattle.testing_rules_model.specs.Suite.{Suite}
-use Rattle.testing_rules_moves.specs.steps.Runs.{Basis, Run, go_on}
+use Rattle.testing_rules_moves.specs.steps.Runs.{RunBasis, Run, go_on}
 use Rattle.testing_rules_model.specs.Updates.{Outcome, in_turn, remaining}
 use Rattle.testing_rules_model.specs.steps.Updates.{wait}
 use Rattle.testing_rules_moves.proofs.Runs.{run-next, run-over}
@@ -15,7 +15,7 @@ loop-excuse-preserved c =
     let items = c.deref-excuse-items.result.now in
     let i = c.loop-excuse.excuse-index in
     let d = c.excuse-item.result in
-    let step : Basis → Excuse → Suite → Outcome = λ b. wait b.archs b.sources b.rows in
+    let step : RunBasis → Excuse → Suite → Outcome = λ b. wait b.archs b.sources b.rows in
     let f : Bor Excuse → Excuse = λ b. b.now in
     let below : i < length items = omega arith in
     ap (λ (r : Run). go_on r (λ b. in_turn (step b) (map f (drop (i + 1) items))))
@@ -27,7 +27,7 @@ pub returns : goal.returns
 returns c =
     let items = c.deref-excuse-items.result.now in
     let i = c.loop-excuse.excuse-index in
-    let step : Basis → Excuse → Suite → Outcome = λ b. wait b.archs b.sources b.rows in
+    let step : RunBasis → Excuse → Suite → Outcome = λ b. wait b.archs b.sources b.rows in
     let f : Bor Excuse → Excuse = λ b. b.now in
     let r = c.args.self.now in
     let o = r.outcome in

@@ -1,6 +1,0 @@
-use Rattle.testing_install.specs.Needers.{IsNotedAt}
-use Rattle.testing_install.proofs.Needing.{needs_among}
-use Rattle.testing_install.proofs.needers.note_needs.Given as goal
-
-abbrev pub invariant-loop-clause : goal.invariant-loop-clause
-invariant-loop-clause l = IsNotedAt (needs_among l.clause-index l.binary.clauses) l.fn.needers l.needers l.place
