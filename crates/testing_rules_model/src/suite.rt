@@ -25,8 +25,8 @@ pub struct SourceIn {
 /// architecture in the setup, or 16 for `all`; the first binary of a build has the place 1.
 #[derive(Drop)]
 pub struct RowIn {
-    pub arch: u32,
     pub binary: SharedBinary,
+    pub arch: u32,
     pub sender: u32,
     pub number: u32,
     pub place: u32,
