@@ -1,6 +1,6 @@
 -- A testing that is given back to the store that handed it out.
 use Rattle.std.proofs.Common.{◌≡◌, ℕ, inl, Result, Ok, Err, IfErr, ◌∙◌, refl, arith}
-use Rattle.office_store_keeper.specs.declared.keeping.Keeper.{Ghosts}
+use Rattle.office_store_keeper.specs.declared.keeper.Keeper.{Ghosts}
 use Rattle.office_core_orders.specs.Counted.{Counted}
 use Rattle.office_core_orders.specs.declared.faults.StoreFault.{StoreFault}
 use Rattle.office_core_orders.specs.declared.faults.StoreFault.TheVariants.{NoMemory, Store}

@@ -1,7 +1,7 @@
 -- Calls on a store one after another.
 use Rattle.std.proofs.Common.{◌≤◌, ◌⊎◌, inl, inr, ℕ, Bool, true, Result, Ok, Err, OnOk, is_ok, refl, arith}
 use Rattle.office_mail.specs.Counts.{HasRisen}
-use Rattle.office_store_keeper.specs.declared.keeping.Keeper.{Ghosts}
+use Rattle.office_store_keeper.specs.declared.keeper.Keeper.{Ghosts}
 use Rattle.office_core_orders.specs.StaysTrusted.{StaysTrusted}
 
 -- a count that rose later rose

@@ -1,6 +1,6 @@
 -- Calls that only ask a store, one after another.
 use Rattle.std.proofs.Common.{◌≡◌, ℕ, Bool, true, false, Result, Ok, Err, ◌∙◌, refl, sym, ap, subst}
-use Rattle.office_store_keeper.specs.declared.keeping.Keeper.{Ghosts}
+use Rattle.office_store_keeper.specs.declared.keeper.Keeper.{Ghosts}
 use Rattle.office_mail.specs.Counts.{HasRisen}
 use Rattle.office_core_orders.specs.Counted.{Counted}
 use Rattle.office_core_orders.specs.declared.faults.StoreFault.{StoreFault}

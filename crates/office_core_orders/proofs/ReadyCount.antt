@@ -28,9 +28,9 @@ pub order_at-some : (setup : Lists) (kept : Kept) (k : ℕ) (text : List ℕ) (a
 unfolding order_at
 order_at-some setup kept k text answer e is = ap (option_and_then (order_in setup)) e ∙ ap order_in_answer is
 
--- what a text that was read is, is the order that is kept
-pub order_at-read : (setup : Lists) (kept : Kept) (k : ℕ) (text : List ℕ) (r : Result (Option RunOrder) StoreFault) → get kept (runs setup, k) ≡ Some text → IfOk r (λ order. order ≡ order_in setup text) → IfOk r (λ order. order ≡ order_at setup kept k)
-order_at-read setup kept k text r e given = IfOk-weaker r _ _ (λ order h. h ∙ sym (order_at-some setup kept k text (read setup text) e refl)) given
+-- the order in a kept text is the kept order
+pub order_at-read : (setup : Lists) (kept : Kept) (k : ℕ) (text : List ℕ) (order : Option RunOrder) → get kept (runs setup, k) ≡ Some text → order ≡ order_in setup text → order ≡ order_at setup kept k
+order_at-read setup kept k text order e is = is ∙ sym (order_at-some setup kept k text (read setup text) e refl)
 
 pub orders_to-zero : (setup : Lists) (kept : Kept) → orders_to setup kept 0 ≡ []
 unfolding orders_to

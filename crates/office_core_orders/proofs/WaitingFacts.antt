@@ -15,9 +15,9 @@ use Rattle.office_mail.specs.Lists.{Lists}
 use Rattle.office_mail.specs.Kept.{Kept, Within}
 use Rattle.office_mail.specs.Runs.{IsReady, IsReadyCount, order_at}
 use Rattle.office_mail.proofs.RunFacts.{order_at-later}
-use Rattle.office_core_orders.specs.declared.waiting_lines.Lack.{Lack}
-use Rattle.office_core_orders.specs.declared.waiting_lines.Awaited.{Awaited}
-use Rattle.office_core_orders.specs.declared.waiting_lines.Awaited.TheVariants.{Order, Mail}
+use Rattle.office_core_orders.specs.declared.wait_lines.Lack.{Lack}
+use Rattle.office_core_orders.specs.declared.wait_lines.Awaited.{Awaited}
+use Rattle.office_core_orders.specs.declared.wait_lines.Awaited.TheVariants.{Order, Mail}
 use Rattle.office_core_orders.specs.Ready.{HasNumbers, HasEach}
 use Rattle.office_core_orders.specs.steps.Ready.{IsReached}
 use Rattle.office_core_orders.specs.Waiting.{IsFirstGap, IsLack, AreLacks, AwaitsBy, Awaits, AwaitsSome}

@@ -1,7 +1,7 @@
 -- When a store stays trusted.
 use Rattle.std.specs.Prelude.{◌≡◌, ◌≤◌, ◌⊎◌, Bool, true}
 use Rattle.office_mail.specs.Counts.{HasRisen}
-use Rattle.office_store_keeper.specs.declared.keeping.Keeper.{Ghosts}
+use Rattle.office_store_keeper.specs.declared.keeper.Keeper.{Ghosts}
 
 -- A clean store stays trusted if it was trusted and the call went well, and otherwise unless the disk failed. No call
 -- makes a store clean, and no failure of the disk is forgotten.

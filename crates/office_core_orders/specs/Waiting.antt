@@ -7,9 +7,9 @@ use Rattle.office_mail.specs.declared.message.RunOrder.{RunOrder}
 use Rattle.office_mail.specs.Lists.{Lists}
 use Rattle.office_mail.specs.Kept.{Kept}
 use Rattle.office_mail.specs.Runs.{order_at}
-use Rattle.office_core_orders.specs.declared.waiting_lines.Lack.{Lack}
-use Rattle.office_core_orders.specs.declared.waiting_lines.Awaited.{Awaited}
-use Rattle.office_core_orders.specs.declared.waiting_lines.Awaited.TheVariants.{Order, Mail}
+use Rattle.office_core_orders.specs.declared.wait_lines.Lack.{Lack}
+use Rattle.office_core_orders.specs.declared.wait_lines.Awaited.{Awaited}
+use Rattle.office_core_orders.specs.declared.wait_lines.Awaited.TheVariants.{Order, Mail}
 use Rattle.office_core_orders.specs.Ready.{HasNumbers}
 
 -- a sender's first gap: its numbers from 1 up to this one are kept, and this one isn't

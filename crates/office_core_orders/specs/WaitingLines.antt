@@ -4,10 +4,10 @@ use Rattle.std.specs.List.{flat_map}
 use Rattle.office_mail.specs.Lists.{Lists}
 use Rattle.office_mail.specs.Runs.{runs}
 use Rattle.office_core_orders.specs.Replies.{name_at, status_line}
-use Rattle.office_core_orders.specs.declared.waiting_lines.Lack.{Lack}
-use Rattle.office_core_orders.specs.declared.waiting_lines.Awaited.{Awaited}
-use Rattle.office_core_orders.specs.declared.waiting_lines.Awaited.TheVariants.{Order, Mail}
-use Rattle.office_core_orders.specs.declared.waiting_lines.Waiting.{Waiting}
+use Rattle.office_core_orders.specs.declared.wait_lines.Lack.{Lack}
+use Rattle.office_core_orders.specs.declared.wait_lines.Awaited.{Awaited}
+use Rattle.office_core_orders.specs.declared.wait_lines.Awaited.TheVariants.{Order, Mail}
+use Rattle.office_core_orders.specs.declared.wait_lines.Waiting.{Waiting}
 
 -- the line on missing mail of one sender: its first missing number, and the number up to which the run needs it
 abbrev pub lack_line : Lists → ℕ → Lack → List ℕ

@@ -7,11 +7,11 @@ pub mod orders;
 pub mod ready;
 mod replies;
 pub mod stored;
-pub mod waiting;
-mod waiting_lines;
+mod wait_lines;
+pub mod waits;
 
 pub use faults::{DeliverFault, Held, Progress, StoreFault};
 pub use replies::{
     Delivery, Digits, Mark, WriteFault, fault_words, write_all, write_parts, write_reply,
 };
-pub use waiting_lines::{Awaited, Lack, Waiting, name_at, waiting_text};
+pub use wait_lines::{Awaited, Lack, Waiting, name_at, waiting_text};

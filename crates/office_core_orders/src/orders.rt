@@ -1,7 +1,7 @@
 //! Run orders in the kept mail, and what they wait for.
 #![tactic(auto, using(crate::proofs::LastFacts::lasting))]
 
-ghost use Rattle.std.specs.Prelude.{◌≡◌, ◌≢◌, ℕ, ◌+◌, ◌<◌, ◌≤◌, ◌↔◌, IsTrue, IfOk, IfErr, OnOk, None, length, slice_index};
+ghost use Rattle.std.specs.Prelude.{◌≡◌, ◌≢◌, ℕ, ◌+◌, ◌<◌, ◌≤◌, ◌↔◌, IsTrue, IfOk, OnOk, None, length, slice_index};
 ghost use Rattle.std.specs.FinMap.{get};
 ghost use Rattle.office_mail.specs.Kept.{Kept};
 ghost use Rattle.office_mail.specs.Runs.{order_at, order_in, order_in_body};
@@ -13,14 +13,14 @@ ghost use Rattle.office_core_orders.specs.steps.Ready.{FirstOrders, GoesOn, IsRe
 use crate::faults::StoreFault;
 use crate::stored;
 use crate::stored::{BLOCK, block_end};
+use deb_control::NoMemory;
 use office_mail::{Body, MailFault, Message, RunOrder, Setup, read_message, ready};
 use office_store_keeper::{Keeper, Letter};
 use std::alloc::Global;
 
 /// The run order in a kept text, or none. It fails only if memory runs out.
-fn read_order(alloc: Global, setup: &Setup, text: &[u8]) -> Result<Option<RunOrder>, StoreFault>
-    ensures order { IfOk result (λ order. order ≡ order_in setup.now text.now) }
-    ensures no_store { IfErr result (λ fault. fault ≡ StoreFault.NoMemory) }
+fn read_order(alloc: Global, setup: &Setup, text: &[u8]) -> Result<Option<RunOrder>, NoMemory>
+    ensures { IfOk result (λ order. order ≡ order_in setup.now text.now) }
 {
     match read_message(alloc, setup, text) {
         Ok(message) => Ok(order_in(message)),
@@ -29,12 +29,11 @@ fn read_order(alloc: Global, setup: &Setup, text: &[u8]) -> Result<Option<RunOrd
 }
 
 /// What a refused text is: no order, unless memory ran out.
-fn no_order(fault: MailFault) -> Result<Option<RunOrder>, StoreFault>
-    ensures none { IfOk result (λ order. (order ≡ None) × (fault ≡ MailFault.NoMemory → ⊥)) }
-    ensures no_store { IfErr result (λ fault. fault ≡ StoreFault.NoMemory) }
+fn no_order(fault: MailFault) -> Result<Option<RunOrder>, NoMemory>
+    ensures { IfOk result (λ order. (order ≡ None) × (fault ≡ MailFault.NoMemory → ⊥)) }
 {
     match fault {
-        MailFault::NoMemory => Err(StoreFault::NoMemory),
+        MailFault::NoMemory => Err(NoMemory),
         _ => Ok(None),
     }
 }
@@ -63,7 +62,7 @@ pub(crate) fn order<K: Keeper>(
     ensures looks { ReadsStore K.Keeper keeper.old keeper.new result }
 {
     match stored::find(keeper, setup.runs(), number)? {
-        Some(text) => read_order(alloc, setup, text.as_slice()),
+        Some(text) => Ok(read_order(alloc, setup, text.as_slice())?),
         None => Ok(None),
     }
 }
@@ -169,10 +168,9 @@ pub fn count_on<K: Keeper>(
 }
 
 /// Makes room for a sender's count, 0 at first. It fails only if memory runs out; no count changes.
-pub fn make_room(counts: &mut Vec<u32>, sender: u32) -> Result<(), StoreFault>
+pub fn make_room(counts: &mut Vec<u32>, sender: u32) -> Result<(), NoMemory>
     ensures same { (s : ℕ) → slice_index counts.new.items s ≡ slice_index counts.old.items s }
     ensures room { OnOk result (sender < length counts.new.items) }
-    ensures no_store { IfErr result (λ fault. fault ≡ StoreFault.NoMemory) }
 {
     let room = sender as usize + 1;
     if counts.len() < room {

@@ -14,8 +14,8 @@ Counted before after (Err (Store cause)) = HasRisen before after
 Counted before after _ = after ≡ before
 
 -- What each call keeps. The setup stays, no call makes a store clean or trusted, and no failure of the disk is
--- forgotten. A clean store that was trusted stays so if the call went well, and otherwise unless the disk failed. No row
--- of a legible store with each text at its own place is bad, and refusals are counted.
+-- forgotten. A clean store that was trusted stays so if the call went well, and otherwise unless the disk failed. A
+-- store that stays trusted, is legible and has each text at its own place has no bad row, and refusals are counted.
 pub record Keeps {K T : Type 0} (is_clean is_trusted is_legible : K → Type 0) (lists : K → Lists) (content : K → Content) (refusals disk_faults : K → ℕ) (old new : K) (result : Result T KeepFault) : Type 0 where
   pub setup : lists new ≡ lists old
   pub clean : is_clean new → is_clean old
@@ -26,7 +26,7 @@ pub record Keeps {K T : Type 0} (is_clean is_trusted is_legible : K → Type 0) 
   pub bad : is_trusted new → is_legible old → AreOwnTexts (lists old) (content old).kept → result ≢ Err (Store BadRow)
   pub counted : Counted (refusals old) (refusals new) result
 
--- What a call keeps that only reads: the content stays, and so does its being legible.
+-- What a call keeps that only reads: beside these, the content of a store that stays trusted, and its being legible.
 pub record OnlyReads {K T : Type 0} (is_clean is_trusted is_legible : K → Type 0) (lists : K → Lists) (content : K → Content) (refusals disk_faults : K → ℕ) (old new : K) (result : Result T KeepFault) : Type 0 where
   pub keeps : Keeps is_clean is_trusted is_legible lists content refusals disk_faults old new result
   pub same : is_trusted new → content new ≡ content old

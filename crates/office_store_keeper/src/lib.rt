@@ -3,12 +3,12 @@
 
 mod fact_rows;
 mod faults;
-mod keeping;
+mod keeper;
 mod memory;
 mod values;
 
 pub use fact_rows::rows_in_order;
 pub use faults::{Cause, KeepFault};
-pub use keeping::Keeper;
+pub use keeper::Keeper;
 pub use memory::Plain;
 pub use values::{Finished, Letter, MailText, NewLetter, Reports};

@@ -1,5 +1,5 @@
 //! A keeper in memory.
-ghost use Rattle.std.specs.Prelude.{◌≡◌, ◌≤◌, ◌++◌, ◌∷◌, [], ⊤, map, IfOk, IfErr, OnOk, OnErr};
+ghost use Rattle.std.specs.Prelude.{◌≡◌, ◌≤◌, ◌++◌, ◌∷◌, [], ⊤, map, IfOk, OnOk, OnErr};
 ghost use Rattle.std.specs.BTreeMap.{IsOrdered};
 ghost use Rattle.std.specs.BTreeMap.Range.{entries_between};
 ghost use Rattle.std.specs.declared.ops.Bound.TheVariants.{Included};
@@ -13,7 +13,7 @@ ghost use Rattle.office_store_keeper.specs.steps.MemoryState.{letter_of};
 
 use crate::fact_rows::{rows_after, rows_in_order};
 use crate::faults::KeepFault;
-use crate::keeping::Keeper;
+use crate::keeper::Keeper;
 use crate::values::{Finished, Letter, MailText, Reports};
 use deb_control::NoMemory;
 use office_mail::Setup;
@@ -95,9 +95,8 @@ fn share_text(
     mail: &BTreeMap<(u32, u32), MailText>,
     sender: u32,
     number: u32,
-) -> Result<Option<MailText>, KeepFault>
-    ensures found { IfOk result (λ text. text ≡ get (kept_in mail.now.entries) (sender, number)) }
-    ensures no_store { IfErr result (λ fault. fault ≡ KeepFault.NoMemory) }
+) -> Result<Option<MailText>, NoMemory>
+    ensures { IfOk result (λ text. text ≡ get (kept_in mail.now.entries) (sender, number)) }
 {
     match mail.get(&(sender, number)) {
         None => Ok(None),
@@ -115,11 +114,10 @@ fn letters_between(
     sender: u32,
     from: u32,
     to: u32,
-) -> Result<Vec<Letter>, KeepFault>
+) -> Result<Vec<Letter>, NoMemory>
     requires { from ≤ to }
     ensures loaded { IfOk result (λ letters. letters.items ≡ map letter_of (entries_between place_cmp (Included (sender, from)) (Included (sender, to)) mail.now.entries)) }
     ensures ordered { IsOrdered place_cmp mail.now }
-    ensures no_store { IfErr result (λ fault. fault ≡ KeepFault.NoMemory) }
 {
     let entries = mail.range((sender, from)..=(sender, to));
     let mut letters = Vec::with_capacity(alloc, (to - from).min(AT_ONCE) as usize + 1)?;
@@ -139,9 +137,8 @@ fn letters_of(
     sender: u32,
     from: u32,
     to: u32,
-) -> Result<Vec<Letter>, KeepFault>
-    ensures loaded { IfOk result (λ letters. letters.items ≡ letters_within (kept_in mail.now.entries) sender from to) }
-    ensures no_store { IfErr result (λ fault. fault ≡ KeepFault.NoMemory) }
+) -> Result<Vec<Letter>, NoMemory>
+    ensures { IfOk result (λ letters. letters.items ≡ letters_within (kept_in mail.now.entries) sender from to) }
 {
     if from > to {
         return Ok(Vec::new(alloc));
@@ -176,10 +173,9 @@ fn reports_of(runs: &[Reports], run: u32) -> Option<&Reports>
 }
 
 /// Adds the reports of one more run after the earlier ones.
-fn put_reports(runs: &mut Vec<Reports>, reports: Reports) -> Result<(), KeepFault>
+fn put_reports(runs: &mut Vec<Reports>, reports: Reports) -> Result<(), NoMemory>
     ensures done { OnOk result (runs.new.items ≡ runs.old.items ++ reports ∷ []) }
     ensures err { OnErr result (runs.new.items ≡ runs.old.items) }
-    ensures no_store { IfErr result (λ fault. fault ≡ KeepFault.NoMemory) }
 {
     runs.push(reports)?;
     Ok(())
@@ -200,12 +196,11 @@ fn put_run(
     reports: Reports,
     left: Testing,
     rows: Vec<FactRow>,
-) -> Result<(), KeepFault>
+) -> Result<(), NoMemory>
     ensures runs { OnOk result (runs.new.items ≡ runs.old.items ++ reports ∷ []) }
     ensures testing { OnOk result (testing.new ≡ left) }
     ensures facts { OnOk result (facts.new.items ≡ rows.items) }
     ensures err { OnErr result ((runs.new.items ≡ runs.old.items) × (testing.new ≡ testing.old) × (facts.new.items ≡ facts.old.items)) }
-    ensures no_store { IfErr result (λ fault. fault ≡ KeepFault.NoMemory) }
 {
     match put_reports(runs, reports) {
         Ok(()) => {
@@ -228,12 +223,11 @@ fn keep_run(
     testing: &mut Testing,
     facts: &mut Vec<FactRow>,
     done: Finished,
-) -> Result<(), KeepFault>
+) -> Result<(), NoMemory>
     ensures runs { OnOk result (runs.new.items ≡ runs.old.items ++ reports_in done ∷ []) }
     ensures testing { OnOk result (testing.new ≡ done.testing) }
     ensures facts { OnOk result (set_of_rows facts.new.items ≡ facts_after done.facts (set_of_rows facts.old.items)) }
     ensures err { OnErr result ((runs.new.items ≡ runs.old.items) × (testing.new ≡ testing.old) × (facts.new.items ≡ facts.old.items)) }
-    ensures no_store { IfErr result (λ fault. fault ≡ KeepFault.NoMemory) }
 {
     match rows_after(alloc, facts, &done.facts) {
         Ok(rows) => {
@@ -253,9 +247,9 @@ fn keep_run(
                 rows,
             )
         }
-        Err(_) => {
+        Err(fault) => {
             drop(done);
-            Err(KeepFault::NoMemory)
+            Err(fault)
         }
     }
 }
@@ -281,20 +275,19 @@ fn keep_copy(
     testing: &mut Testing,
     facts: &mut Vec<FactRow>,
     done: &Finished,
-) -> Result<(), KeepFault>
+) -> Result<(), NoMemory>
     ensures runs { OnOk result (runs.new.items ≡ runs.old.items ++ reports_in done.now ∷ []) }
     ensures testing { OnOk result (testing.new ≡ done.now.testing) }
     ensures facts { OnOk result (set_of_rows facts.new.items ≡ facts_after done.now.facts (set_of_rows facts.old.items)) }
     ensures err { OnErr result ((runs.new.items ≡ runs.old.items) × (testing.new ≡ testing.old) × (facts.new.items ≡ facts.old.items)) }
-    ensures no_store { IfErr result (λ fault. fault ≡ KeepFault.NoMemory) }
 {
     let (reports, left) = copies_of(alloc, done)?;
     match rows_after(alloc, facts, &done.facts) {
         Ok(rows) => put_run(runs, testing, facts, reports, left, rows),
-        Err(_) => {
+        Err(fault) => {
             drop(reports);
             drop(left);
-            Err(KeepFault::NoMemory)
+            Err(fault)
         }
     }
 }
@@ -316,7 +309,7 @@ impl Keeper for Plain {
     ghost disk_faults = { λ _. 0 };
 
     fn find(&mut self, sender: u32, number: u32) -> Result<Option<MailText>, KeepFault> {
-        share_text(self.alloc, &self.mail, sender, number)
+        Ok(share_text(self.alloc, &self.mail, sender, number)?)
     }
 
     fn keep(&mut self, sender: u32, number: u32, text: &MailText) -> Result<(), KeepFault> {
@@ -330,7 +323,7 @@ impl Keeper for Plain {
     }
 
     fn load(&mut self, sender: u32, from: u32, to: u32) -> Result<Vec<Letter>, KeepFault> {
-        letters_of(self.alloc, &self.mail, sender, from, to)
+        Ok(letters_of(self.alloc, &self.mail, sender, from, to)?)
     }
 
     fn next_number(&mut self, sender: u32, from: u32) -> Result<Option<u32>, KeepFault> {
@@ -344,7 +337,8 @@ impl Keeper for Plain {
             &mut self.testing,
             &mut self.facts,
             done,
-        )
+        )?;
+        Ok(())
     }
 
     fn reports(&mut self, run: u32) -> Result<Option<Reports>, KeepFault> {
@@ -373,7 +367,8 @@ impl Keeper for Plain {
             &mut self.testing,
             &mut self.facts,
             done,
-        )
+        )?;
+        Ok(())
     }
 
     fn next_testing(&mut self) -> Result<Testing, KeepFault> {

@@ -1,6 +1,6 @@
 -- What a call that only asks a store leaves.
 use Rattle.std.specs.Prelude.{◌≡◌, Result, is_ok}
-use Rattle.office_store_keeper.specs.declared.keeping.Keeper.{Ghosts}
+use Rattle.office_store_keeper.specs.declared.keeper.Keeper.{Ghosts}
 use Rattle.office_core_orders.specs.declared.faults.StoreFault.{StoreFault}
 use Rattle.office_core_orders.specs.Counted.{Counted}
 use Rattle.office_core_orders.specs.StaysTrusted.{StaysTrusted}

@@ -1,9 +1,9 @@
 use Rattle.std.proofs.Common.{◌≡◌, ◌+◌, ◌<◌, List, length, slice_index, sym, ap, subst, ◌∙◌, arith}
-use Rattle.office_core_orders.specs.declared.waiting_lines.Lack.{Lack}
+use Rattle.office_core_orders.specs.declared.wait_lines.Lack.{Lack}
 use Rattle.office_core_orders.specs.Waiting.{AreLacks}
 use Rattle.office_core_orders.proofs.WaitingFacts.{lacks_none, lacks_found, lacks_skipped}
-use Rattle.office_core_orders.proofs.waiting.lacks_behind.Goals as goal
-use Rattle.office_core_orders.proofs.waiting.lacks_behind.Goals.{then-count-cover+in_ok-push, else-count-cover}
+use Rattle.office_core_orders.proofs.waits.lacks_behind.Goals as goal
+use Rattle.office_core_orders.proofs.waits.lacks_behind.Goals.{then-count-cover+in_ok-push, else-count-cover}
 
 pub senders-init : goal.senders-init
 senders-init c = record {

@@ -1,7 +1,7 @@
 use Rattle.std.proofs.Common.{◌≡◌, ◌++◌, string_bytes, take}
 use Rattle.std.specs.List.{flat_map}
 use Rattle.office_core_orders.specs.WaitingLines.{lack_line}
-use Rattle.office_core_orders.proofs.waiting_lines.push_lacks.Given as goal
+use Rattle.office_core_orders.proofs.wait_lines.push_lacks.Given as goal
 
 -- the text so far
 abbrev pub invariant-loop-lack : goal.invariant-loop-lack

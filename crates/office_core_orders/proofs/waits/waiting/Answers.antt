@@ -4,7 +4,7 @@ use Rattle.office_store_keeper.specs.Content.{Content}
 use Rattle.office_core_orders.specs.Ready.{HasPlaces}
 use Rattle.office_core_orders.specs.Waiting.{Awaits}
 use Rattle.office_core_orders.proofs.WaitingFacts.{awaited_some}
-use Rattle.office_core_orders.proofs.waiting.waiting.Goals as goal
+use Rattle.office_core_orders.proofs.waits.waiting.Goals as goal
 
 pub returns-clause-finished : goal.returns-clause-finished
 returns-clause-finished g c = λ trusted. c.in_ok-finished.ensures.value (c.in_ok-ready.ensures.looks.before (c.in_ok-awaited.ensures.looks.before trusted))

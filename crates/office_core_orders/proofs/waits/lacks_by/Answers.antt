@@ -2,7 +2,7 @@ use Rattle.std.proofs.Common.{ℕ, ◌<◌, List, length, sym, subst}
 use Rattle.office_mail.specs.Kept.{Kept}
 use Rattle.office_core_orders.specs.Ready.{HasEach}
 use Rattle.office_core_orders.specs.steps.Ready.{IsReached}
-use Rattle.office_core_orders.proofs.waiting.lacks_by.Goals as goal
+use Rattle.office_core_orders.proofs.waits.lacks_by.Goals as goal
 
 pub returns-clause-lacks : goal.returns-clause-lacks
 returns-clause-lacks g c = λ trusted.

@@ -2,10 +2,10 @@ use Rattle.std.proofs.Common.{◌≡◌, ◌+◌, Option, Some, length, sym, ap,
 use Rattle.office_mail.specs.declared.message.RunOrder.{RunOrder}
 use Rattle.office_mail.specs.Runs.{order_at}
 use Rattle.office_store_keeper.specs.Content.{Content}
-use Rattle.office_core_orders.specs.declared.waiting_lines.Awaited.TheVariants.{Mail}
+use Rattle.office_core_orders.specs.declared.wait_lines.Awaited.TheVariants.{Mail}
 use Rattle.office_core_orders.specs.Waiting.{AreLacks, AwaitsBy}
 use Rattle.office_core_orders.proofs.ReadyCount.{ready_bound}
-use Rattle.office_core_orders.proofs.waiting.awaited_behind.Goals as goal
+use Rattle.office_core_orders.proofs.waits.awaited_behind.Goals as goal
 
 pub returns-in_ok-lacks-in-Some-clause-awaited : goal.returns-in_ok-lacks-in-Some-clause-awaited
 returns-in_ok-lacks-in-Some-clause-awaited g c = λ trusted places ready.

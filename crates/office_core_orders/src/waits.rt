@@ -13,7 +13,7 @@ use crate::faults::{Progress, StoreFault};
 use crate::orders::{order, reach_all, stated_for};
 use crate::ready::ready_count;
 use crate::stored;
-use crate::waiting_lines::{Awaited, Lack, Waiting};
+use crate::wait_lines::{Awaited, Lack, Waiting};
 use office_mail::{RunOrder, Setup};
 use office_store_keeper::Keeper;
 use std::alloc::{AllocError, Global};

@@ -3,7 +3,7 @@ use Rattle.office_mail.specs.Kept.{Kept}
 use Rattle.office_core_orders.specs.Ready.{HasEach}
 use Rattle.office_core_orders.specs.steps.Ready.{IsReached}
 use Rattle.office_core_orders.specs.Waiting.{AreLacks}
-use Rattle.office_core_orders.proofs.waiting.lacks_behind.Given as goal
+use Rattle.office_core_orders.proofs.waits.lacks_behind.Given as goal
 
 abbrev pub invariant-senders : goal.invariant-senders
 invariant-senders l = record {
