@@ -16,7 +16,7 @@ use Rattle.office_store_keeper.specs.declared.faults.KeepFault.TheVariants.{Stor
 use Rattle.office_store_keeper.specs.declared.faults.Cause.TheVariants.{BadRow}
 use Rattle.office_store_tables.specs.TableContent.{content_in, count_said}
 use Rattle.office_store_tables.specs.Legible.{IsLegible}
-use Rattle.office_store_tables.specs.ReadsOnly.{ReadsOnly}
+use Rattle.office_store_tables.specs.Reads.{LeavesStore}
 use Rattle.office_store_tables.specs.Tables.{IsTrusted, kept_rows, run_map, said_in}
 use Rattle.office_store_tables.specs.TableSteps.{Same}
 use Rattle.office_store_tables.specs.steps.Tables.{Lasts}
@@ -109,7 +109,7 @@ keeps_by store {old} conn refusals in_memory result given view is counted before
 
 -- one that only reads the tables
 pub reads_by : {S T : Type 0} (store : Ghosts S) {old v : TablesState (Held S)} (conn : Held S) (refusals : ℕ) (in_memory : Option Suite) (result given : Result T KeepFault) → old ≡ v → result ≡ given → Counted old.refusals refusals result
-    → ReadsOnly store old.conn conn given → (IsLegibleStore old.setup (state store conn).now.trees old.in_memory → IsLegibleStore old.setup (state store conn).now.trees in_memory)
+    → LeavesStore store old.conn conn given → (IsLegibleStore old.setup (state store conn).now.trees old.in_memory → IsLegibleStore old.setup (state store conn).now.trees in_memory)
     → (IsTrusted (state store conn) → IsLegible old.setup (state store conn).now.trees → AreOwnTexts old.setup (kept_rows ((state store conn).now.trees 1)) → given ≢ Err (Store BadRow))
     → ReadsTables store v (record { conn = conn; setup = old.setup; refusals = refusals; in_memory = in_memory }) result
 reads_by store {old} conn refusals in_memory result given view is counted reads still bad =

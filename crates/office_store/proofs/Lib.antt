@@ -1,6 +1,7 @@
 pub mod OpenLemmas
 pub mod TakenLemmas
 pub mod RangeFacts
+pub mod LookLemmas
 pub mod MigrateLemmas
 pub mod MigratedContent
 pub mod ContentFacts

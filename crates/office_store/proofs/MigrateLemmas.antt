@@ -15,8 +15,8 @@ use Rattle.office_store_keeper.specs.declared.faults.Cause.TheVariants.{BadRow}
 use Rattle.office_store_keeper.specs.declared.faults.KeepFault.{KeepFault}
 use Rattle.office_store_keeper.specs.declared.faults.KeepFault.TheVariants.{NoMemory, Store}
 use Rattle.office_store_keeper.specs.declared.faults.KeepFault.TheVariants as kept
-use Rattle.office_store.specs.declared.opening.OpenFault.{OpenFault}
-use Rattle.office_store.specs.declared.opening.OpenFault.TheVariants as opening
+use Rattle.office_store.specs.declared.openings.OpenFault.{OpenFault}
+use Rattle.office_store.specs.declared.openings.OpenFault.TheVariants as opening
 use Rattle.office_store_tables.specs.declared.said.Said.{Said}
 use Rattle.office_store_tables.specs.Layout.{schema_before, office_schema, fact_delays}
 use Rattle.office_store_tables.specs.Tables.{number_in, text_in, office_by, office_in, said_in, kept_rows, IsWhole}

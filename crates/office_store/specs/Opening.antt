@@ -10,8 +10,8 @@ use Rattle.office_mail.specs.Lists.{Lists}
 use Rattle.office_mail.specs.Setup.{setup_in}
 use Rattle.office_store_keeper.specs.declared.faults.KeepFault.{KeepFault}
 use Rattle.office_store_keeper.specs.declared.faults.KeepFault.TheVariants.{NoMemory, Store}
-use Rattle.office_store.specs.declared.opening.OpenFault.{OpenFault}
-use Rattle.office_store.specs.declared.opening.OpenFault.TheVariants as opening
+use Rattle.office_store.specs.declared.openings.OpenFault.{OpenFault}
+use Rattle.office_store.specs.declared.openings.OpenFault.TheVariants as opening
 use Rattle.office_store_tables.specs.declared.said.Said.{Said}
 use Rattle.office_store_tables.specs.Layout.{no_schema, schema_before, office_schema, has_none, table_by, HasEach, HasEachBefore}
 use Rattle.office_store_tables.specs.Tables.{IsWhole, kept_rows, office_in, said_in}

@@ -1,23 +1,24 @@
 //! The testing that a keeper over tables keeps in memory for the next run, besides the tables' content.
-ghost use Rattle.std.specs.Prelude.{◌≡◌, ◌≢◌, ◌⊎◌, Err, Some, None, IfOk, IfSome, OnOk, OnErr};
+ghost use Rattle.std.specs.Prelude.{◌≡◌, ◌⊎◌, Some, None, IfOk, IfSome, OnOk, OnErr};
 ghost use Rattle.std.specs.List.{list_all};
 ghost use Rattle.std.specs.Str.{IsUtf8};
 ghost use Rattle.sqlite.specs.Held.{state};
 ghost use Rattle.sqlite.specs.State.{HasCleanDisk};
+ghost use Rattle.office_store_tables.specs.Faults.{NeverBad};
 ghost use Rattle.testing_rules_model.specs.steps.InOrder.{IsInOrder};
 ghost use Rattle.office_store_keeper.specs.Provenance.{KnowsArchs};
 ghost use Rattle.office_store_tables.specs.Entries.{source_map, entry_map};
 ghost use Rattle.office_store_tables.specs.steps.Finishing.{FinishesRun};
 ghost use Rattle.office_store_tables.specs.Legible.{IsWhole, AreNamed, SaysOnce};
 ghost use Rattle.office_store_tables.specs.TableContent.{is_arch_place, release_place, suite_in};
-ghost use Rattle.office_store_tables.specs.ReadsOnly.{ReadsOnly, BeginsOurs, Finds};
+ghost use Rattle.office_store_tables.specs.Reads.{LeavesStore, BeginsOurs, Finds, Holds};
 ghost use Rattle.office_store_tables.specs.Tables.{IsTrusted, IsOurs, kept_rows};
 ghost use Rattle.office_store_tables.specs.steps.Tables.{Lasts};
 
 use deb_control::NoMemory;
 use office_mail::Setup;
-use office_store_keeper::{Cause, Finished, KeepFault};
-use office_store_tables::{entries, finishing};
+use office_store_keeper::{Finished, KeepFault};
+use office_store_tables::{entries, finished_runs};
 use sqlite::{Alter, Connection};
 use std::alloc::Global;
 use testing_rules_items::{ALL, Archs};
@@ -75,9 +76,9 @@ pub(crate) fn next_testing<S: Alter>(
     in_memory: &mut Option<Testing>,
 ) -> Result<Testing, KeepFault>
     requires ours { BeginsOurs S.Store conn.old }
-    ensures reads { ReadsOnly S.Store conn.old conn.new result }
+    ensures reads { LeavesStore S.Store conn.old conn.new result }
     ensures stays { in_memory.new ≡ in_memory.old }
-    ensures bad { IsTrusted (state S.Store conn.new) → IsWhole (kept_rows ((state S.Store conn.new).now.trees 1)) ((state S.Store conn.new).now.trees 1) → AreNamed setup.now (state S.Store conn.new).now.trees → result ≢ Err (KeepFault.Store Cause.BadRow) }
+    ensures bad { Holds S.Store conn.new (λ db. IsWhole (kept_rows (db 1)) (db 1) → AreNamed setup.now db → NeverBad result) }
     ensures known { IfOk result (λ testing. KnowsArchs setup.now.archs testing.rows) }
     ensures value { Finds S.Store conn.new result (λ db testing. (in_memory.old ≡ Some testing) ⊎ (testing ≡ suite_in setup.now (kept_rows (db 1)) (source_map (db 4)) (entry_map (db 6)))) }
 {
@@ -109,12 +110,12 @@ pub(crate) fn finish<S: Alter>(
     run: u32,
     done: Finished,
 ) -> Result<(), KeepFault>
-    requires ours { IsTrusted (state S.Store conn.old) → IsOurs (state S.Store conn.old) }
+    requires ours { BeginsOurs S.Store conn.old }
     ensures before { IsTrusted (state S.Store conn.new) → IsTrusted (state S.Store conn.old) }
     ensures lasts { Lasts (state S.Store conn.old) (state S.Store conn.new) }
     ensures open { HasCleanDisk (state S.Store conn.new) → IsTrusted (state S.Store conn.old) → OnOk result (IsTrusted (state S.Store conn.new)) }
     ensures ours { IsTrusted (state S.Store conn.new) → IsOurs (state S.Store conn.new) }
-    ensures bad { IsTrusted (state S.Store conn.new) → SaysOnce ((state S.Store conn.old).now.trees 0) → result ≢ Err (KeepFault.Store Cause.BadRow) }
+    ensures bad { IsTrusted (state S.Store conn.new) → SaysOnce ((state S.Store conn.old).now.trees 0) → NeverBad result }
     ensures ordered { OnOk result (IsInOrder done.testing.sources done.testing.rows) }
     ensures texts { OnOk result (IsUtf8 done.excuses × IsUtf8 done.updates) }
     ensures done { IsTrusted (state S.Store conn.new) → OnOk result (FinishesRun (release_place setup.now) (state S.Store conn.old).now.trees (state S.Store conn.new).now.trees run done) }
@@ -123,7 +124,7 @@ pub(crate) fn finish<S: Alter>(
     ensures none { OnErr result (in_memory.new ≡ None) }
 {
     *in_memory = None;
-    match finishing::finish(conn, setup, run, &done) {
+    match finished_runs::finish(conn, setup, run, &done) {
         Ok(()) => {
             *in_memory = Some(testing_left(done));
             Ok(())

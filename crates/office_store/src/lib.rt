@@ -6,10 +6,10 @@ mod among;
 mod conf;
 mod in_memory;
 pub mod laws;
-mod migrating;
+mod migration;
 mod on_sqlite;
 mod opened_tables;
-mod opening;
+mod openings;
 mod store;
 
 pub use conf::{ConfFault, conf_status, read_setup, setup_status};
@@ -17,5 +17,5 @@ pub use office_store_keeper::{
     Cause, Finished, KeepFault, Keeper, Letter, MailText, Plain, Reports,
 };
 pub use on_sqlite::Tables;
-pub use opening::OpenFault;
+pub use openings::OpenFault;
 pub use store::{FileFault, close_store, open_store, open_tables, store_status};

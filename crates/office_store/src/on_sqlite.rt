@@ -10,7 +10,7 @@ ghost use Rattle.office_store.specs.TablesState.{IsLegibleStore};
 use crate::in_memory;
 use office_mail::Setup;
 use office_store_keeper::{Finished, KeepFault, Keeper, Letter, MailText, NewLetter, Reports};
-use office_store_tables::{entries, fact_rows, finishing, mail, reading, runs};
+use office_store_tables::{checks, entries, fact_rows, finished_runs, mail, runs};
 use sqlite::{Alter, Connection};
 use std::alloc::Global;
 use std::marker::Model;
@@ -147,7 +147,7 @@ impl<S: Alter> Keeper for Tables<S> {
         self.in_memory = None;
         count(
             &mut self.refusals,
-            finishing::finish(&mut self.conn, &self.setup, run, done),
+            finished_runs::finish(&mut self.conn, &self.setup, run, done),
         )
     }
 
@@ -174,7 +174,7 @@ impl<S: Alter> Keeper for Tables<S> {
         self.in_memory = None;
         count(
             &mut self.refusals,
-            reading::is_whole(self.alloc, &mut self.conn, &self.setup, texts),
+            checks::is_whole(self.alloc, &mut self.conn, &self.setup, texts),
         )
     }
 

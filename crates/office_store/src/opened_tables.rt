@@ -9,7 +9,7 @@ ghost use Rattle.office_store.specs.Opening.{IsOpened, IsKeptForOther, IsUnknown
 ghost use Rattle.office_store_keeper.specs.declared.faults.Cause.TheVariants.{BadRow};
 
 use crate::on_sqlite::Tables;
-use crate::opening::{OpenFault, prepare};
+use crate::openings::{OpenFault, prepare};
 use office_mail::Setup;
 use sqlite::{Alter, Connection};
 use std::alloc::Global;

@@ -23,6 +23,7 @@ use Rattle.office_store_testing_tables.specs.declared.said.Said.{Said}
 use Rattle.office_store_tables.specs.Tables.{IsTrusted, said_in}
 use Rattle.office_store_tables.specs.TableSteps.{Rows, SaysMore}
 use Rattle.office_store_tables.proofs.RunLemmas.{said_one}
+use Rattle.office_store_tables.specs.StepsWithin.{StepsWithin}
 use Rattle.office_store_tables.specs.Creating.{IsBlank}
 use Rattle.office_store_tables.specs.steps.CreatingSteps.{Creates, IsBuilding, Makes, MakesAll, schema_of_one, schema_of_two, schema_of_three, schema_of_four, schema_of_five, schema_of_six}
 use Rattle.office_store_tables.proofs.StateLemmas.{lasts_survived}
@@ -162,4 +163,15 @@ built_within step = record {
   stays = step.stays;
   on = λ trusted. let all = step.made trusted in record { inside = record { schema = all.schema_is; begun = all.begun }; committed = all.committed };
   err = λ _. tt;
+}
+
+-- a table wasn't made
+pub unbuilt_within : {S : Type 0} {store : Ghosts S} {old new : MutBor (Held S)} {e : Error} {are_made : State → State → Type 0} → Creates store old new (Err e) are_made → StepsWithin {T = ℕ} store old new (Err e)
+unbuilt_within step = record {
+  same_reference = step.same_reference;
+  before = step.before;
+  lasts = step.lasts;
+  stays = λ _ _. tt;
+  on = λ _. tt;
+  err = step.err;
 }

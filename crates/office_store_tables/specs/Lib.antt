@@ -4,7 +4,7 @@ pub use Rattle.office_store_testing_tables.specs.Tables
 pub use Rattle.office_store_testing_tables.specs.steps.TableSteps
 pub use Rattle.office_store_testing_tables.specs.steps.Faults
 pub use Rattle.office_store_testing_tables.specs.steps.StepsWithin
-pub use Rattle.office_store_testing_tables.specs.steps.ReadsOnly
+pub use Rattle.office_store_testing_tables.specs.steps.Reads
 pub use Rattle.office_store_testing_tables.specs.Entries
 pub use Rattle.office_store_testing_tables.specs.steps.EntrySteps
 pub use Rattle.office_store_testing_tables.specs.FactTables

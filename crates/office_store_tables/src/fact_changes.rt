@@ -1,5 +1,5 @@
 //! Changes of the tables of facts.
-ghost use Rattle.office_store_testing_tables.specs.steps.StepsWithin.{BeginsInside, PerformsWell};
+ghost use Rattle.office_store_testing_tables.specs.steps.StepsWithin.{BeginsInside, PerformsNeverBad};
 ghost use Rattle.office_store_testing_tables.specs.steps.FactSteps.{ChangesFacts, DropsEach};
 
 use office_store_keeper::KeepFault;
@@ -15,7 +15,7 @@ fn drop_gone<S: Alter>(
     changes: &FactChanges,
 ) -> Result<(), KeepFault>
     requires { BeginsInside S.Store tx.old.conn }
-    ensures { PerformsWell S.Store tx.old.conn tx.new.conn result (λ db next _. DropsEach release db next changes.now.gone) }
+    ensures { PerformsNeverBad S.Store tx.old.conn tx.new.conn result (λ db next _. DropsEach release db next changes.now.gone) }
 {
     drop_each(tx, release, changes.gone.as_slice())
 }
@@ -27,7 +27,7 @@ pub(crate) fn change_facts<S: Alter>(
     changes: &FactChanges,
 ) -> Result<(), KeepFault>
     requires { BeginsInside S.Store tx.old.conn }
-    ensures { PerformsWell S.Store tx.old.conn tx.new.conn result (λ db next _. ChangesFacts release db next changes.now) }
+    ensures { PerformsNeverBad S.Store tx.old.conn tx.new.conn result (λ db next _. ChangesFacts release db next changes.now) }
 {
     drop_gone(tx, release, changes)?;
     add_each(tx, release, changes.put.as_slice())?;

@@ -2,11 +2,11 @@
 //! read and change them.
 #![tactic(auto)]
 
+pub mod checks;
 pub mod fact_changes;
-pub mod finishing;
+pub mod finished_runs;
 pub mod layout;
 pub mod mail;
-pub mod reading;
 pub mod runs;
 pub mod schema;
 pub mod setup_text;

@@ -1,16 +1,17 @@
 //! The table of mail.
-ghost use Rattle.std.specs.Prelude.{◌≡◌, ◌≢◌, ◌≤◌, ◌<◌, ◌∷◌, [], List, ℕ, Some, Err, pos, map, take, length, IfOk, OnOk, OnErr};
+ghost use Rattle.std.specs.Prelude.{◌≡◌, ◌≢◌, ◌≤◌, ◌<◌, ◌∷◌, [], List, ℕ, pos, map, take, length, IfOk, OnOk, OnErr};
 ghost use Rattle.office_store_keeper.specs.Content.{IsNextNumber};
 ghost use Rattle.sqlite.specs.declared.types.Value.TheVariants.{Int, Blob};
 ghost use Rattle.sqlite.specs.Held.{state};
 ghost use Rattle.sqlite.specs.Values.{bound};
 ghost use Rattle.sqlite.specs.State.{HasCleanDisk};
 ghost use Rattle.office_store_testing_tables.specs.Tables.{IsTrusted, IsOurs, kept_rows};
+ghost use Rattle.office_store_testing_tables.specs.steps.Faults.{IsBad, NeverBad};
 ghost use Rattle.office_store_testing_tables.specs.steps.Tables.{Lasts};
 ghost use Rattle.std.specs.List.Sorted.{IsPermutation};
 ghost use Rattle.office_store_testing_tables.specs.steps.TableSteps.{AddsLetter, AddsLetters, letter_parameters, rowid_column, AreSmall, IsCrowded, IsOnlyNumber, ShowsLeast};
-ghost use Rattle.office_store_testing_tables.specs.steps.ReadsOnly.{ReadsOnly, BeginsOurs, Finds};
-ghost use Rattle.office_store_testing_tables.specs.steps.StepsWithin.{StepsWithin, BeginsInside, Yields};
+ghost use Rattle.office_store_testing_tables.specs.steps.Reads.{LeavesStore, BeginsOurs, Finds, Reads, Holds};
+ghost use Rattle.office_store_testing_tables.specs.steps.StepsWithin.{BeginsInside, Performs};
 
 use office_store_keeper::{Cause, KeepFault, NewLetter};
 use office_store_testing_tables::mail::letter_in;
@@ -20,9 +21,8 @@ use sqlite::{Alter, Connection, Error, Row, Transaction, params};
 
 /// The row of mail with this sender's place and the least number from one on, if there is one.
 fn least_from<S: Alter>(conn: &mut Connection<S>, sender: u32, from: u32) -> Result<Vec<Row>, Error>
-    requires ours { BeginsOurs S.Store conn.old }
-    ensures reads { ReadsOnly S.Store conn.old conn.new result }
-    ensures rows { Finds S.Store conn.new result (λ db rows. ShowsLeast sender from (db 1) rows.items) }
+    requires { BeginsOurs S.Store conn.old }
+    ensures { Reads S.Store conn.old conn.new result (λ db rows. ShowsLeast sender from (db 1) rows.items) }
 {
     conn.query_all(
         "SELECT sender, number, body FROM mail WHERE sender = ?1 AND number >= ?2 ORDER BY number LIMIT 1",
@@ -33,8 +33,8 @@ fn least_from<S: Alter>(conn: &mut Connection<S>, sender: u32, from: u32) -> Res
 /// The number of the only letter, if there is one.
 fn only_number(rows: &[Row], sender: u32) -> Result<Option<u32>, KeepFault>
     ensures ok { IfOk result (λ number. IsOnlyNumber sender number rows.now) }
-    ensures none { result ≡ Err (KeepFault.Store Cause.BadRow) → rows.now ≢ [] }
-    ensures one { result ≡ Err (KeepFault.Store Cause.BadRow) → (number : ℕ) (text : List ℕ) → number < 4_294_967_296 → rows.now ≢ (Int (pos sender) ∷ Int (pos number) ∷ Blob text ∷ []) ∷ [] }
+    ensures none { IsBad result → rows.now ≢ [] }
+    ensures one { IsBad result → (number : ℕ) (text : List ℕ) → number < 4_294_967_296 → rows.now ≢ (Int (pos sender) ∷ Int (pos number) ∷ Blob text ∷ []) ∷ [] }
 {
     match rows {
         [] => Ok(None),
@@ -54,9 +54,9 @@ pub fn next_number<S: Alter>(
     from: u32,
 ) -> Result<Option<u32>, KeepFault>
     requires ours { BeginsOurs S.Store conn.old }
-    ensures reads { ReadsOnly S.Store conn.old conn.new result }
+    ensures reads { LeavesStore S.Store conn.old conn.new result }
     ensures next { Finds S.Store conn.new result (λ db number. IsNextNumber (kept_rows (db 1)) sender from number) }
-    ensures bad { IsTrusted (state S.Store conn.new) → result ≡ Err (KeepFault.Store Cause.BadRow) → AreSmall (kept_rows ((state S.Store conn.new).now.trees 1)) → IsCrowded ((state S.Store conn.new).now.trees 1) }
+    ensures bad { Holds S.Store conn.new (λ db. IsBad result → AreSmall (kept_rows (db 1)) → IsCrowded (db 1)) }
 {
     let rows = least_from(conn, sender, from)?;
     only_number(rows.as_slice(), sender)
@@ -64,9 +64,8 @@ pub fn next_number<S: Alter>(
 
 /// The rowids of mail, in any order.
 fn rowids<S: Alter>(conn: &mut Connection<S>) -> Result<Vec<Row>, Error>
-    requires ours { BeginsOurs S.Store conn.old }
-    ensures reads { ReadsOnly S.Store conn.old conn.new result }
-    ensures rows { Finds S.Store conn.new result (λ db rows. IsPermutation (map rowid_column (db 1)) rows.items) }
+    requires { BeginsOurs S.Store conn.old }
+    ensures { Reads S.Store conn.old conn.new result (λ db rows. IsPermutation (map rowid_column (db 1)) rows.items) }
 {
     conn.query_all("SELECT rowid FROM mail", &[])
 }
@@ -74,9 +73,9 @@ fn rowids<S: Alter>(conn: &mut Connection<S>) -> Result<Vec<Row>, Error>
 /// The number of rows of the table, whether they are letters or not.
 pub fn count<S: Alter>(conn: &mut Connection<S>) -> Result<u64, KeepFault>
     requires ours { BeginsOurs S.Store conn.old }
-    ensures reads { ReadsOnly S.Store conn.old conn.new result }
+    ensures reads { LeavesStore S.Store conn.old conn.new result }
     ensures count { Finds S.Store conn.new result (λ db count. count ≡ length (db 1)) }
-    ensures bad { result ≢ Err (KeepFault.Store Cause.BadRow) }
+    ensures bad { NeverBad result }
 {
     let rows = rowids(conn)?;
     Ok(rows.len() as u64)
@@ -89,9 +88,8 @@ fn add_letter<S: Alter>(
     number: u32,
     text: &[u8],
 ) -> Result<usize, Error>
-    requires inside { BeginsInside S.Store tx.old.conn }
-    ensures steps { StepsWithin S.Store tx.old.conn tx.new.conn result }
-    ensures added { Yields S.Store tx.old.conn tx.new.conn result (λ db next _. AddsLetter db next sender number text.now) }
+    requires { BeginsInside S.Store tx.old.conn }
+    ensures { Performs S.Store tx.old.conn tx.new.conn result (λ db next _. AddsLetter db next sender number text.now) }
 {
     tx.execute(
         "INSERT INTO mail (sender, number, body) VALUES (?1, ?2, ?3)",
@@ -106,14 +104,14 @@ pub fn keep<S: Alter>(
     number: u32,
     text: &[u8],
 ) -> Result<(), KeepFault>
-    requires ours { IsTrusted (state S.Store conn.old) → IsOurs (state S.Store conn.old) }
+    requires ours { BeginsOurs S.Store conn.old }
     ensures before { IsTrusted (state S.Store conn.new) → IsTrusted (state S.Store conn.old) }
     ensures lasts { Lasts (state S.Store conn.old) (state S.Store conn.new) }
     ensures open { HasCleanDisk (state S.Store conn.new) → IsTrusted (state S.Store conn.old) → OnOk result (IsTrusted (state S.Store conn.new)) }
     ensures ours { IsTrusted (state S.Store conn.new) → IsOurs (state S.Store conn.new) }
     ensures kept { IsTrusted (state S.Store conn.new) → OnOk result (AddsLetter (state S.Store conn.old).now.trees (state S.Store conn.new).now.trees sender number text.now) }
     ensures err { IsTrusted (state S.Store conn.new) → OnErr result ((state S.Store conn.new).now ≡ (state S.Store conn.old).now) }
-    ensures bad { result ≢ Err (KeepFault.Store Cause.BadRow) }
+    ensures bad { NeverBad result }
 {
     if !conn.is_autocommit() {
         return Err(KeepFault::Store(Cause::Sqlite(Error::InvalidQuery)));
@@ -160,8 +158,7 @@ fn eight_values(letters: &[NewLetter]) -> [[ValueRef<'_>; 3]; 8]
 fn add_eight<S: Alter>(tx: &mut Transaction<'_, S>, letters: &[NewLetter]) -> Result<usize, Error>
     requires inside { BeginsInside S.Store tx.old.conn }
     requires eight { length letters.now ≡ 8 }
-    ensures steps { StepsWithin S.Store tx.old.conn tx.new.conn result }
-    ensures added { Yields S.Store tx.old.conn tx.new.conn result (λ db next _. AddsLetters db next letters.now) }
+    ensures { Performs S.Store tx.old.conn tx.new.conn result (λ db next _. AddsLetters db next letters.now) }
 {
     let values = eight_values(letters);
     tx.execute(
@@ -174,9 +171,8 @@ fn add_eight<S: Alter>(tx: &mut Transaction<'_, S>, letters: &[NewLetter]) -> Re
 fn add_first<S: Alter>(tx: &mut Transaction<'_, S>, letters: &[NewLetter]) -> Result<usize, Error>
     requires inside { BeginsInside S.Store tx.old.conn }
     requires some { 0 < length letters.now }
-    ensures steps { StepsWithin S.Store tx.old.conn tx.new.conn result }
+    ensures does { Performs S.Store tx.old.conn tx.new.conn result (λ db next count. AddsLetters db next (take count letters.now)) }
     ensures count { IfOk result (λ count. (0 < count) × (count ≤ length letters.now)) }
-    ensures added { Yields S.Store tx.old.conn tx.new.conn result (λ db next count. AddsLetters db next (take count letters.now)) }
 {
     if letters.len() >= 8 {
         add_eight(tx, &letters[..8])?;
@@ -189,9 +185,8 @@ fn add_first<S: Alter>(tx: &mut Transaction<'_, S>, letters: &[NewLetter]) -> Re
 
 /// Adds these texts to the mail.
 fn add_letters<S: Alter>(tx: &mut Transaction<'_, S>, letters: &[NewLetter]) -> Result<(), Error>
-    requires inside { BeginsInside S.Store tx.old.conn }
-    ensures steps { StepsWithin S.Store tx.old.conn tx.new.conn result }
-    ensures added { Yields S.Store tx.old.conn tx.new.conn result (λ db next _. AddsLetters db next letters.now) }
+    requires { BeginsInside S.Store tx.old.conn }
+    ensures { Performs S.Store tx.old.conn tx.new.conn result (λ db next _. AddsLetters db next letters.now) }
 {
     let mut at = 0;
     'letters: while at < letters.len() {
@@ -203,14 +198,14 @@ fn add_letters<S: Alter>(tx: &mut Transaction<'_, S>, letters: &[NewLetter]) -> 
 
 /// Keeps these texts under free numbers, in one transaction: all of them, or none.
 pub fn keep_all<S: Alter>(conn: &mut Connection<S>, letters: &[NewLetter]) -> Result<(), KeepFault>
-    requires ours { IsTrusted (state S.Store conn.old) → IsOurs (state S.Store conn.old) }
+    requires ours { BeginsOurs S.Store conn.old }
     ensures before { IsTrusted (state S.Store conn.new) → IsTrusted (state S.Store conn.old) }
     ensures lasts { Lasts (state S.Store conn.old) (state S.Store conn.new) }
     ensures open { HasCleanDisk (state S.Store conn.new) → IsTrusted (state S.Store conn.old) → OnOk result (IsTrusted (state S.Store conn.new)) }
     ensures ours { IsTrusted (state S.Store conn.new) → IsOurs (state S.Store conn.new) }
     ensures kept { IsTrusted (state S.Store conn.new) → OnOk result (AddsLetters (state S.Store conn.old).now.trees (state S.Store conn.new).now.trees letters.now) }
     ensures err { IsTrusted (state S.Store conn.new) → OnErr result ((state S.Store conn.new).now ≡ (state S.Store conn.old).now) }
-    ensures bad { result ≢ Err (KeepFault.Store Cause.BadRow) }
+    ensures bad { NeverBad result }
 {
     if !conn.is_autocommit() {
         return Err(KeepFault::Store(Cause::Sqlite(Error::InvalidQuery)));

@@ -1,5 +1,5 @@
 //! The tables of the office and of its finished runs.
-ghost use Rattle.std.specs.Prelude.{◌≡◌, ◌≢◌, ◌<◌, ◌≤◌, ◌↔◌, ℕ, Err, ◌∷◌, [], Some, pos, map, filter, length, IsTrue, IfOk, IfSome};
+ghost use Rattle.std.specs.Prelude.{◌≡◌, ◌≢◌, ◌<◌, ◌≤◌, ◌↔◌, ℕ, ◌∷◌, [], Some, pos, map, filter, length, IsTrue, IfOk, IfSome};
 ghost use Rattle.std.specs.List.Sorted.{IsPermutation};
 ghost use Rattle.std.specs.FinMap.{get};
 ghost use Rattle.std.specs.Str.{IsUtf8};
@@ -10,11 +10,11 @@ ghost use Rattle.office_store_testing_tables.specs.declared.said.Said.{Said as S
 ghost use Rattle.office_store_keeper.specs.declared.values.Reports.{Reports as ReportsNow};
 ghost use Rattle.sqlite.specs.Order.{column};
 ghost use Rattle.sqlite.specs.declared.types.Value.TheVariants.{Int, Text as Words};
-ghost use Rattle.sqlite.specs.Held.{state};
-ghost use Rattle.office_store_testing_tables.specs.Tables.{IsTrusted, said_in as said_rows, run_map};
+ghost use Rattle.office_store_testing_tables.specs.Tables.{said_in as said_rows, run_map};
+ghost use Rattle.office_store_testing_tables.specs.steps.Faults.{IsBad, NeverBad};
 ghost use Rattle.office_store_testing_tables.specs.steps.TableSteps.{IsOnlyOffice, IsOnlyRun, AddsRun, Silences, SaysMore, RecordsRun, office_columns, is_run, run_columns, rowid_column};
 ghost use Rattle.office_store_tables.specs.steps.Reading.{IsRecorded};
-ghost use Rattle.office_store_testing_tables.specs.steps.ReadsOnly.{ReadsOnly, BeginsOurs, Finds};
+ghost use Rattle.office_store_testing_tables.specs.steps.Reads.{LeavesStore, BeginsOurs, Finds, Reads, Holds};
 ghost use Rattle.office_store_testing_tables.specs.steps.StepsWithin.{BeginsInside, Performs};
 
 use deb_control::Text;
@@ -26,7 +26,7 @@ use sqlite::{Alter, Connection, Error, Row, Transaction, params};
 
 /// The content of the office's row with the id 1.
 fn said_in(row: &Row) -> Result<Said, KeepFault>
-    ensures bad { result ≡ Err (KeepFault.Store Cause.BadRow) → (said : SaidNow) → said.schema < 4_294_967_296 → said.finished < 4_294_967_296 → IsUtf8 said.setup → row.now ≢ Int (pos 1) ∷ Int (pos said.schema) ∷ Words said.setup ∷ Int (pos said.finished) ∷ [] }
+    ensures bad { IsBad result → (said : SaidNow) → said.schema < 4_294_967_296 → said.finished < 4_294_967_296 → IsUtf8 said.setup → row.now ≢ Int (pos 1) ∷ Int (pos said.schema) ∷ Words said.setup ∷ Int (pos said.finished) ∷ [] }
     ensures ok { IfOk result (λ said. (column row.now 0 ≡ Int (pos 1)) × (column row.now 1 ≡ Int (pos said.schema)) × (column row.now 2 ≡ Words said.setup) × (column row.now 3 ≡ Int (pos said.finished))) }
     ensures fits { IfOk result (λ said. (said.schema < 4_294_967_296) × (said.finished < 4_294_967_296) × IsUtf8 said.setup) }
 {
@@ -48,7 +48,7 @@ fn said_in(row: &Row) -> Result<Said, KeepFault>
 fn only_said(rows: &[Row]) -> Result<Said, KeepFault>
     ensures ok { IfOk result (λ said. IsOnlyOffice said rows.now) }
     ensures fits { IfOk result (λ said. (said.schema < 4_294_967_296) × (said.finished < 4_294_967_296) × IsUtf8 said.setup) }
-    ensures bad { result ≡ Err (KeepFault.Store Cause.BadRow) → (said : SaidNow) → said.schema < 4_294_967_296 → said.finished < 4_294_967_296 → IsUtf8 said.setup → rows.now ≢ (Int (pos 1) ∷ Int (pos said.schema) ∷ Words said.setup ∷ Int (pos said.finished) ∷ []) ∷ [] }
+    ensures bad { IsBad result → (said : SaidNow) → said.schema < 4_294_967_296 → said.finished < 4_294_967_296 → IsUtf8 said.setup → rows.now ≢ (Int (pos 1) ∷ Int (pos said.schema) ∷ Words said.setup ∷ Int (pos said.finished) ∷ []) ∷ [] }
 {
     match rows {
         [row] => said_in(row),
@@ -58,9 +58,8 @@ fn only_said(rows: &[Row]) -> Result<Said, KeepFault>
 
 /// The rows of the office, in any order.
 pub fn office_rows<S: Alter>(conn: &mut Connection<S>) -> Result<Vec<Row>, Error>
-    requires ours { BeginsOurs S.Store conn.old }
-    ensures reads { ReadsOnly S.Store conn.old conn.new result }
-    ensures rows { Finds S.Store conn.new result (λ db rows. IsPermutation (map office_columns (db 0)) rows.items) }
+    requires { BeginsOurs S.Store conn.old }
+    ensures { Reads S.Store conn.old conn.new result (λ db rows. IsPermutation (map office_columns (db 0)) rows.items) }
 {
     conn.query_all("SELECT id, schema, setup, finished FROM office", &[])
 }
@@ -68,10 +67,10 @@ pub fn office_rows<S: Alter>(conn: &mut Connection<S>) -> Result<Vec<Row>, Error
 /// The content of the office's row.
 pub(crate) fn said<S: Alter>(conn: &mut Connection<S>) -> Result<Said, KeepFault>
     requires ours { BeginsOurs S.Store conn.old }
-    ensures reads { ReadsOnly S.Store conn.old conn.new result }
+    ensures reads { LeavesStore S.Store conn.old conn.new result }
     ensures value { Finds S.Store conn.new result (λ db said. said_rows (db 0) ≡ Some said) }
     ensures once { Finds S.Store conn.new result (λ db said. (once : SaysOnce (db 0)) × (once.said ≡ said)) }
-    ensures bad { IsTrusted (state S.Store conn.new) → SaysOnce ((state S.Store conn.new).now.trees 0) → result ≢ Err (KeepFault.Store Cause.BadRow) }
+    ensures bad { Holds S.Store conn.new (λ db. SaysOnce (db 0) → NeverBad result) }
 {
     let rows = office_rows(conn)?;
     only_said(rows.as_slice())
@@ -80,9 +79,9 @@ pub(crate) fn said<S: Alter>(conn: &mut Connection<S>) -> Result<Said, KeepFault
 /// The number of finished runs.
 pub fn finished<S: Alter>(conn: &mut Connection<S>) -> Result<u32, KeepFault>
     requires ours { BeginsOurs S.Store conn.old }
-    ensures reads { ReadsOnly S.Store conn.old conn.new result }
+    ensures reads { LeavesStore S.Store conn.old conn.new result }
     ensures value { Finds S.Store conn.new result (λ db n. n ≡ count_said (said_rows (db 0))) }
-    ensures bad { IsTrusted (state S.Store conn.new) → SaysOnce ((state S.Store conn.new).now.trees 0) → result ≢ Err (KeepFault.Store Cause.BadRow) }
+    ensures bad { Holds S.Store conn.new (λ db. SaysOnce (db 0) → NeverBad result) }
 {
     let said = said(conn)?;
     Ok(said.finished)
@@ -90,7 +89,7 @@ pub fn finished<S: Alter>(conn: &mut Connection<S>) -> Result<u32, KeepFault>
 
 /// The reports in the row of a run.
 fn reports_in(row: &Row, run: u32) -> Result<Reports, KeepFault>
-    ensures bad { result ≡ Err (KeepFault.Store Cause.BadRow) → (reports : ReportsNow) → IsUtf8 reports.excuses → IsUtf8 reports.updates → row.now ≢ Int (pos run) ∷ Words reports.excuses ∷ Words reports.updates ∷ [] }
+    ensures bad { IsBad result → (reports : ReportsNow) → IsUtf8 reports.excuses → IsUtf8 reports.updates → row.now ≢ Int (pos run) ∷ Words reports.excuses ∷ Words reports.updates ∷ [] }
     ensures texts { IfOk result (λ r. IsUtf8 r.excuses × IsUtf8 r.updates) }
     ensures ok { IfOk result (λ r. (column row.now 0 ≡ Int (pos run)) × (column row.now 1 ≡ Words r.excuses) × (column row.now 2 ≡ Words r.updates)) }
 {
@@ -110,8 +109,8 @@ fn reports_in(row: &Row, run: u32) -> Result<Reports, KeepFault>
 fn only_reports(rows: &[Row], run: u32) -> Result<Option<Reports>, KeepFault>
     ensures ok { IfOk result (λ reports. IsOnlyRun run reports rows.now) }
     ensures texts { IfOk result (λ reports. IfSome reports (λ r. IsUtf8 r.excuses × IsUtf8 r.updates)) }
-    ensures none { result ≡ Err (KeepFault.Store Cause.BadRow) → rows.now ≢ [] }
-    ensures one { result ≡ Err (KeepFault.Store Cause.BadRow) → (reports : ReportsNow) → IsUtf8 reports.excuses → IsUtf8 reports.updates → rows.now ≢ (Int (pos run) ∷ Words reports.excuses ∷ Words reports.updates ∷ []) ∷ [] }
+    ensures none { IsBad result → rows.now ≢ [] }
+    ensures one { IsBad result → (reports : ReportsNow) → IsUtf8 reports.excuses → IsUtf8 reports.updates → rows.now ≢ (Int (pos run) ∷ Words reports.excuses ∷ Words reports.updates ∷ []) ∷ [] }
 {
     match rows {
         [] => Ok(None),
@@ -122,9 +121,8 @@ fn only_reports(rows: &[Row], run: u32) -> Result<Option<Reports>, KeepFault>
 
 /// The rows of this run, in any order.
 fn run_rows<S: Alter>(conn: &mut Connection<S>, run: u32) -> Result<Vec<Row>, Error>
-    requires ours { BeginsOurs S.Store conn.old }
-    ensures reads { ReadsOnly S.Store conn.old conn.new result }
-    ensures rows { Finds S.Store conn.new result (λ db rows. IsPermutation (map run_columns (filter (is_run run) (db 3))) rows.items) }
+    requires { BeginsOurs S.Store conn.old }
+    ensures { Reads S.Store conn.old conn.new result (λ db rows. IsPermutation (map run_columns (filter (is_run run) (db 3))) rows.items) }
 {
     conn.query_all(
         "SELECT number, excuses, updates FROM run WHERE number = ?1",
@@ -135,10 +133,10 @@ fn run_rows<S: Alter>(conn: &mut Connection<S>, run: u32) -> Result<Vec<Row>, Er
 /// The reports under a run's number, or none.
 fn recorded<S: Alter>(conn: &mut Connection<S>, run: u32) -> Result<Option<Reports>, KeepFault>
     requires ours { BeginsOurs S.Store conn.old }
-    ensures reads { ReadsOnly S.Store conn.old conn.new result }
+    ensures reads { LeavesStore S.Store conn.old conn.new result }
     ensures value { Finds S.Store conn.new result (λ db reports. reports ≡ get (run_map (db 3)) run) }
     ensures texts { IfOk result (λ reports. IfSome reports (λ r. IsUtf8 r.excuses × IsUtf8 r.updates)) }
-    ensures bad { IsTrusted (state S.Store conn.new) → (finished : ℕ) → AreReported ((state S.Store conn.new).now.trees 3) finished → result ≢ Err (KeepFault.Store Cause.BadRow) }
+    ensures bad { Holds S.Store conn.new (λ db. (finished : ℕ) → AreReported (db 3) finished → NeverBad result) }
 {
     let rows = run_rows(conn, run)?;
     only_reports(rows.as_slice(), run)
@@ -147,8 +145,8 @@ fn recorded<S: Alter>(conn: &mut Connection<S>, run: u32) -> Result<Option<Repor
 /// The two reports of a finished run, or none for another run.
 pub fn reports<S: Alter>(conn: &mut Connection<S>, run: u32) -> Result<Option<Reports>, KeepFault>
     requires ours { BeginsOurs S.Store conn.old }
-    ensures reads { ReadsOnly S.Store conn.old conn.new result }
-    ensures bad { IsTrusted (state S.Store conn.new) → (once : SaysOnce ((state S.Store conn.new).now.trees 0)) → AreReported ((state S.Store conn.new).now.trees 3) once.said.finished → result ≢ Err (KeepFault.Store Cause.BadRow) }
+    ensures reads { LeavesStore S.Store conn.old conn.new result }
+    ensures bad { Holds S.Store conn.new (λ db. (once : SaysOnce (db 0)) → AreReported (db 3) once.said.finished → NeverBad result) }
     ensures value { Finds S.Store conn.new result (λ db reports. reports ≡ item_from_one run (reports_to (run_map (db 3)) (count_said (said_rows (db 0))))) }
 {
     if run == 0 {
@@ -167,9 +165,9 @@ pub fn reports<S: Alter>(conn: &mut Connection<S>, run: u32) -> Result<Option<Re
 /// Whether a run has its reports.
 fn is_recorded<S: Alter>(conn: &mut Connection<S>, run: u32) -> Result<bool, KeepFault>
     requires ours { BeginsOurs S.Store conn.old }
-    ensures reads { ReadsOnly S.Store conn.old conn.new result }
+    ensures reads { LeavesStore S.Store conn.old conn.new result }
     ensures own { Finds S.Store conn.new result (λ db own. IsTrue own ↔ IsRecorded (db 3) run) }
-    ensures bad { IsTrusted (state S.Store conn.new) → (finished : ℕ) → AreReported ((state S.Store conn.new).now.trees 3) finished → result ≢ Err (KeepFault.Store Cause.BadRow) }
+    ensures bad { Holds S.Store conn.new (λ db. (finished : ℕ) → AreReported (db 3) finished → NeverBad result) }
 {
     let reports = recorded(conn, run)?;
     Ok(reports.is_some())
@@ -178,9 +176,9 @@ fn is_recorded<S: Alter>(conn: &mut Connection<S>, run: u32) -> Result<bool, Kee
 /// Whether each run up to a number has its reports.
 fn are_recorded<S: Alter>(conn: &mut Connection<S>, runs: u32) -> Result<bool, KeepFault>
     requires ours { BeginsOurs S.Store conn.old }
-    ensures reads { ReadsOnly S.Store conn.old conn.new result }
+    ensures reads { LeavesStore S.Store conn.old conn.new result }
     ensures own { Finds S.Store conn.new result (λ db own. IsTrue own ↔ ((run : ℕ) → 1 ≤ run → run ≤ runs → IsRecorded (db 3) run)) }
-    ensures bad { IsTrusted (state S.Store conn.new) → (finished : ℕ) → AreReported ((state S.Store conn.new).now.trees 3) finished → result ≢ Err (KeepFault.Store Cause.BadRow) }
+    ensures bad { Holds S.Store conn.new (λ db. (finished : ℕ) → AreReported (db 3) finished → NeverBad result) }
 {
     let mut done = 0;
     'runs: while done < runs {
@@ -195,9 +193,8 @@ fn are_recorded<S: Alter>(conn: &mut Connection<S>, runs: u32) -> Result<bool, K
 
 /// The numbers of the runs with a row, in any order.
 fn numbers<S: Alter>(conn: &mut Connection<S>) -> Result<Vec<Row>, Error>
-    requires ours { BeginsOurs S.Store conn.old }
-    ensures reads { ReadsOnly S.Store conn.old conn.new result }
-    ensures rows { Finds S.Store conn.new result (λ db rows. IsPermutation (map rowid_column (db 3)) rows.items) }
+    requires { BeginsOurs S.Store conn.old }
+    ensures { Reads S.Store conn.old conn.new result (λ db rows. IsPermutation (map rowid_column (db 3)) rows.items) }
 {
     conn.query_all("SELECT number FROM run", &[])
 }
@@ -205,9 +202,9 @@ fn numbers<S: Alter>(conn: &mut Connection<S>) -> Result<Vec<Row>, Error>
 /// Whether the table has this many rows.
 fn has_rows<S: Alter>(conn: &mut Connection<S>, runs: u32) -> Result<bool, KeepFault>
     requires ours { BeginsOurs S.Store conn.old }
-    ensures reads { ReadsOnly S.Store conn.old conn.new result }
+    ensures reads { LeavesStore S.Store conn.old conn.new result }
     ensures own { Finds S.Store conn.new result (λ db own. IsTrue own ↔ (length (db 3) ≡ runs)) }
-    ensures bad { result ≢ Err (KeepFault.Store Cause.BadRow) }
+    ensures bad { NeverBad result }
 {
     let rows = numbers(conn)?;
     Ok(rows.len() == runs as usize)
@@ -216,9 +213,9 @@ fn has_rows<S: Alter>(conn: &mut Connection<S>, runs: u32) -> Result<bool, KeepF
 /// Whether the table has the reports of exactly the runs up to a number.
 pub(crate) fn are_reported<S: Alter>(conn: &mut Connection<S>, runs: u32) -> Result<bool, KeepFault>
     requires ours { BeginsOurs S.Store conn.old }
-    ensures reads { ReadsOnly S.Store conn.old conn.new result }
+    ensures reads { LeavesStore S.Store conn.old conn.new result }
     ensures own { Finds S.Store conn.new result (λ db own. IsTrue own ↔ AreReported (db 3) runs) }
-    ensures bad { IsTrusted (state S.Store conn.new) → (finished : ℕ) → AreReported ((state S.Store conn.new).now.trees 3) finished → result ≢ Err (KeepFault.Store Cause.BadRow) }
+    ensures bad { Holds S.Store conn.new (λ db. (finished : ℕ) → AreReported (db 3) finished → NeverBad result) }
 {
     let own = has_rows(conn, runs)?;
     if !own {

@@ -1,11 +1,12 @@
 //! The office's tables in a new database.
-ghost use Rattle.std.specs.Prelude.{◌≡◌, ◌≢◌, Err, OnOk, OnErr};
+ghost use Rattle.std.specs.Prelude.{◌≡◌, OnOk, OnErr};
 ghost use Rattle.sqlite.specs.Held.{state};
 ghost use Rattle.sqlite.specs.State.{HasCleanDisk};
 ghost use Rattle.office_store_tables.specs.Layout.{no_schema, office, mail, run, testing_source, testing_row, fact, fact_delays};
 ghost use Rattle.office_store_tables.specs.Tables.{IsTrusted, IsOurs};
 ghost use Rattle.office_store_tables.specs.steps.Tables.{Lasts};
-ghost use Rattle.office_store_tables.specs.StepsWithin.{StepsWithin, Yields};
+ghost use Rattle.office_store_tables.specs.StepsWithin.{Performs};
+ghost use Rattle.office_store_tables.specs.Faults.{NeverBad};
 ghost use Rattle.office_store_tables.specs.Unchanged.{IsAsItWas};
 ghost use Rattle.office_store_tables.specs.Creating.{IsBlank};
 ghost use Rattle.office_store_tables.specs.steps.CreatingSteps.{Creates, IsBuilding, Makes, MakesAll, schema_of_one, schema_of_two, schema_of_three, schema_of_four, schema_of_five, schema_of_six};
@@ -109,8 +110,7 @@ fn create_all<S: Alter>(tx: &mut Transaction<'_, S>) -> Result<usize, Error>
 /// Makes the seven tables, and adds the office's row: schema number 2, the setup's text, and no finished runs.
 fn write_office<S: Alter>(tx: &mut Transaction<'_, S>, setup: &str) -> Result<usize, Error>
     requires building { IsTrusted (state S.Store tx.old.conn.now) → IsBuilding no_schema (state S.Store tx.old.conn.now) }
-    ensures steps { StepsWithin S.Store tx.old.conn tx.new.conn result }
-    ensures blank { Yields S.Store tx.old.conn tx.new.conn result (λ _ next _. IsBlank next (record { schema = 2; setup = setup.now; finished = 0 })) }
+    ensures { Performs S.Store tx.old.conn tx.new.conn result (λ _ next _. IsBlank next (record { schema = 2; setup = setup.now; finished = 0 })) }
 {
     let _made = create_all(tx)?;
     let added = add_office(tx, 2, setup, 0)?;
@@ -127,7 +127,7 @@ pub fn create<S: Alter>(conn: &mut Connection<S>, setup: &str) -> Result<(), Kee
     ensures ours { IsTrusted (state S.Store conn.new) → OnOk result (IsOurs (state S.Store conn.new)) }
     ensures blank { IsTrusted (state S.Store conn.new) → OnOk result (IsBlank (state S.Store conn.new).now.trees (record { schema = 2; setup = setup.now; finished = 0 })) }
     ensures err { IsTrusted (state S.Store conn.new) → OnErr result (IsAsItWas (state S.Store conn.old) (state S.Store conn.new)) }
-    ensures bad { result ≢ Err (KeepFault.Store Cause.BadRow) }
+    ensures bad { NeverBad result }
 {
     if !conn.is_autocommit() {
         return Err(KeepFault::Store(Cause::Sqlite(Error::InvalidQuery)));

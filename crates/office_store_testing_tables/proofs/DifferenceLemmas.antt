@@ -27,12 +27,13 @@ use Rattle.testing_rules_model.specs.InOrder.{AreByName, AreByKey}
 use Rattle.testing_rules_model.proofs.Orders.{text_order}
 use Rattle.office_store_testing_tables.specs.steps.TableSteps.{Rows, rows_in}
 use Rattle.office_store_testing_tables.specs.Entries.{source_in, entry_in}
-use Rattle.office_store_testing_tables.specs.steps.FactSteps.{TakesOut}
-use Rattle.office_store_testing_tables.specs.steps.EntrySteps.{source_columns, source_entry, TakesSource, AddsSource, AddsSources, SetsSources, entry_columns, row_entry, TakesRow, AddsRow, AddsRows, SetsRows}
-use Rattle.office_store_testing_tables.specs.steps.Differences.{AreCompared, SourcesCompared, RowsCompared}
+use Rattle.office_store_testing_tables.specs.declared.rowids.ChangedTable.{ChangedTable}
+use Rattle.office_store_testing_tables.specs.declared.rowids.ChangedTable.TheVariants as changed
+use Rattle.office_store_testing_tables.specs.steps.ChangedTables.{place_of, with_table, TakesOut, Takes, Adds, AddsAll}
+use Rattle.office_store_testing_tables.specs.steps.EntrySteps.{source_columns, source_entry, source_shown, SetsSources, entry_columns, row_entry, row_shown, SetsRows}
+use Rattle.office_store_testing_tables.specs.steps.Differences.{AreCompared, TableCompared, HasAlone}
 use Rattle.office_store_testing_tables.proofs.MailLemmas.{filter_same, has_permuted, empty_of, as_many, only_shown}
 use Rattle.office_store_testing_tables.proofs.DeleteLemmas.{itself}
-use Rattle.office_store_testing_tables.proofs.EntryReads.{source_shown, row_shown}
 use Rattle.office_store_testing_tables.proofs.EntryMaps.{last_is_first}
 use Rattle.office_store_testing_tables.proofs.EntryValues.{read_has, has_read, has_map, map_has}
 use Rattle.office_store_testing_tables.proofs.SettingLemmas.{text_exact, row_order, row_exact}
@@ -254,88 +255,77 @@ same_keys : {X K V : Type 0} (entry : X → K × V) (key : X → K) → ((x : X)
 same_keys entry key same [] = refl
 same_keys entry key same (x ∷ xs) = rw (same x, same_keys entry key same xs) refl
 
--- ---- sources
+-- ---- a table that is changed
 
-sources_rest : (a b c : Trees) → rows_in b ≡ record (rows_in a) { sources = b 4 } → rows_in c ≡ record (rows_in b) { sources = c 4 } → rows_in c ≡ record (rows_in a) { sources = c 4 }
-sources_rest a b c before after = after ∙ ap (λ (r : Rows). record r { sources = c 4 }) before
+-- one of the tables has these rows, where the others stand
+placed : (table : ChangedTable) (db next : Trees) (rows : List Row) → rows_in next ≡ with_table table rows (rows_in db) → next (place_of table) ≡ rows
+placed changed.Sources db next rows is = ap (λ (r : Rows). r.sources) is
+placed changed.Rows db next rows is = ap (λ (r : Rows). r.rows) is
+placed changed.Facts db next rows is = ap (λ (r : Rows). r.facts) is
+placed changed.Delays db next rows is = ap (λ (r : Rows). r.delays) is
 
-module _ (shown : List Row) (sources : List SourceIn) where
-  pub sources_start : (db : Trees) → IsPermutation (map source_columns (db 4)) shown → SourcesCompared db db shown sources 0 0
-  sources_start db same = record { compared = compared_none source_columns source_in source_entry source_shown (λ row. refl) shown sources (db 4) same; rest = refl }
+rest_none : (table : ChangedTable) (db : Trees) → rows_in db ≡ with_table table (db (place_of table)) (rows_in db)
+rest_none changed.Sources db = refl
+rest_none changed.Rows db = refl
+rest_none changed.Facts db = refl
+rest_none changed.Delays db = refl
 
-  pub sources_stay : (a b : Trees) (i j : ℕ) (row : Row) (s : SourceIn) → slice_get shown i ≡ Some row → slice_get sources j ≡ Some s → source_in row ≡ Some (source_entry s) → SourcesCompared a b shown sources i j → SourcesCompared a b shown sources (i + 1) (j + 1)
-  sources_stay a b i j row s here there is was = record { compared = compared_stays source_columns source_in source_entry source_shown (λ r. refl) shown sources (b 4) i j row s here there is was.compared; rest = was.rest }
+rest_then : (table : ChangedTable) (a b c : Trees) (rows more : List Row) → rows_in b ≡ with_table table rows (rows_in a) → rows_in c ≡ with_table table more (rows_in b) → rows_in c ≡ with_table table more (rows_in a)
+rest_then changed.Sources a b c rows more before after = after ∙ ap (λ (r : Rows). record r { sources = more }) before
+rest_then changed.Rows a b c rows more before after = after ∙ ap (λ (r : Rows). record r { rows = more }) before
+rest_then changed.Facts a b c rows more before after = after ∙ ap (λ (r : Rows). record r { facts = more }) before
+rest_then changed.Delays a b c rows more before after = after ∙ ap (λ (r : Rows). record r { delays = more }) before
 
-  pub source_leaves : (a b c : Trees) (i j : ℕ) (row : Row) (id : ℤ) → slice_get shown i ≡ Some row → column row 0 ≡ Int id → TakesSource b c id 1 → SourcesCompared a b shown sources i j → SourcesCompared a c shown sources (i + 1) j
-  source_leaves a b c i j row id here own it was = record {
-    compared = compared_leaves source_columns source_in source_entry source_shown (λ r. refl) shown sources (b 4) (c 4) i j row id here own it.taken was.compared;
-    rest = sources_rest a b c was.rest it.rest;
+module _ {X E : Type 0} (table : ChangedTable) (columns : Row → Row) (says : Row → Option E) (entry : X → E) (shown_says : (row : Row) → says (columns row) ≡ says row) (first : (row : Row) → column (columns row) 0 ≡ column row 0) (shown : List Row) (new : List X) where
+  abbrev Compared : Trees → Trees → ℕ → ℕ → Type 0
+  Compared a b i j = TableCompared table columns says entry a b shown new i j
+
+  pub entries_start : (db : Trees) → IsPermutation (map columns (db (place_of table))) shown → Compared db db 0 0
+  entries_start db same = record { compared = compared_none columns says entry shown_says first shown new (db (place_of table)) same; rest = rest_none table db }
+
+  pub entry_stays : (a b : Trees) (i j : ℕ) (row : Row) (x : X) → slice_get shown i ≡ Some row → slice_get new j ≡ Some x → says row ≡ Some (entry x) → Compared a b i j → Compared a b (i + 1) (j + 1)
+  entry_stays a b i j row x here there is was = record { compared = compared_stays columns says entry shown_says first shown new (b (place_of table)) i j row x here there is was.compared; rest = was.rest }
+
+  pub entry_leaves : (a b c : Trees) (i j : ℕ) (row : Row) (id : ℤ) → slice_get shown i ≡ Some row → column row 0 ≡ Int id → Takes table b c id 1 → Compared a b i j → Compared a c (i + 1) j
+  entry_leaves a b c i j row id here own it was = record {
+    compared = compared_leaves columns says entry shown_says first shown new (b (place_of table)) (c (place_of table)) i j row id here own it.taken was.compared;
+    rest = rest_then table a b c _ _ was.rest it.rest;
   }
 
-  pub source_comes : (a b c : Trees) (i j : ℕ) (s : SourceIn) (name : List ℕ) → slice_get sources j ≡ Some s → name ≡ s.name → AddsSource b c name s.sender s.number → SourcesCompared a b shown sources i j → SourcesCompared a c shown sources i (j + 1)
-  source_comes a b c i j s name there named it was =
-      let table : c 4 ≡ put_row it.row (b 4) = ap (λ (r : Rows). r.sources) it.put in
+  pub entry_comes : (a b c : Trees) (i j : ℕ) (x : X) → slice_get new j ≡ Some x → Adds table says b c (entry x) → Compared a b i j → Compared a c i (j + 1)
+  entry_comes a b c i j x there it was =
+      let rows : c (place_of table) ≡ put_row it.row (b (place_of table)) = placed table b c _ it.put in
       record {
-        compared = subst (λ l. AreCompared source_columns source_in source_entry l shown sources i (j + 1)) (sym table)
-            (compared_comes source_columns source_in source_entry source_shown (λ r. refl) shown sources (b 4) i j it.row s there (it.says ∙ ap (λ n. Some (n, (s.sender, s.number))) named) it.free was.compared);
-        rest = sources_rest a b c was.rest (it.put ∙ ap (λ l. record (rows_in b) { sources = l }) (sym table));
+        compared = subst (λ l. AreCompared columns says entry l shown new i (j + 1)) (sym rows)
+            (compared_comes columns says entry shown_says first shown new (b (place_of table)) i j it.row x there it.says it.free was.compared);
+        rest = rest_then table a b c _ _ was.rest (subst (λ l. rows_in c ≡ with_table table l (rows_in b)) (sym rows) it.put);
       }
 
-  pub sources_come : (a b c : Trees) (i j : ℕ) (more : List SourceIn) → AreFrom sources j more → AddsSources b c more → SourcesCompared a b shown sources i j → SourcesCompared a c shown sources i (j + length more)
-  sources_come a b c i j [] from it was = let on : j ≡ j + 0 = omega arith in subst (λ (t : Trees). SourcesCompared a t shown sources i (j + 0)) (sym it) (subst (λ n. SourcesCompared a b shown sources i n) on was)
-  sources_come a b c i j (x ∷ more) from it was =
+  pub entries_come : (a b c : Trees) (i j : ℕ) (more : List X) → AreFrom new j more → AddsAll table says b c (map entry more) → Compared a b i j → Compared a c i (j + length more)
+  entries_come a b c i j [] from it was = let on : j ≡ j + 0 = omega arith in subst (λ (t : Trees). Compared a t i (j + 0)) (sym it) (subst (λ n. Compared a b i n) on was)
+  entries_come a b c i j (x ∷ more) from it was =
       let on : j + 1 + length more ≡ j + length (x ∷ more) = omega arith in
-      subst (λ n. SourcesCompared a c shown sources i n) on (sources_come a it.0 c i (j + 1) more from.1 it.2 (source_comes a b it.0 i j x x.name from.0 refl it.1 was))
+      subst (λ n. Compared a c i n) on (entries_come a it.0 c i (j + 1) more from.1 it.2 (entry_comes a b it.0 i j x from.0 it.1 was))
 
-  pub sources_end : (a b : Trees) (i j : ℕ) → AreByName sources → length shown ≤ i → length sources ≤ j → SourcesCompared a b shown sources i j → SetsSources a b sources
-  sources_end a b i j ordered m n was =
-      let all = all_compared source_columns source_in source_entry source_shown (λ r. refl) shown sources (b 4) i j m n was.compared in
-      let sorted = subst (IsStrictlySortedBy byte_cmp) (sym (same_keys source_entry (λ s. s.name) (λ s. refl) sources)) ordered in
-      record {
-        has = says_new text_order text_exact source_columns source_in source_entry source_shown (b 4) all.0 sources all.1 all.2 sorted;
-        whole = λ was_whole. whole_new text_order text_exact source_columns source_in source_entry source_shown (b 4) all.0 sources all.1 all.2 sorted;
-        rest = was.rest;
-      }
+  pub entries_end : (a b : Trees) (i j : ℕ) → length shown ≤ i → length new ≤ j → Compared a b i j → HasAlone table columns says entry a b new
+  entries_end a b i j m n was =
+      let all = all_compared columns says entry shown_says first shown new (b (place_of table)) i j m n was.compared in
+      record { rows = all.0; are = all.1; said = all.2; rest = was.rest }
 
--- ---- rows
+pub sets_sources : (a b : Trees) (sources : List SourceIn) → AreByName sources → HasAlone changed.Sources source_columns source_in source_entry a b sources → SetsSources a b sources
+sets_sources a b sources ordered it =
+    let sorted = subst (IsStrictlySortedBy byte_cmp) (sym (same_keys source_entry (λ s. s.name) (λ s. refl) sources)) ordered in
+    record {
+      has = says_new text_order text_exact source_columns source_in source_entry source_shown (b 4) it.rows sources it.are it.said sorted;
+      whole = λ was_whole. whole_new text_order text_exact source_columns source_in source_entry source_shown (b 4) it.rows sources it.are it.said sorted;
+      rest = it.rest;
+    }
 
-rows_rest : (a b c : Trees) → rows_in b ≡ record (rows_in a) { rows = b 6 } → rows_in c ≡ record (rows_in b) { rows = c 6 } → rows_in c ≡ record (rows_in a) { rows = c 6 }
-rows_rest a b c before after = after ∙ ap (λ (r : Rows). record r { rows = c 6 }) before
-
-module _ (shown : List Row) (rows : List RowIn) where
-  pub rows_start : (db : Trees) → IsPermutation (map entry_columns (db 6)) shown → RowsCompared db db shown rows 0 0
-  rows_start db same = record { compared = compared_none entry_columns entry_in row_entry row_shown (λ row. refl) shown rows (db 6) same; rest = refl }
-
-  pub rows_stay : (a b : Trees) (i j : ℕ) (row : Row) (r : RowIn) → slice_get shown i ≡ Some row → slice_get rows j ≡ Some r → entry_in row ≡ Some (row_entry r) → RowsCompared a b shown rows i j → RowsCompared a b shown rows (i + 1) (j + 1)
-  rows_stay a b i j row r here there is was = record { compared = compared_stays entry_columns entry_in row_entry row_shown (λ x. refl) shown rows (b 6) i j row r here there is was.compared; rest = was.rest }
-
-  pub row_leaves : (a b c : Trees) (i j : ℕ) (row : Row) (id : ℤ) → slice_get shown i ≡ Some row → column row 0 ≡ Int id → TakesRow b c id 1 → RowsCompared a b shown rows i j → RowsCompared a c shown rows (i + 1) j
-  row_leaves a b c i j row id here own it was = record {
-    compared = compared_leaves entry_columns entry_in row_entry row_shown (λ x. refl) shown rows (b 6) (c 6) i j row id here own it.taken was.compared;
-    rest = rows_rest a b c was.rest it.rest;
-  }
-
-  pub row_comes : (a b c : Trees) (i j : ℕ) (r : RowIn) (name : List ℕ) → slice_get rows j ≡ Some r → name ≡ r.binary.name → AddsRow b c r.arch name r.sender r.number r.place → RowsCompared a b shown rows i j → RowsCompared a c shown rows i (j + 1)
-  row_comes a b c i j r name there named it was =
-      let table : c 6 ≡ put_row it.row (b 6) = ap (λ (x : Rows). x.rows) it.put in
-      record {
-        compared = subst (λ l. AreCompared entry_columns entry_in row_entry l shown rows i (j + 1)) (sym table)
-            (compared_comes entry_columns entry_in row_entry row_shown (λ x. refl) shown rows (b 6) i j it.row r there (it.says ∙ ap (λ n. Some ((r.arch, n), ((r.sender, r.number), r.place))) named) it.free was.compared);
-        rest = rows_rest a b c was.rest (it.put ∙ ap (λ l. record (rows_in b) { rows = l }) (sym table));
-      }
-
-  pub rows_come : (a b c : Trees) (i j : ℕ) (more : List RowIn) → AreFrom rows j more → AddsRows b c more → RowsCompared a b shown rows i j → RowsCompared a c shown rows i (j + length more)
-  rows_come a b c i j [] from it was = let on : j ≡ j + 0 = omega arith in subst (λ (t : Trees). RowsCompared a t shown rows i (j + 0)) (sym it) (subst (λ n. RowsCompared a b shown rows i n) on was)
-  rows_come a b c i j (x ∷ more) from it was =
-      let on : j + 1 + length more ≡ j + length (x ∷ more) = omega arith in
-      subst (λ n. RowsCompared a c shown rows i n) on (rows_come a it.0 c i (j + 1) more from.1 it.2 (row_comes a b it.0 i j x x.binary.name from.0 refl it.1 was))
-
-  pub rows_end : (a b : Trees) (i j : ℕ) → AreByKey rows → length shown ≤ i → length rows ≤ j → RowsCompared a b shown rows i j → SetsRows a b rows
-  rows_end a b i j ordered m n was =
-      let all = all_compared entry_columns entry_in row_entry row_shown (λ x. refl) shown rows (b 6) i j m n was.compared in
-      let sorted = subst (IsStrictlySortedBy row_cmp) (sym (same_keys row_entry row_key (λ r. refl) rows)) ordered in
-      record {
-        has = says_new row_order row_exact entry_columns entry_in row_entry row_shown (b 6) all.0 rows all.1 all.2 sorted;
-        whole = λ was_whole. whole_new row_order row_exact entry_columns entry_in row_entry row_shown (b 6) all.0 rows all.1 all.2 sorted;
-        rest = was.rest;
-      }
+pub sets_rows : (a b : Trees) (rows : List RowIn) → AreByKey rows → HasAlone changed.Rows entry_columns entry_in row_entry a b rows → SetsRows a b rows
+sets_rows a b rows ordered it =
+    let sorted = subst (IsStrictlySortedBy row_cmp) (sym (same_keys row_entry row_key (λ r. refl) rows)) ordered in
+    record {
+      has = says_new row_order row_exact entry_columns entry_in row_entry row_shown (b 6) it.rows rows it.are it.said sorted;
+      whole = λ was_whole. whole_new row_order row_exact entry_columns entry_in row_entry row_shown (b 6) it.rows rows it.are it.said sorted;
+      rest = it.rest;
+    }

@@ -68,10 +68,6 @@ source_shape row e h =
     let n = small_value (column row 3) e.1.1 p.4 in
     (p.0, four (column row 0) (column row 1) (column row 2) (column row 3) (Int p.0) (Text e.0) (Int (pos e.1.0)) (Int (pos e.1.1)) (integer_is (column row 0) p.0 p.1) (text_is (column row 1) e.0 p.2) s.0 n.0, s.1, n.1)
 
-pub source_shown : (row : Row) → source_in (source_columns row) ≡ source_in row
-unfolding source_in
-source_shown row = refl
-
 module _ (setup : Lists) (kept : Kept) (row : Row) where
   pub source_none : ((id : ℤ) (name : List ℕ) (sender number : ℕ) → Fits32 sender → Fits32 number → row ≢ Int id ∷ Text name ∷ Int (pos sender) ∷ Int (pos number) ∷ []) → row ≡ source_columns row → source_of setup kept row ≡ None
   unfolding source_of
@@ -135,10 +131,6 @@ row_shape row e h =
           (integer_is (column row 0) p.0 p.1) a.0 (text_is (column row 2) e.0.1 p.3) s.0 n.0 l.0,
       record { arch = a.1; sender = s.1; number = n.1; place = l.1 },
     )
-
-pub row_shown : (row : Row) → entry_in (entry_columns row) ≡ entry_in row
-unfolding entry_in
-row_shown row = refl
 
 module _ (setup : Lists) (kept : Kept) (row : Row) where
   pub row_none : ((id : ℤ) (arch : ℕ) (name : List ℕ) (sender number place : ℕ) → Fits32 arch → Fits32 sender → Fits32 number → Fits32 place

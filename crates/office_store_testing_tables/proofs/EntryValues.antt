@@ -28,13 +28,12 @@ use Rattle.office_store_keeper.specs.Provenance.{upload_in, binary_in, IsArchPla
 use Rattle.office_store_testing_tables.specs.Tables.{IsWhole, kept_rows}
 use Rattle.office_store_testing_tables.specs.Legible.{AreNamed}
 use Rattle.office_store_testing_tables.specs.Entries.{source_in, source_map, entry_in, entry_map}
-use Rattle.office_store_testing_tables.specs.steps.EntrySteps.{source_columns, source_entry, entry_columns, row_entry}
+use Rattle.office_store_testing_tables.specs.steps.EntrySteps.{source_columns, source_entry, source_shown, entry_columns, row_entry, row_shown}
 use Rattle.office_store_testing_tables.specs.TableContent.{message_at, source_as, source_at, is_arch_place, row_as, row_at, suite_in}
 use Rattle.office_store_testing_tables.specs.steps.TableContent.{source_of, row_of, put_all_sources, put_all_rows, IsGathered}
 use Rattle.office_store_testing_tables.specs.steps.ReadingSteps.{source_by_message, source_by_entry, row_by_message, row_by_entry}
 use Rattle.office_store_testing_tables.proofs.MailLemmas.{has_permuted, empty_of, as_many}
 use Rattle.office_store_testing_tables.proofs.SettingLemmas.{text_exact, row_order, row_exact}
-use Rattle.office_store_testing_tables.proofs.EntryReads.{source_shown, row_shown}
 use Rattle.office_store_testing_tables.proofs.EntryLists.{suite_of}
 use Rattle.office_store_testing_tables.proofs.EntryMaps.{last_of, IsFull, one_value, from_first, last_is_first, put_all_entries}
 

@@ -20,9 +20,12 @@ use Rattle.sqlite_tied.specs.Compute.{everything}
 use Rattle.testing_rules_model.specs.declared.fact_row.FactRow.{FactRow}
 use Rattle.testing_rules_model.specs.FactRows.{number_of}
 use Rattle.office_store_testing_tables.specs.Layout.{office_schema, fact, fact_delays}
+use Rattle.office_store_testing_tables.specs.declared.rowids.ChangedTable.{ChangedTable}
+use Rattle.office_store_testing_tables.specs.declared.rowids.ChangedTable.TheVariants as changed
+use Rattle.office_store_testing_tables.specs.steps.ChangedTables.{take_text, Takes}
 use Rattle.office_store_testing_tables.specs.steps.Texts.{add_fact_text, add_eight_facts_text, add_delays_text, take_fact_text, take_delays_text}
 use Rattle.office_store_testing_tables.specs.FactTables.{fact_of, fact_in}
-use Rattle.office_store_testing_tables.specs.steps.FactSteps.{TakesFact, TakesDelays, fact_parameters, FitsFact, AddsFact, AddsFacts, AddsDelays}
+use Rattle.office_store_testing_tables.specs.steps.FactSteps.{fact_parameters, FitsFact, AddsFact, AddsFacts, AddsDelays}
 use Rattle.office_store_testing_tables.proofs.Compiled.{plain_query}
 use Rattle.office_store_testing_tables.proofs.WriteLemmas.{Inserted, InsertedEach, inserts_one, inserts_each, cast_null, cast_int}
 use Rattle.office_store_testing_tables.proofs.Eights.{of_eight}
@@ -30,6 +33,7 @@ use Rattle.office_store_testing_tables.proofs.KeepLemmas.{with_facts, with_delay
 use Rattle.office_store_testing_tables.proofs.EntrySays.{Fits32}
 use Rattle.office_store_testing_tables.proofs.FactReads.{fact_says, delays_say}
 use Rattle.office_store_testing_tables.proofs.FactShows.{fact_params}
+use Rattle.office_store_testing_tables.proofs.EntryWrites.{takes_source, takes_row}
 use Rattle.office_store_testing_tables.proofs.TakeLemmas.{Taken, id_terms, takes_by_id}
 
 -- the tables, where they stand in the schema
@@ -107,16 +111,16 @@ take_fact_is : (command_of (understood office_schema take_fact_text) ≡ Delete 
 unfolding understood everything
 take_fact_is = (refl, (refl, refl))
 
-pub takes_fact : (id : ℤ) (old new : State) (count : ℕ) → old.now.schema ≡ office_schema → Executes take_fact_text (Int id ∷ []) old new (Ok count) → (new.now.schema ≡ office_schema) × TakesFact old.now.trees new.now.trees id count
+pub takes_fact : (id : ℤ) (old new : State) (count : ℕ) → old.now.schema ≡ office_schema → Executes take_fact_text (Int id ∷ []) old new (Ok count) → (new.now.schema ≡ office_schema) × Takes changed.Facts old.now.trees new.now.trees id count
 takes_fact id old new count has h =
     let command = Delete 5 (record { lets = []; body = plain_query 8 id_terms (col 1 0 ∷ []) }) in
     let text = statement_of take_fact_text (understood office_schema take_fact_text) in
     let went_on : Writes old new None command text (Int id ∷ []) count = runs_as take_fact_text (Int id ∷ []) old new office_schema has command take_fact_is.0 take_fact_is.1 count h in
     let done = subst (λ s. Does old.step_limit (mode_of old) (Int id ∷ []) (record old.now { schema = s }) text None command (Ok (went_on.tally, new.now))) has went_on.changed in
     let made = takes_by_id office_schema 5 fact_table old.step_limit (mode_of old) id text old.now.trees went_on.tally new.now refl refl refl (λ olds. refl) done in
-    (made.0, subst (TakesFact old.now.trees new.now.trees id) (sym went_on.counted) (taken old.now.trees new.now.trees _ made.1))
+    (made.0, subst (Takes changed.Facts old.now.trees new.now.trees id) (sym went_on.counted) (taken old.now.trees new.now.trees _ made.1))
   where
-    taken : (db next : Trees) (n : ℕ) → Taken office_schema fact_table db next id n → TakesFact db next id n
+    taken : (db next : Trees) (n : ℕ) → Taken office_schema fact_table db next id n → Takes changed.Facts db next id n
     taken db next n it = record { taken = it.taken; rest = with_facts db next _ it.others refl }
 
 -- ---- the last delays
@@ -157,14 +161,22 @@ take_delays_is : (command_of (understood office_schema take_delays_text) ≡ Del
 unfolding understood everything
 take_delays_is = (refl, (refl, refl))
 
-pub takes_delays : (id : ℤ) (old new : State) (count : ℕ) → old.now.schema ≡ office_schema → Executes take_delays_text (Int id ∷ []) old new (Ok count) → (new.now.schema ≡ office_schema) × TakesDelays old.now.trees new.now.trees id count
+pub takes_delays : (id : ℤ) (old new : State) (count : ℕ) → old.now.schema ≡ office_schema → Executes take_delays_text (Int id ∷ []) old new (Ok count) → (new.now.schema ≡ office_schema) × Takes changed.Delays old.now.trees new.now.trees id count
 takes_delays id old new count has h =
     let command = Delete 6 (record { lets = []; body = plain_query 10 id_terms (col 1 0 ∷ []) }) in
     let text = statement_of take_delays_text (understood office_schema take_delays_text) in
     let went_on : Writes old new None command text (Int id ∷ []) count = runs_as take_delays_text (Int id ∷ []) old new office_schema has command take_delays_is.0 take_delays_is.1 count h in
     let done = subst (λ s. Does old.step_limit (mode_of old) (Int id ∷ []) (record old.now { schema = s }) text None command (Ok (went_on.tally, new.now))) has went_on.changed in
     let made = takes_by_id office_schema 6 delays_table old.step_limit (mode_of old) id text old.now.trees went_on.tally new.now refl refl refl (λ olds. refl) done in
-    (made.0, subst (TakesDelays old.now.trees new.now.trees id) (sym went_on.counted) (taken old.now.trees new.now.trees _ made.1))
+    (made.0, subst (Takes changed.Delays old.now.trees new.now.trees id) (sym went_on.counted) (taken old.now.trees new.now.trees _ made.1))
   where
-    taken : (db next : Trees) (n : ℕ) → Taken office_schema delays_table db next id n → TakesDelays db next id n
+    taken : (db next : Trees) (n : ℕ) → Taken office_schema delays_table db next id n → Takes changed.Delays db next id n
     taken db next n it = record { taken = it.taken; rest = with_delays db next _ it.others refl }
+
+-- ---- the tables that a finished run changes
+
+pub takes_rows : (table : ChangedTable) (id : ℤ) (old new : State) (count : ℕ) → old.now.schema ≡ office_schema → Executes (take_text table) (Int id ∷ []) old new (Ok count) → (new.now.schema ≡ office_schema) × Takes table old.now.trees new.now.trees id count
+takes_rows changed.Sources = takes_source
+takes_rows changed.Rows = takes_row
+takes_rows changed.Facts = takes_fact
+takes_rows changed.Delays = takes_delays

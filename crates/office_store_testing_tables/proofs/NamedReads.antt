@@ -16,14 +16,13 @@ use Rattle.testing_rules_model.proofs.Orders.{text_order}
 use Rattle.office_mail.specs.Lists.{Lists}
 use Rattle.office_mail.specs.Kept.{Kept, Place}
 use Rattle.office_store_testing_tables.specs.Entries.{source_in, source_map, entry_in, entry_map}
-use Rattle.office_store_testing_tables.specs.steps.EntrySteps.{source_columns, entry_columns}
+use Rattle.office_store_testing_tables.specs.steps.EntrySteps.{source_columns, source_shown, entry_columns, row_shown}
 use Rattle.office_store_testing_tables.specs.TableContent.{source_at, row_at}
 use Rattle.office_store_testing_tables.specs.steps.TableContent.{source_of, row_of, ReadsEach, put_all_sources, put_all_rows}
 use Rattle.office_store_testing_tables.specs.steps.ReadingSteps.{source_by_entry, row_by_entry}
 use Rattle.office_store_testing_tables.specs.Legible.{IsWhole}
 use Rattle.office_store_testing_tables.proofs.MailLemmas.{has_permuted, as_many}
 use Rattle.office_store_testing_tables.proofs.SettingLemmas.{text_exact, row_order, row_exact}
-use Rattle.office_store_testing_tables.proofs.EntryReads.{source_shown, row_shown}
 use Rattle.office_store_testing_tables.proofs.EntryMaps.{last_of, last_is_first}
 use Rattle.office_store_testing_tables.proofs.EntryValues.{read_has, has_map, said_are, shown_in, in_shown, entries_put, source_tells, row_tells}
 use Rattle.office_store_testing_tables.proofs.Whole.{whole_reads, whole_gets}

@@ -52,12 +52,6 @@ module _ (sql : List ℕ) (params : Row) (old new : State) where
       let made = gives was ran.0 in
       (record { inside = record { schema = made.0; begun = ran.2 }; committed = ran.1 }, made.1)
 
-  pub step_gives : (P : Type 0) (result : Result ℕ Error) → Stepped sql params old new result → IsTrusted new → (IsTrusted old → IsInside old)
-      → ((count : ℕ) → IsInside old → Executes sql params old new (Ok count) → (new.now.schema ≡ office_schema) × P) → OnOk result P
-  step_gives P (Ok count) h trusted inside gives = (went_well P count h trusted inside (gives count)).1
-  step_gives P (Err e) h trusted inside gives = tt
-
-  -- the same, where what is given speaks of the count
   pub step_counts_on : (P : ℕ → Type 0) (result : Result ℕ Error) → Stepped sql params old new result → IsTrusted new → (IsTrusted old → IsInside old)
       → ((count : ℕ) → IsInside old → Executes sql params old new (Ok count) → (new.now.schema ≡ office_schema) × P count) → OnOk result (WentOn old new)
   step_counts_on P (Ok count) h trusted inside gives = (went_well (P count) count h trusted inside (gives count)).0

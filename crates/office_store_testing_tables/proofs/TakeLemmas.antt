@@ -20,7 +20,8 @@ use Rattle.sqlite.specs.Rows.{Written, Deletes}
 use Rattle.sqlite_rules.specs.Action.{works}
 use Rattle.sqlite_rules.specs.Calls.{ids_of}
 use Rattle.sqlite.proofs.Callers.{one_step}
-use Rattle.office_store_testing_tables.specs.steps.FactSteps.{id_columns, TakesOut}
+use Rattle.office_store_testing_tables.specs.steps.FactSteps.{id_columns}
+use Rattle.office_store_testing_tables.specs.steps.ChangedTables.{TakesOut}
 use Rattle.office_store_testing_tables.proofs.Compiled.{plain_query, equals}
 use Rattle.office_store_testing_tables.proofs.Answered.{passes, plain_answer}
 use Rattle.office_store_testing_tables.proofs.WriteLemmas.{went, same_value, task, concluded}

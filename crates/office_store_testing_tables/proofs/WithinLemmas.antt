@@ -16,7 +16,7 @@ use Rattle.office_store_testing_tables.specs.Tables.{IsTrusted}
 use Rattle.office_store_testing_tables.specs.steps.Tables.{Lasts}
 use Rattle.office_store_testing_tables.specs.steps.TableSteps.{IsInside}
 use Rattle.office_store_testing_tables.specs.steps.Faults.{NeverBad}
-use Rattle.office_store_testing_tables.specs.steps.StepsWithin.{StepsWithin, BeginsInside, Performs, PerformsWell, Looks}
+use Rattle.office_store_testing_tables.specs.steps.StepsWithin.{StepsWithin, BeginsInside, Performs, PerformsNeverBad, Looks}
 use Rattle.office_store_testing_tables.proofs.StateLemmas.{lasts_same, lasts_then, clean_before}
 use Rattle.office_store_testing_tables.proofs.StepLemmas.{Stepped, step_before, step_open, step_counts_on, step_counts, step_err}
 use Rattle.office_store_testing_tables.proofs.InsideLemmas.{AskedInside, inside_before, inside_open, inside_on, inside_err, inside_same, inside_rows}
@@ -79,13 +79,18 @@ module _ {S : Type 0} {store : Ghosts S} where
   failed_does (Ok y) is steps = absurd (true≢false (sym is))
   failed_does (Err f) is steps = record { steps = steps; yields = λ _. tt }
 
-  pub failed_well : {U : Type 0} {old new : MutBor (Held S)} {made : Trees → Trees → U → Type 0} (result : Result U KeepFault) → IsErr result → NeverBad result → StepsWithin store old new result → PerformsWell store old new result made
-  failed_well (Ok y) is bad steps = absurd (true≢false (sym is))
-  failed_well (Err f) is bad steps = record { steps = steps; yields = λ _. tt; bad = bad }
+  pub failed_never_bad : {U : Type 0} {old new : MutBor (Held S)} {made : Trees → Trees → U → Type 0} (result : Result U KeepFault) → IsErr result → NeverBad result → StepsWithin store old new result → PerformsNeverBad store old new result made
+  failed_never_bad (Ok y) is bad steps = absurd (true≢false (sym is))
+  failed_never_bad (Err f) is bad steps = record { steps = steps; yields = λ _. tt; bad = bad }
 
   pub failed_looks : {U F : Type 0} {old new : MutBor (Held S)} {shown : Trees → U → Type 0} (result : Result U F) → IsErr result → StepsWithin store old new result → Looks store old new result shown
   failed_looks (Ok y) is steps = absurd (true≢false (sym is))
   failed_looks (Err f) is steps = record { steps = steps; same = λ _. tt; yields = λ _. tt }
+
+  -- what follows from what a step makes is made, too
+  pub makes_also : {U : Type 0} {old new : MutBor (Held S)} {made also : Trees → Trees → U → Type 0} (result : Result U KeepFault) → ((db next : Trees) (x : U) → made db next x → also db next x) → PerformsNeverBad store old new result made → PerformsNeverBad store old new result also
+  makes_also (Ok y) follows does = record { steps = does.steps; yields = λ trusted. follows _ _ y (does.yields trusted); bad = does.bad }
+  makes_also (Err f) follows does = record { steps = does.steps; yields = λ _. tt; bad = does.bad }
 
   -- ---- one statement
 

@@ -3,6 +3,7 @@ pub mod Texts
 pub mod Nearby
 pub mod Tables
 pub mod TableSteps
+pub mod ChangedTables
 pub mod EntrySteps
 pub mod TableContent
 pub mod ReadingSteps
@@ -11,4 +12,4 @@ pub mod Differences
 pub mod Loaded
 pub mod Faults
 pub mod StepsWithin
-pub mod ReadsOnly
+pub mod Reads

@@ -1,23 +1,23 @@
 //! Testing, read back: each entry of its tables by the kept message that gave it.
-ghost use Rattle.std.specs.Prelude.{◌≡◌, ◌≢◌, ◌<◌, ◌⊎◌, [], IsTrue, Ok, Err, Some, None, map, length, IfOk, IfSome, OnOk, ◌&&◌};
+ghost use Rattle.std.specs.Prelude.{◌≡◌, ◌≢◌, ◌⊎◌, [], IsTrue, Ok, Some, None, map, length, IfOk, OnOk, ◌&&◌};
 ghost use Rattle.std.specs.Option.{option_copied};
 ghost use Rattle.std.specs.Str.{bytes_eq};
 ghost use Rattle.testing_rules_items.specs.Words.{arch_name};
 ghost use Rattle.std.specs.List.{AllByRecursion};
 ghost use Rattle.std.specs.List.Sorted.{IsPermutation};
-ghost use Rattle.sqlite.specs.Held.{state};
 ghost use Rattle.std.specs.FinMap.{get};
 ghost use Rattle.office_mail.specs.Kept.{Kept};
 ghost use Rattle.office_mail.specs.Read.{read};
 ghost use Rattle.office_store_keeper.specs.Provenance.{IsArchPlace, KnowsArchs, upload_in, binary_in};
-ghost use Rattle.office_store_testing_tables.specs.Tables.{IsTrusted, kept_rows};
+ghost use Rattle.office_store_testing_tables.specs.Tables.{kept_rows};
+ghost use Rattle.office_store_testing_tables.specs.steps.Faults.{IsBad, NeverBad};
 ghost use Rattle.office_store_testing_tables.specs.steps.TableSteps.{IsCrowded};
-ghost use Rattle.office_store_testing_tables.specs.steps.ReadsOnly.{ReadsOnly, BeginsOurs, Finds};
+ghost use Rattle.office_store_testing_tables.specs.steps.Reads.{LeavesStore, BeginsOurs, Finds, Reads, Holds};
 ghost use Rattle.office_store_testing_tables.specs.Legible.{IsWhole, AreNamed};
 ghost use Rattle.office_store_testing_tables.specs.Entries.{source_map, entry_map};
 ghost use Rattle.office_store_testing_tables.specs.steps.EntrySteps.{source_columns, entry_columns};
-ghost use Rattle.office_store_testing_tables.specs.steps.Loaded.{AreLettersOf};
-ghost use Rattle.office_store_testing_tables.specs.steps.Nearby.{IsKeptAt, read_binary, brought};
+ghost use Rattle.office_store_testing_tables.specs.steps.Loaded.{AreLoaded};
+ghost use Rattle.office_store_testing_tables.specs.steps.Nearby.{IsKeptAt, read_binary, brought, IsKept};
 ghost use Rattle.office_store_testing_tables.specs.TableContent.{own_by, message_at as kept_message, source_as, row_as, is_arch_place, suite_in};
 ghost use Rattle.office_store_testing_tables.specs.steps.TableContent.{source_of, row_of, ReadsEach, put_all_sources, put_all_rows, IsGathered};
 
@@ -50,7 +50,7 @@ const BUILD: Columns = Columns {
 /// A message, if it has this sender and number.
 fn own(message: Message, sender: u32, number: u32) -> Result<Message, KeepFault>
     ensures ok { IfOk result (λ own. own_by sender number (Ok message) ≡ Some own) }
-    ensures bad { result ≡ Err (KeepFault.Store Cause.BadRow) → own_by sender number (Ok message) ≡ None }
+    ensures bad { IsBad result → own_by sender number (Ok message) ≡ None }
 {
     if message.sender != sender || message.number != number {
         return Err(KeepFault::Store(Cause::BadRow));
@@ -77,7 +77,7 @@ pub fn own_message(
     number: u32,
 ) -> Result<Message, KeepFault>
     ensures ok { IfOk result (λ message. own_by sender number (read setup.now text.now) ≡ Some message) }
-    ensures bad { result ≡ Err (KeepFault.Store Cause.BadRow) → own_by sender number (read setup.now text.now) ≡ None }
+    ensures bad { IsBad result → own_by sender number (read setup.now text.now) ≡ None }
 {
     match read_message(alloc, setup, text) {
         Ok(message) => own(message, sender, number),
@@ -95,9 +95,9 @@ fn message_at<S: Alter>(
     number: u32,
 ) -> Result<Message, KeepFault>
     requires ours { BeginsOurs S.Store conn.old }
-    ensures reads { ReadsOnly S.Store conn.old conn.new result }
+    ensures reads { LeavesStore S.Store conn.old conn.new result }
     ensures ok { Finds S.Store conn.new result (λ db message. kept_message setup.now (kept_rows (db 1)) sender number ≡ Some message) }
-    ensures bad { IsTrusted (state S.Store conn.new) → result ≡ Err (KeepFault.Store Cause.BadRow) → IsCrowded ((state S.Store conn.new).now.trees 1) ⊎ (kept_message setup.now (kept_rows ((state S.Store conn.new).now.trees 1)) sender number ≡ None) }
+    ensures bad { Holds S.Store conn.new (λ db. IsBad result → IsCrowded (db 1) ⊎ (kept_message setup.now (kept_rows (db 1)) sender number ≡ None)) }
 {
     match mail::find(conn, sender, number)? {
         None => Err(KeepFault::Store(Cause::BadRow)),
@@ -115,7 +115,7 @@ fn said_there(
     number: u32,
 ) -> Result<Message, KeepFault>
     ensures ok { IfOk result (λ message. (kept : Kept) → get kept (sender, number) ≡ Some text.now → kept_message setup.now kept sender number ≡ Some message) }
-    ensures bad { result ≡ Err (KeepFault.Store Cause.BadRow) → (kept : Kept) → get kept (sender, number) ≡ Some text.now → kept_message setup.now kept sender number ≡ None }
+    ensures bad { IsBad result → (kept : Kept) → get kept (sender, number) ≡ Some text.now → kept_message setup.now kept sender number ≡ None }
 {
     own_message(alloc, setup, text, sender, number)
 }
@@ -138,11 +138,11 @@ fn message_near<S: Alter>(
     number: u32,
 ) -> Result<Message, KeepFault>
     requires ours { BeginsOurs S.Store conn.old }
-    requires block { IsTrusted (state S.Store conn.old) → AreLettersOf (kept_rows ((state S.Store conn.old).now.trees 1)) block.old.sender block.old.letters.items }
-    ensures reads { ReadsOnly S.Store conn.old conn.new result }
-    ensures block { Finds S.Store conn.new result (λ db _. AreLettersOf (kept_rows (db 1)) block.new.sender block.new.letters.items) }
+    requires block { Holds S.Store conn.old (λ db. AreLoaded db block.old) }
+    ensures reads { LeavesStore S.Store conn.old conn.new result }
+    ensures block { Finds S.Store conn.new result (λ db _. AreLoaded db block.new) }
     ensures ok { Finds S.Store conn.new result (λ db message. kept_message reading.now.setup.now (kept_rows (db 1)) sender number ≡ Some message) }
-    ensures bad { IsTrusted (state S.Store conn.new) → result ≡ Err (KeepFault.Store Cause.BadRow) → IsCrowded ((state S.Store conn.new).now.trees 1) ⊎ (kept_message reading.now.setup.now (kept_rows ((state S.Store conn.new).now.trees 1)) sender number ≡ None) }
+    ensures bad { Holds S.Store conn.new (λ db. IsBad result → IsCrowded (db 1) ⊎ (kept_message reading.now.setup.now (kept_rows (db 1)) sender number ≡ None)) }
 {
     bring(reading.alloc, conn, block, reading.listed, sender, number)?;
     match loaded_text(block, sender, number) {
@@ -190,13 +190,13 @@ fn read_once<S: Alter>(
     number: u32,
 ) -> Result<(), KeepFault>
     requires ours { BeginsOurs S.Store conn.old }
-    requires block { IsTrusted (state S.Store conn.old) → AreLettersOf (kept_rows ((state S.Store conn.old).now.trees 1)) block.old.sender block.old.letters.items }
-    requires last { IsTrusted (state S.Store conn.old) → IfSome last.old (λ kept. kept_message reading.now.setup.now (kept_rows ((state S.Store conn.old).now.trees 1)) kept.sender kept.number ≡ Some kept.message) }
-    ensures reads { ReadsOnly S.Store conn.old conn.new result }
-    ensures block { Finds S.Store conn.new result (λ db _. AreLettersOf (kept_rows (db 1)) block.new.sender block.new.letters.items) }
+    requires block { Holds S.Store conn.old (λ db. AreLoaded db block.old) }
+    requires last { Holds S.Store conn.old (λ db. IsKept reading.now.setup.now db last.old) }
+    ensures reads { LeavesStore S.Store conn.old conn.new result }
+    ensures block { Finds S.Store conn.new result (λ db _. AreLoaded db block.new) }
     ensures place { OnOk result (IsKeptAt sender number last.new) }
-    ensures held { Finds S.Store conn.new result (λ db _. IfSome last.new (λ kept. kept_message reading.now.setup.now (kept_rows (db 1)) kept.sender kept.number ≡ Some kept.message)) }
-    ensures bad { IsTrusted (state S.Store conn.new) → result ≡ Err (KeepFault.Store Cause.BadRow) → IsCrowded ((state S.Store conn.new).now.trees 1) ⊎ (kept_message reading.now.setup.now (kept_rows ((state S.Store conn.new).now.trees 1)) sender number ≡ None) }
+    ensures held { Finds S.Store conn.new result (λ db _. IsKept reading.now.setup.now db last.new) }
+    ensures bad { Holds S.Store conn.new (λ db. IsBad result → IsCrowded (db 1) ⊎ (kept_message reading.now.setup.now (kept_rows (db 1)) sender number ≡ None)) }
 {
     if is_last(last, sender, number) {
         return Ok(());
@@ -247,11 +247,11 @@ fn source_at<S: Alter>(
     row: &Row,
 ) -> Result<SourceIn, KeepFault>
     requires ours { BeginsOurs S.Store conn.old }
-    requires block { IsTrusted (state S.Store conn.old) → AreLettersOf (kept_rows ((state S.Store conn.old).now.trees 1)) block.old.sender block.old.letters.items }
-    ensures reads { ReadsOnly S.Store conn.old conn.new result }
-    ensures block { Finds S.Store conn.new result (λ db _. AreLettersOf (kept_rows (db 1)) block.new.sender block.new.letters.items) }
+    requires block { Holds S.Store conn.old (λ db. AreLoaded db block.old) }
+    ensures reads { LeavesStore S.Store conn.old conn.new result }
+    ensures block { Finds S.Store conn.new result (λ db _. AreLoaded db block.new) }
     ensures ok { Finds S.Store conn.new result (λ db source. source_of reading.now.setup.now (kept_rows (db 1)) row.now ≡ Some source) }
-    ensures bad { IsTrusted (state S.Store conn.new) → result ≡ Err (KeepFault.Store Cause.BadRow) → row.now ≡ source_columns row.now → IsCrowded ((state S.Store conn.new).now.trees 1) ⊎ (source_of reading.now.setup.now (kept_rows ((state S.Store conn.new).now.trees 1)) row.now ≡ None) }
+    ensures bad { Holds S.Store conn.new (λ db. IsBad result → row.now ≡ source_columns row.now → IsCrowded (db 1) ⊎ (source_of reading.now.setup.now (kept_rows (db 1)) row.now ≡ None)) }
 {
     let (name, sender, number) = source_entry(row)?;
     let message = message_near(conn, reading, block, sender, number)?;
@@ -263,9 +263,8 @@ fn source_at<S: Alter>(
 
 /// The rows of testing's sources, in any order.
 fn source_rows<S: Alter>(conn: &mut Connection<S>) -> Result<Vec<Row>, Error>
-    requires ours { BeginsOurs S.Store conn.old }
-    ensures reads { ReadsOnly S.Store conn.old conn.new result }
-    ensures rows { Finds S.Store conn.new result (λ db rows. IsPermutation (map source_columns (db 4)) rows.items) }
+    requires { BeginsOurs S.Store conn.old }
+    ensures { Reads S.Store conn.old conn.new result (λ db rows. IsPermutation (map source_columns (db 4)) rows.items) }
 {
     conn.query_all(
         "SELECT rowid, name, sender, number FROM testing_source",
@@ -281,9 +280,9 @@ fn sources_at<S: Alter>(
     rows: &[Row],
 ) -> Result<Vec<SourceIn>, KeepFault>
     requires ours { BeginsOurs S.Store conn.old }
-    ensures reads { ReadsOnly S.Store conn.old conn.new result }
+    ensures reads { LeavesStore S.Store conn.old conn.new result }
     ensures ok { Finds S.Store conn.new result (λ db sources. map (source_of setup.now (kept_rows (db 1))) rows.now ≡ map Some sources.items) }
-    ensures bad { IsTrusted (state S.Store conn.new) → result ≡ Err (KeepFault.Store Cause.BadRow) → ReadsEach source_columns (source_of setup.now (kept_rows ((state S.Store conn.new).now.trees 1))) rows.now → IsCrowded ((state S.Store conn.new).now.trees 1) }
+    ensures bad { Holds S.Store conn.new (λ db. IsBad result → ReadsEach source_columns (source_of setup.now (kept_rows (db 1))) rows.now → IsCrowded (db 1)) }
 {
     let mut sources = Vec::new(alloc);
     let mut block = no_block(alloc);
@@ -406,14 +405,14 @@ fn row_at<S: Alter>(
     last: &mut Option<KeptAt>,
 ) -> Result<RowIn, KeepFault>
     requires ours { BeginsOurs S.Store conn.old }
-    requires block { IsTrusted (state S.Store conn.old) → AreLettersOf (kept_rows ((state S.Store conn.old).now.trees 1)) block.old.sender block.old.letters.items }
-    requires last { IsTrusted (state S.Store conn.old) → IfSome last.old (λ kept. kept_message reading.now.setup.now (kept_rows ((state S.Store conn.old).now.trees 1)) kept.sender kept.number ≡ Some kept.message) }
-    ensures reads { ReadsOnly S.Store conn.old conn.new result }
-    ensures block { Finds S.Store conn.new result (λ db _. AreLettersOf (kept_rows (db 1)) block.new.sender block.new.letters.items) }
+    requires block { Holds S.Store conn.old (λ db. AreLoaded db block.old) }
+    requires last { Holds S.Store conn.old (λ db. IsKept reading.now.setup.now db last.old) }
+    ensures reads { LeavesStore S.Store conn.old conn.new result }
+    ensures block { Finds S.Store conn.new result (λ db _. AreLoaded db block.new) }
     ensures known { IfOk result (λ given. IsArchPlace reading.now.setup.now.archs given.arch) }
     ensures ok { Finds S.Store conn.new result (λ db given. row_of reading.now.setup.now (kept_rows (db 1)) row.now ≡ Some given) }
-    ensures held { Finds S.Store conn.new result (λ db _. IfSome last.new (λ kept. kept_message reading.now.setup.now (kept_rows (db 1)) kept.sender kept.number ≡ Some kept.message)) }
-    ensures bad { IsTrusted (state S.Store conn.new) → result ≡ Err (KeepFault.Store Cause.BadRow) → row.now ≡ entry_columns row.now → IsCrowded ((state S.Store conn.new).now.trees 1) ⊎ (row_of reading.now.setup.now (kept_rows ((state S.Store conn.new).now.trees 1)) row.now ≡ None) }
+    ensures held { Finds S.Store conn.new result (λ db _. IsKept reading.now.setup.now db last.new) }
+    ensures bad { Holds S.Store conn.new (λ db. IsBad result → row.now ≡ entry_columns row.now → IsCrowded (db 1) ⊎ (row_of reading.now.setup.now (kept_rows (db 1)) row.now ≡ None)) }
 {
     let entry = row_entry(row)?;
     let (sender, number) = (entry.sender, entry.number);
@@ -426,9 +425,8 @@ fn row_at<S: Alter>(
 
 /// The rows of testing's rows, in any order.
 fn entry_rows<S: Alter>(conn: &mut Connection<S>) -> Result<Vec<Row>, Error>
-    requires ours { BeginsOurs S.Store conn.old }
-    ensures reads { ReadsOnly S.Store conn.old conn.new result }
-    ensures rows { Finds S.Store conn.new result (λ db rows. IsPermutation (map entry_columns (db 6)) rows.items) }
+    requires { BeginsOurs S.Store conn.old }
+    ensures { Reads S.Store conn.old conn.new result (λ db rows. IsPermutation (map entry_columns (db 6)) rows.items) }
 {
     conn.query_all(
         "SELECT rowid, arch, name, sender, number, place FROM testing_row",
@@ -455,12 +453,12 @@ fn read_rows<S: Alter>(
     last: &mut Option<KeptAt>,
 ) -> Result<Vec<RowIn>, KeepFault>
     requires ours { BeginsOurs S.Store conn.old }
-    requires block { IsTrusted (state S.Store conn.old) → AreLettersOf (kept_rows ((state S.Store conn.old).now.trees 1)) block.old.sender block.old.letters.items }
-    requires last { IsTrusted (state S.Store conn.old) → IfSome last.old (λ kept. kept_message setup.now (kept_rows ((state S.Store conn.old).now.trees 1)) kept.sender kept.number ≡ Some kept.message) }
-    ensures reads { ReadsOnly S.Store conn.old conn.new result }
+    requires block { Holds S.Store conn.old (λ db. AreLoaded db block.old) }
+    requires last { Holds S.Store conn.old (λ db. IsKept setup.now db last.old) }
+    ensures reads { LeavesStore S.Store conn.old conn.new result }
     ensures known { IfOk result (λ given. AllByRecursion (λ r. IsArchPlace setup.now.archs r.arch) given.items) }
     ensures ok { Finds S.Store conn.new result (λ db given. map (row_of setup.now (kept_rows (db 1))) rows.now ≡ map Some given.items) }
-    ensures bad { IsTrusted (state S.Store conn.new) → result ≡ Err (KeepFault.Store Cause.BadRow) → ReadsEach entry_columns (row_of setup.now (kept_rows ((state S.Store conn.new).now.trees 1))) rows.now → IsCrowded ((state S.Store conn.new).now.trees 1) }
+    ensures bad { Holds S.Store conn.new (λ db. IsBad result → ReadsEach entry_columns (row_of setup.now (kept_rows (db 1))) rows.now → IsCrowded (db 1)) }
 {
     let mut given = Vec::new(alloc);
     let columns = BUILD;
@@ -485,10 +483,10 @@ fn rows_at<S: Alter>(
     rows: &[Row],
 ) -> Result<Vec<RowIn>, KeepFault>
     requires ours { BeginsOurs S.Store conn.old }
-    ensures reads { ReadsOnly S.Store conn.old conn.new result }
+    ensures reads { LeavesStore S.Store conn.old conn.new result }
     ensures known { IfOk result (λ given. AllByRecursion (λ r. IsArchPlace setup.now.archs r.arch) given.items) }
     ensures ok { Finds S.Store conn.new result (λ db given. map (row_of setup.now (kept_rows (db 1))) rows.now ≡ map Some given.items) }
-    ensures bad { IsTrusted (state S.Store conn.new) → result ≡ Err (KeepFault.Store Cause.BadRow) → ReadsEach entry_columns (row_of setup.now (kept_rows ((state S.Store conn.new).now.trees 1))) rows.now → IsCrowded ((state S.Store conn.new).now.trees 1) }
+    ensures bad { Holds S.Store conn.new (λ db. IsBad result → ReadsEach entry_columns (row_of setup.now (kept_rows (db 1))) rows.now → IsCrowded (db 1)) }
 {
     let mut block = no_block(alloc);
     let mut last = None;
@@ -525,7 +523,7 @@ fn put_rows(testing: &mut Testing, rows: Vec<RowIn>) -> Result<(), NoMemory>
 fn gather(testing: &mut Testing, sources: Vec<SourceIn>, rows: Vec<RowIn>) -> Result<(), KeepFault>
     requires empty { (testing.old.sources ≡ []) × (testing.old.rows ≡ []) }
     ensures ok { OnOk result (IsGathered sources.items rows.items testing.new) }
-    ensures bad { result ≡ Err (KeepFault.Store Cause.BadRow) → length (put_all_sources sources.items []) ≡ length sources.items → length (put_all_rows rows.items []) ≢ length rows.items }
+    ensures bad { IsBad result → length (put_all_sources sources.items []) ≡ length sources.items → length (put_all_rows rows.items []) ≢ length rows.items }
 {
     let count = sources.len();
     let more = rows.len();
@@ -540,7 +538,7 @@ fn gather(testing: &mut Testing, sources: Vec<SourceIn>, rows: Vec<RowIn>) -> Re
 /// The suite of these sources and rows.
 fn gathered(alloc: Global, sources: Vec<SourceIn>, rows: Vec<RowIn>) -> Result<Testing, KeepFault>
     ensures ok { IfOk result (λ testing. IsGathered sources.items rows.items testing) }
-    ensures bad { result ≡ Err (KeepFault.Store Cause.BadRow) → length (put_all_sources sources.items []) ≡ length sources.items → length (put_all_rows rows.items []) ≢ length rows.items }
+    ensures bad { IsBad result → length (put_all_sources sources.items []) ≡ length sources.items → length (put_all_rows rows.items []) ≢ length rows.items }
 {
     let mut testing = Testing::new(alloc);
     gather(&mut testing, sources, rows)?;
@@ -554,8 +552,8 @@ pub fn testing<S: Alter>(
     setup: &Setup,
 ) -> Result<Testing, KeepFault>
     requires ours { BeginsOurs S.Store conn.old }
-    ensures reads { ReadsOnly S.Store conn.old conn.new result }
-    ensures bad { IsTrusted (state S.Store conn.new) → IsWhole (kept_rows ((state S.Store conn.new).now.trees 1)) ((state S.Store conn.new).now.trees 1) → AreNamed setup.now (state S.Store conn.new).now.trees → result ≢ Err (KeepFault.Store Cause.BadRow) }
+    ensures reads { LeavesStore S.Store conn.old conn.new result }
+    ensures bad { Holds S.Store conn.new (λ db. IsWhole (kept_rows (db 1)) (db 1) → AreNamed setup.now db → NeverBad result) }
     ensures known { IfOk result (λ testing. KnowsArchs setup.now.archs testing.rows) }
     ensures value { Finds S.Store conn.new result (λ db testing. testing ≡ suite_in setup.now (kept_rows (db 1)) (source_map (db 4)) (entry_map (db 6))) }
     ensures legible { Finds S.Store conn.new result (λ db _. AreNamed setup.now db) }

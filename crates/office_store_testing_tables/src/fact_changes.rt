@@ -4,10 +4,10 @@ ghost use Rattle.std.specs.List.{AllByRecursion, list_all};
 ghost use Rattle.std.specs.List.Sorted.{IsPermutation};
 ghost use Rattle.sqlite.specs.Values.{bound};
 ghost use Rattle.office_store_testing_tables.specs.steps.Faults.{NeverBad};
-ghost use Rattle.office_store_testing_tables.specs.steps.StepsWithin.{BeginsInside, Performs, PerformsWell, Looks};
-ghost use Rattle.office_store_testing_tables.specs.steps.FactSteps.{is_fact, is_delays, id_columns, IsFound, TakesFact, TakesDelays, AddsFact, AddsFacts, AddsDelays, fact_parameters, FitsFact, is_no_delays, DropsFact, DropsDelays, DropsOne, AddsOne, DropsEach, AddsEach};
+ghost use Rattle.office_store_testing_tables.specs.steps.StepsWithin.{BeginsInside, Performs, PerformsNeverBad, Looks};
+ghost use Rattle.office_store_testing_tables.specs.steps.FactSteps.{is_fact, is_delays, id_columns, IsFound, AddsFact, AddsFacts, AddsDelays, fact_parameters, FitsFact, is_no_delays, DropsFact, DropsDelays, DropsOne, AddsOne, DropsEach, AddsEach};
 
-use crate::rowids::{alone, only_id};
+use crate::rowids::{ChangedTable, only_id, take_one};
 use office_store_keeper::KeepFault;
 use sqlite::types::{ToSql, ValueRef};
 use sqlite::{Alter, Error, Row, Transaction, params};
@@ -40,22 +40,6 @@ fn delays_ids<S: Alter>(tx: &mut Transaction<'_, S>, number: u32) -> Result<Vec<
         "SELECT id FROM fact_delays WHERE number = ?1",
         params![number],
     )
-}
-
-/// Removes the facts with a rowid, and counts them.
-fn take_fact<S: Alter>(tx: &mut Transaction<'_, S>, id: i64) -> Result<usize, Error>
-    requires { BeginsInside S.Store tx.old.conn }
-    ensures { Performs S.Store tx.old.conn tx.new.conn result (λ db next count. TakesFact db next id count) }
-{
-    tx.execute("DELETE FROM fact WHERE rowid = ?1", params![id])
-}
-
-/// Removes the delays with a rowid, and counts them.
-fn take_delays<S: Alter>(tx: &mut Transaction<'_, S>, id: i64) -> Result<usize, Error>
-    requires { BeginsInside S.Store tx.old.conn }
-    ensures { Performs S.Store tx.old.conn tx.new.conn result (λ db next count. TakesDelays db next id count) }
-{
-    tx.execute("DELETE FROM fact_delays WHERE id = ?1", params![id])
 }
 
 /// Adds one fact.
@@ -101,26 +85,16 @@ fn found_fact<S: Alter>(
     Ok(id)
 }
 
-/// Removes the one fact with a rowid.
-fn take_one_fact<S: Alter>(tx: &mut Transaction<'_, S>, id: i64) -> Result<(), KeepFault>
-    requires { BeginsInside S.Store tx.old.conn }
-    ensures { PerformsWell S.Store tx.old.conn tx.new.conn result (λ db next _. TakesFact db next id 1) }
-{
-    let count = take_fact(tx, id)?;
-    alone(count)?;
-    Ok(())
-}
-
 /// Removes a fact from the table of facts, if it is there.
 fn drop_fact<S: Alter>(tx: &mut Transaction<'_, S>, fact: &FactRow) -> Result<(), KeepFault>
     requires { BeginsInside S.Store tx.old.conn }
-    ensures { PerformsWell S.Store tx.old.conn tx.new.conn result (λ db next _. DropsFact db next fact.now) }
+    ensures { PerformsNeverBad S.Store tx.old.conn tx.new.conn result (λ db next _. DropsFact db next fact.now) }
 {
     let found = found_fact(tx, fact)?;
     match found {
         None => Ok(()),
         Some(id) => {
-            take_one_fact(tx, id)?;
+            take_one(tx, ChangedTable::Facts, id)?;
             Ok(())
         }
     }
@@ -140,26 +114,16 @@ fn found_delays<S: Alter>(
     Ok(id)
 }
 
-/// Removes the one row of delays with a rowid.
-fn take_one_delays<S: Alter>(tx: &mut Transaction<'_, S>, id: i64) -> Result<(), KeepFault>
-    requires { BeginsInside S.Store tx.old.conn }
-    ensures { PerformsWell S.Store tx.old.conn tx.new.conn result (λ db next _. TakesDelays db next id 1) }
-{
-    let count = take_delays(tx, id)?;
-    alone(count)?;
-    Ok(())
-}
-
 /// Removes the delays under a number from their table, if they are there.
 fn drop_delays<S: Alter>(tx: &mut Transaction<'_, S>, number: u32) -> Result<(), KeepFault>
     requires { BeginsInside S.Store tx.old.conn }
-    ensures { PerformsWell S.Store tx.old.conn tx.new.conn result (λ db next _. DropsDelays db next number) }
+    ensures { PerformsNeverBad S.Store tx.old.conn tx.new.conn result (λ db next _. DropsDelays db next number) }
 {
     let found = found_delays(tx, number)?;
     match found {
         None => Ok(()),
         Some(id) => {
-            take_one_delays(tx, id)?;
+            take_one(tx, ChangedTable::Delays, id)?;
             Ok(())
         }
     }
@@ -179,7 +143,7 @@ fn drop_one<S: Alter>(
     fact: &FactRow,
 ) -> Result<(), KeepFault>
     requires { BeginsInside S.Store tx.old.conn }
-    ensures { PerformsWell S.Store tx.old.conn tx.new.conn result (λ db next _. DropsOne release db next fact.now) }
+    ensures { PerformsNeverBad S.Store tx.old.conn tx.new.conn result (λ db next _. DropsOne release db next fact.now) }
 {
     if is_no_delays(fact) {
         drop_fact(tx, fact)?;
@@ -219,7 +183,7 @@ pub fn drop_each<S: Alter>(
     facts: &[FactRow],
 ) -> Result<(), KeepFault>
     requires { BeginsInside S.Store tx.old.conn }
-    ensures { PerformsWell S.Store tx.old.conn tx.new.conn result (λ db next _. DropsEach release db next facts.now) }
+    ensures { PerformsNeverBad S.Store tx.old.conn tx.new.conn result (λ db next _. DropsEach release db next facts.now) }
 {
     'facts: for fact in facts {
         drop_one(tx, release, fact)?;

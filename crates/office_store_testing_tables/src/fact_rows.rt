@@ -1,14 +1,13 @@
 //! The tables of facts, read back.
-ghost use Rattle.std.specs.Prelude.{◌≡◌, ◌≢◌, ◌<◌, ◌∷◌, ◌++◌, [], ℤ, ℕ, true, Err, Some, None, pos, length, map, option_to_list, IfOk};
+ghost use Rattle.std.specs.Prelude.{◌≡◌, ◌≢◌, ◌<◌, ◌∷◌, ◌++◌, [], ℤ, ℕ, true, Some, None, pos, length, map, option_to_list, IfOk};
 ghost use Rattle.std.specs.List.Sorted.{IsPermutation};
 ghost use Rattle.sqlite.specs.Order.{column};
 ghost use Rattle.sqlite.specs.declared.types.Value.TheVariants.{Int};
-ghost use Rattle.sqlite.specs.Held.{state};
 ghost use Rattle.testing_rules_model.specs.FactRows.{number_of};
 ghost use Rattle.testing_rules_model.specs.declared.fact_row.FactKind.{FactKind as AKind};
 ghost use Rattle.office_store_keeper.specs.FactSet.{rows_in as rows_in_set, set_of_rows};
-ghost use Rattle.office_store_testing_tables.specs.Tables.{IsTrusted};
-ghost use Rattle.office_store_testing_tables.specs.steps.ReadsOnly.{ReadsOnly, BeginsOurs, Finds};
+ghost use Rattle.office_store_testing_tables.specs.steps.Faults.{IsBad, NeverBad};
+ghost use Rattle.office_store_testing_tables.specs.steps.Reads.{LeavesStore, BeginsOurs, Finds, Reads, Holds};
 ghost use Rattle.office_store_testing_tables.specs.TableContent.{release_place};
 ghost use Rattle.office_store_testing_tables.specs.steps.TableContent.{ReadsEach};
 ghost use Rattle.office_store_testing_tables.specs.Legible.{AreRead};
@@ -52,7 +51,7 @@ fn may_stand(kind: FactKind, place: u32) -> bool
 /// The kind whose number is in the second column of a shown row of facts.
 fn kind_in(row: &Row) -> Result<FactKind, KeepFault>
     ensures ok { IfOk result (λ kind. column row.now 1 ≡ Int (pos (number_of kind))) }
-    ensures bad { result ≡ Err (KeepFault.Store Cause.BadRow) → 1 < length row.now → (kind : AKind) → column row.now 1 ≢ Int (pos (number_of kind)) }
+    ensures bad { IsBad result → 1 < length row.now → (kind : AKind) → column row.now 1 ≢ Int (pos (number_of kind)) }
 {
     let number = number_in(row, 1)?;
     match FactKind::of_number(number) {
@@ -65,7 +64,7 @@ fn kind_in(row: &Row) -> Result<FactKind, KeepFault>
 fn fact_numbers(row: &Row) -> Result<FactRow, KeepFault>
     ensures ok { IfOk result (λ fact. may_stand fact.kind fact.place ≡ true → fact_in row.now ≡ Some (fact_entry fact)) }
     ensures is { IfOk result (λ fact. (column row.now 1 ≡ Int (pos (number_of fact.kind))) × (column row.now 4 ≡ Int (pos fact.place))) }
-    ensures bad { result ≡ Err (KeepFault.Store Cause.BadRow) → (id : ℤ) (kind : AKind) (sender number place : ℕ) → sender < 4_294_967_296 → number < 4_294_967_296 → place < 4_294_967_296 → row.now ≢ Int id ∷ Int (pos (number_of kind)) ∷ Int (pos sender) ∷ Int (pos number) ∷ Int (pos place) ∷ [] }
+    ensures bad { IsBad result → (id : ℤ) (kind : AKind) (sender number place : ℕ) → sender < 4_294_967_296 → number < 4_294_967_296 → place < 4_294_967_296 → row.now ≢ Int id ∷ Int (pos (number_of kind)) ∷ Int (pos sender) ∷ Int (pos number) ∷ Int (pos place) ∷ [] }
 {
     let _rowid = rowid_in(row)?;
     let kind = kind_in(row)?;
@@ -83,7 +82,7 @@ fn fact_numbers(row: &Row) -> Result<FactRow, KeepFault>
 /// The content of a shown row of facts.
 fn fact_said(row: &Row) -> Result<FactRow, KeepFault>
     ensures ok { IfOk result (λ fact. fact_in row.now ≡ Some (fact_entry fact)) }
-    ensures bad { result ≡ Err (KeepFault.Store Cause.BadRow) → row.now ≡ fact_columns row.now → fact_in row.now ≡ None }
+    ensures bad { IsBad result → row.now ≡ fact_columns row.now → fact_in row.now ≡ None }
 {
     let fact = fact_numbers(row)?;
     if !may_stand(fact.kind, fact.place) {
@@ -95,7 +94,7 @@ fn fact_said(row: &Row) -> Result<FactRow, KeepFault>
 /// The content of these rows of facts, in their order.
 fn facts_said(alloc: Global, rows: &[Row]) -> Result<Vec<FactRow>, KeepFault>
     ensures ok { IfOk result (λ facts. map fact_in rows.now ≡ map Some (map fact_entry facts.items)) }
-    ensures bad { result ≡ Err (KeepFault.Store Cause.BadRow) → ReadsEach fact_columns fact_in rows.now → ⊥ }
+    ensures bad { IsBad result → ReadsEach fact_columns fact_in rows.now → ⊥ }
 {
     let mut facts = Vec::new(alloc);
     'rows: for row in rows {
@@ -108,7 +107,7 @@ fn facts_said(alloc: Global, rows: &[Row]) -> Result<Vec<FactRow>, KeepFault>
 /// The number in the shown row of the last delays with the id 1.
 fn delays_number(row: &Row) -> Result<u32, KeepFault>
     ensures ok { IfOk result (λ number. (release : ℕ) → shown_delays release row.now ≡ Some (fact_entry (delays_of release number))) }
-    ensures bad { result ≡ Err (KeepFault.Store Cause.BadRow) → (number : ℕ) → number < 4_294_967_296 → row.now ≢ Int (pos 1) ∷ Int (pos number) ∷ [] }
+    ensures bad { IsBad result → (number : ℕ) → number < 4_294_967_296 → row.now ≢ Int (pos 1) ∷ Int (pos number) ∷ [] }
 {
     let id = number_in(row, 0)?;
     if id != 1 {
@@ -121,8 +120,8 @@ fn delays_number(row: &Row) -> Result<u32, KeepFault>
 /// The fact in the only row of the last delays, if there is one.
 fn delays_said(rows: &[Row], release: u32) -> Result<Option<FactRow>, KeepFault>
     ensures ok { IfOk result (λ fact. IsOnlyDelays release fact rows.now) }
-    ensures none { result ≡ Err (KeepFault.Store Cause.BadRow) → rows.now ≢ [] }
-    ensures one { result ≡ Err (KeepFault.Store Cause.BadRow) → (number : ℕ) → number < 4_294_967_296 → rows.now ≢ (Int (pos 1) ∷ Int (pos number) ∷ []) ∷ [] }
+    ensures none { IsBad result → rows.now ≢ [] }
+    ensures one { IsBad result → (number : ℕ) → number < 4_294_967_296 → rows.now ≢ (Int (pos 1) ∷ Int (pos number) ∷ []) ∷ [] }
 {
     match rows {
         [] => Ok(None),
@@ -138,18 +137,16 @@ fn delays_said(rows: &[Row], release: u32) -> Result<Option<FactRow>, KeepFault>
 
 /// The rows of facts, in any order.
 fn fact_rows<S: Alter>(conn: &mut Connection<S>) -> Result<Vec<Row>, Error>
-    requires ours { BeginsOurs S.Store conn.old }
-    ensures reads { ReadsOnly S.Store conn.old conn.new result }
-    ensures rows { Finds S.Store conn.new result (λ db rows. IsPermutation (map fact_columns (db 8)) rows.items) }
+    requires { BeginsOurs S.Store conn.old }
+    ensures { Reads S.Store conn.old conn.new result (λ db rows. IsPermutation (map fact_columns (db 8)) rows.items) }
 {
     conn.query_all("SELECT rowid, kind, sender, number, place FROM fact", &[])
 }
 
 /// The rows of the last delays, in any order.
 fn delays_rows<S: Alter>(conn: &mut Connection<S>) -> Result<Vec<Row>, Error>
-    requires ours { BeginsOurs S.Store conn.old }
-    ensures reads { ReadsOnly S.Store conn.old conn.new result }
-    ensures rows { Finds S.Store conn.new result (λ db rows. IsPermutation (map delays_columns (db 10)) rows.items) }
+    requires { BeginsOurs S.Store conn.old }
+    ensures { Reads S.Store conn.old conn.new result (λ db rows. IsPermutation (map delays_columns (db 10)) rows.items) }
 {
     conn.query_all("SELECT id, number FROM fact_delays", &[])
 }
@@ -176,8 +173,8 @@ pub fn facts<S: Alter>(
     setup: &Setup,
 ) -> Result<FactRows, KeepFault>
     requires ours { BeginsOurs S.Store conn.old }
-    ensures reads { ReadsOnly S.Store conn.old conn.new result }
-    ensures bad { IsTrusted (state S.Store conn.new) → AreRead (release_place setup.now) ((state S.Store conn.new).now.trees 8) ((state S.Store conn.new).now.trees 10) → result ≢ Err (KeepFault.Store Cause.BadRow) }
+    ensures reads { LeavesStore S.Store conn.old conn.new result }
+    ensures bad { Holds S.Store conn.new (λ db. AreRead (release_place setup.now) (db 8) (db 10) → NeverBad result) }
     ensures value { Finds S.Store conn.new result (λ db rows. rows ≡ rows_in_set (facts_in (release_place setup.now) (db 8) (db 10))) }
     ensures legible { Finds S.Store conn.new result (λ db _. AreRead (release_place setup.now) (db 8) (db 10)) }
 {

@@ -1,14 +1,14 @@
 //! Looks up texts in the table of mail.
-ghost use Rattle.std.specs.Prelude.{◌≡◌, ◌≢◌, ◌≤◌, ◌<◌, ◌∷◌, [], List, ℕ, true, Some, Err, pos, nat_eq, map, filter, length, IfOk};
+ghost use Rattle.std.specs.Prelude.{◌≡◌, ◌≢◌, ◌≤◌, ◌<◌, ◌∷◌, [], List, ℕ, true, Some, pos, nat_eq, map, filter, length, IfOk};
 ghost use Rattle.std.specs.List.Sorted.{IsPermutation};
 ghost use Rattle.office_store_keeper.specs.Content.{letters_within};
 ghost use Rattle.std.specs.FinMap.{get};
 ghost use Rattle.sqlite.specs.Order.{column};
 ghost use Rattle.sqlite.specs.declared.types.Value.TheVariants.{Int, Blob};
-ghost use Rattle.sqlite.specs.Held.{state};
-ghost use Rattle.office_store_testing_tables.specs.Tables.{IsTrusted, kept_rows};
+ghost use Rattle.office_store_testing_tables.specs.Tables.{kept_rows};
+ghost use Rattle.office_store_testing_tables.specs.steps.Faults.{IsBad};
 ghost use Rattle.office_store_testing_tables.specs.steps.TableSteps.{IsCrowded, IsOnly, is_at, is_between, letter_columns, shown_letter, letter_entry, ShowsLetters, rises_from};
-ghost use Rattle.office_store_testing_tables.specs.steps.ReadsOnly.{ReadsOnly, BeginsOurs, Finds};
+ghost use Rattle.office_store_testing_tables.specs.steps.Reads.{LeavesStore, BeginsOurs, Finds, Reads, Holds};
 
 use crate::faults::unread;
 use office_store_keeper::{Cause, KeepFault, Letter, MailText};
@@ -18,7 +18,7 @@ use std::alloc::Global;
 /// The text in a row found by its place and number.
 fn text_in(row: &Row, sender: u32, number: u32) -> Result<MailText, KeepFault>
     ensures ok { IfOk result (λ text. (column row.now 0 ≡ Int (pos sender)) × (column row.now 1 ≡ Int (pos number)) × (column row.now 2 ≡ Blob text)) }
-    ensures bad { result ≡ Err (KeepFault.Store Cause.BadRow) → (text : List ℕ) → row.now ≢ Int (pos sender) ∷ Int (pos number) ∷ Blob text ∷ [] }
+    ensures bad { IsBad result → (text : List ℕ) → row.now ≢ Int (pos sender) ∷ Int (pos number) ∷ Blob text ∷ [] }
 {
     let from: u32 = row.get(0).map_err(unread)?;
     let at: u32 = row.get(1).map_err(unread)?;
@@ -32,8 +32,8 @@ fn text_in(row: &Row, sender: u32, number: u32) -> Result<MailText, KeepFault>
 /// The text of the only row, if there is one.
 fn only_text(rows: &[Row], sender: u32, number: u32) -> Result<Option<MailText>, KeepFault>
     ensures ok { IfOk result (λ text. IsOnly sender number text rows.now) }
-    ensures none { result ≡ Err (KeepFault.Store Cause.BadRow) → rows.now ≢ [] }
-    ensures one { result ≡ Err (KeepFault.Store Cause.BadRow) → (text : List ℕ) → rows.now ≢ (Int (pos sender) ∷ Int (pos number) ∷ Blob text ∷ []) ∷ [] }
+    ensures none { IsBad result → rows.now ≢ [] }
+    ensures one { IsBad result → (text : List ℕ) → rows.now ≢ (Int (pos sender) ∷ Int (pos number) ∷ Blob text ∷ []) ∷ [] }
 {
     match rows {
         [] => Ok(None),
@@ -44,9 +44,8 @@ fn only_text(rows: &[Row], sender: u32, number: u32) -> Result<Option<MailText>,
 
 /// The rows of mail with this sender's place and number, in any order.
 fn letters<S: Alter>(conn: &mut Connection<S>, sender: u32, number: u32) -> Result<Vec<Row>, Error>
-    requires ours { BeginsOurs S.Store conn.old }
-    ensures reads { ReadsOnly S.Store conn.old conn.new result }
-    ensures rows { Finds S.Store conn.new result (λ db rows. IsPermutation (map letter_columns (filter (is_at sender number) (db 1))) rows.items) }
+    requires { BeginsOurs S.Store conn.old }
+    ensures { Reads S.Store conn.old conn.new result (λ db rows. IsPermutation (map letter_columns (filter (is_at sender number) (db 1))) rows.items) }
 {
     conn.query_all(
         "SELECT sender, number, body FROM mail WHERE sender = ?1 AND number = ?2",
@@ -61,9 +60,9 @@ pub fn find<S: Alter>(
     number: u32,
 ) -> Result<Option<MailText>, KeepFault>
     requires ours { BeginsOurs S.Store conn.old }
-    ensures reads { ReadsOnly S.Store conn.old conn.new result }
+    ensures reads { LeavesStore S.Store conn.old conn.new result }
     ensures found { Finds S.Store conn.new result (λ db text. text ≡ get (kept_rows (db 1)) (sender, number)) }
-    ensures bad { IsTrusted (state S.Store conn.new) → result ≡ Err (KeepFault.Store Cause.BadRow) → IsCrowded ((state S.Store conn.new).now.trees 1) }
+    ensures bad { Holds S.Store conn.new (λ db. IsBad result → IsCrowded (db 1)) }
 {
     let rows = letters(conn, sender, number)?;
     only_text(rows.as_slice(), sender, number)
@@ -76,9 +75,8 @@ fn letters_between<S: Alter>(
     from: u32,
     to: u32,
 ) -> Result<Vec<Row>, Error>
-    requires ours { BeginsOurs S.Store conn.old }
-    ensures reads { ReadsOnly S.Store conn.old conn.new result }
-    ensures rows { Finds S.Store conn.new result (λ db rows. IsPermutation (map letter_columns (filter (is_between sender from to) (db 1))) rows.items) }
+    requires { BeginsOurs S.Store conn.old }
+    ensures { Reads S.Store conn.old conn.new result (λ db rows. IsPermutation (map letter_columns (filter (is_between sender from to) (db 1))) rows.items) }
 {
     conn.query_all(
         "SELECT sender, number, body FROM mail WHERE sender = ?1 AND number >= ?2 AND number <= ?3",
@@ -89,7 +87,7 @@ fn letters_between<S: Alter>(
 /// The letter in a shown row, if it is this sender's.
 pub fn letter_in(row: &Row, sender: u32) -> Result<Letter, KeepFault>
     ensures ok { IfOk result (λ letter. (column row.now 0 ≡ Int (pos sender)) × (column row.now 1 ≡ Int (pos letter.number)) × (column row.now 2 ≡ Blob letter.text)) }
-    ensures bad { result ≡ Err (KeepFault.Store Cause.BadRow) → (number : ℕ) (text : List ℕ) → number < 4_294_967_296 → row.now ≢ Int (pos sender) ∷ Int (pos number) ∷ Blob text ∷ [] }
+    ensures bad { IsBad result → (number : ℕ) (text : List ℕ) → number < 4_294_967_296 → row.now ≢ Int (pos sender) ∷ Int (pos number) ∷ Blob text ∷ [] }
 {
     let from: u32 = row.get(0).map_err(unread)?;
     if from != sender {
@@ -106,7 +104,7 @@ pub fn letter_in(row: &Row, sender: u32) -> Result<Letter, KeepFault>
 /// The letters in these rows, in their order.
 pub fn letters_in(alloc: Global, rows: &[Row], sender: u32) -> Result<Vec<Letter>, KeepFault>
     ensures ok { IfOk result (λ letters. map shown_letter rows.now ≡ map Some (map (letter_entry sender) letters.items)) }
-    ensures bad { result ≡ Err (KeepFault.Store Cause.BadRow) → ShowsLetters sender rows.now → ⊥ }
+    ensures bad { IsBad result → ShowsLetters sender rows.now → ⊥ }
 {
     let mut letters = Vec::new(alloc);
     'rows: for row in rows {
@@ -134,7 +132,7 @@ fn are_rising(letters: &[Letter]) -> bool
 pub fn by_number(letters: Vec<Letter>) -> Result<Vec<Letter>, KeepFault>
     ensures same { IfOk result (λ sorted. IsPermutation letters.items sorted.items) }
     ensures rising { IfOk result (λ sorted. rises_from 0 sorted.items ≡ true) }
-    ensures bad { result ≡ Err (KeepFault.Store Cause.BadRow) → ((number : ℕ) → length (filter (λ l. nat_eq l.number number) letters.items) ≤ 1) → ⊥ }
+    ensures bad { IsBad result → ((number : ℕ) → length (filter (λ l. nat_eq l.number number) letters.items) ≤ 1) → ⊥ }
 {
     let mut sorted = letters;
     sorted.sort_unstable_by_key(|letter| letter.number);
@@ -153,8 +151,8 @@ pub fn load<S: Alter>(
     to: u32,
 ) -> Result<Vec<Letter>, KeepFault>
     requires ours { BeginsOurs S.Store conn.old }
-    ensures reads { ReadsOnly S.Store conn.old conn.new result }
-    ensures bad { IsTrusted (state S.Store conn.new) → result ≡ Err (KeepFault.Store Cause.BadRow) → IsCrowded ((state S.Store conn.new).now.trees 1) }
+    ensures reads { LeavesStore S.Store conn.old conn.new result }
+    ensures bad { Holds S.Store conn.new (λ db. IsBad result → IsCrowded (db 1)) }
     ensures loaded { Finds S.Store conn.new result (λ db letters. letters.items ≡ letters_within (kept_rows (db 1)) sender from to) }
 {
     let rows = letters_between(conn, sender, from, to)?;

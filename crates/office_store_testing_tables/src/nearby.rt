@@ -1,16 +1,14 @@
 //! Texts of mail loaded together. Entries of testing, read in the order of their messages, usually name messages that
 //! are adjacent in the mail.
-ghost use Rattle.std.specs.Prelude.{◌≡◌, Err, Some};
-ghost use Rattle.sqlite.specs.Held.{state};
-ghost use Rattle.office_store_testing_tables.specs.Tables.{IsTrusted, kept_rows};
+ghost use Rattle.office_store_testing_tables.specs.steps.Faults.{IsBad};
 ghost use Rattle.office_store_testing_tables.specs.steps.TableSteps.{IsCrowded};
-ghost use Rattle.office_store_testing_tables.specs.steps.ReadsOnly.{ReadsOnly, BeginsOurs, Finds};
-ghost use Rattle.office_store_testing_tables.specs.steps.Loaded.{AreLettersOf};
+ghost use Rattle.office_store_testing_tables.specs.steps.Reads.{LeavesStore, BeginsOurs, Finds, Holds};
+ghost use Rattle.office_store_testing_tables.specs.steps.Loaded.{AreLoaded};
 
 use crate::loaded::{LoadedLetters, loaded_text};
 use crate::mail;
 use crate::shown::number_in;
-use office_store_keeper::{Cause, KeepFault};
+use office_store_keeper::KeepFault;
 use sqlite::{Alter, Connection, Row};
 use std::alloc::Global;
 
@@ -69,10 +67,10 @@ pub fn bring<S: Alter>(
     number: u32,
 ) -> Result<(), KeepFault>
     requires ours { BeginsOurs S.Store conn.old }
-    requires block { IsTrusted (state S.Store conn.old) → AreLettersOf (kept_rows ((state S.Store conn.old).now.trees 1)) block.old.sender block.old.letters.items }
-    ensures reads { ReadsOnly S.Store conn.old conn.new result }
-    ensures block { Finds S.Store conn.new result (λ db _. AreLettersOf (kept_rows (db 1)) block.new.sender block.new.letters.items) }
-    ensures bad { IsTrusted (state S.Store conn.new) → result ≡ Err (KeepFault.Store Cause.BadRow) → IsCrowded ((state S.Store conn.new).now.trees 1) }
+    requires block { Holds S.Store conn.old (λ db. AreLoaded db block.old) }
+    ensures reads { LeavesStore S.Store conn.old conn.new result }
+    ensures block { Finds S.Store conn.new result (λ db _. AreLoaded db block.new) }
+    ensures bad { Holds S.Store conn.new (λ db. IsBad result → IsCrowded (db 1)) }
 {
     if loaded_text(block, sender, number).is_some() {
         return Ok(());

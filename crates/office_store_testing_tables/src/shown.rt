@@ -1,8 +1,9 @@
 //! The content of shown rows of testing's tables.
-ghost use Rattle.std.specs.Prelude.{◌≡◌, ◌≢◌, ◌<◌, ◌∷◌, [], List, ℕ, ℤ, Err, Some, pos, length, IfOk};
+ghost use Rattle.std.specs.Prelude.{◌≡◌, ◌≢◌, ◌<◌, ◌∷◌, [], List, ℕ, ℤ, Some, pos, length, IfOk};
 ghost use Rattle.sqlite.specs.Order.{column};
 ghost use Rattle.sqlite.specs.declared.types.Value.TheVariants.{Int, Text as Words};
 ghost use Rattle.office_store_testing_tables.specs.Entries.{source_in, entry_in};
+ghost use Rattle.office_store_testing_tables.specs.steps.Faults.{IsBad};
 
 use crate::faults::unread;
 use office_store_keeper::{Cause, KeepFault};
@@ -12,7 +13,7 @@ use sqlite::types::ValueRef;
 /// The characters in a column.
 pub fn name_in(row: &Row, at: usize) -> Result<&[u8], KeepFault>
     ensures ok { IfOk result (λ name. column row.now at ≡ Words name.now) }
-    ensures bad { result ≡ Err (KeepFault.Store Cause.BadRow) → at < length row.now → (name : List ℕ) → column row.now at ≢ Words name }
+    ensures bad { IsBad result → at < length row.now → (name : List ℕ) → column row.now at ≢ Words name }
 {
     match row.get_ref(at).map_err(unread)? {
         ValueRef::Text(name) => Ok(name),
@@ -23,7 +24,7 @@ pub fn name_in(row: &Row, at: usize) -> Result<&[u8], KeepFault>
 /// The rowid, in the first column.
 pub fn rowid_in(row: &Row) -> Result<i64, KeepFault>
     ensures ok { IfOk result (λ id. column row.now 0 ≡ Int id) }
-    ensures bad { result ≡ Err (KeepFault.Store Cause.BadRow) → 0 < length row.now → (id : ℤ) → column row.now 0 ≢ Int id }
+    ensures bad { IsBad result → 0 < length row.now → (id : ℤ) → column row.now 0 ≢ Int id }
 {
     Ok(row.get(0).map_err(unread)?)
 }
@@ -31,7 +32,7 @@ pub fn rowid_in(row: &Row) -> Result<i64, KeepFault>
 /// The number of 32 bits in a column.
 pub fn number_in(row: &Row, at: usize) -> Result<u32, KeepFault>
     ensures ok { IfOk result (λ n. (column row.now at ≡ Int (pos n)) × (n < 4_294_967_296)) }
-    ensures bad { result ≡ Err (KeepFault.Store Cause.BadRow) → at < length row.now → (n : ℕ) → n < 4_294_967_296 → column row.now at ≢ Int (pos n) }
+    ensures bad { IsBad result → at < length row.now → (n : ℕ) → n < 4_294_967_296 → column row.now at ≢ Int (pos n) }
 {
     Ok(row.get(at).map_err(unread)?)
 }
@@ -39,7 +40,7 @@ pub fn number_in(row: &Row, at: usize) -> Result<u32, KeepFault>
 /// The name in a shown row of testing's sources, and the place of its message.
 pub fn source_entry(row: &Row) -> Result<(&[u8], u32, u32), KeepFault>
     ensures ok { IfOk result (λ entry. source_in row.now ≡ Some (entry.0.now, (entry.1, entry.2))) }
-    ensures bad { result ≡ Err (KeepFault.Store Cause.BadRow) → (id : ℤ) (name : List ℕ) (sender number : ℕ) → sender < 4_294_967_296 → number < 4_294_967_296 → row.now ≢ Int id ∷ Words name ∷ Int (pos sender) ∷ Int (pos number) ∷ [] }
+    ensures bad { IsBad result → (id : ℤ) (name : List ℕ) (sender number : ℕ) → sender < 4_294_967_296 → number < 4_294_967_296 → row.now ≢ Int id ∷ Words name ∷ Int (pos sender) ∷ Int (pos number) ∷ [] }
 {
     let _rowid = rowid_in(row)?;
     let name = name_in(row, 1)?;
@@ -61,7 +62,7 @@ pub struct RowEntry<'a> {
 /// The architecture and name in a shown row of testing's rows, and the places of its message and binary.
 pub fn row_entry(row: &Row) -> Result<RowEntry<'_>, KeepFault>
     ensures ok { IfOk result (λ e. entry_in row.now ≡ Some ((e.arch, e.name.now), ((e.sender, e.number), e.place))) }
-    ensures bad { result ≡ Err (KeepFault.Store Cause.BadRow) → (id : ℤ) (arch : ℕ) (name : List ℕ) (sender number place : ℕ) → arch < 4_294_967_296 → sender < 4_294_967_296 → number < 4_294_967_296 → place < 4_294_967_296 → row.now ≢ Int id ∷ Int (pos arch) ∷ Words name ∷ Int (pos sender) ∷ Int (pos number) ∷ Int (pos place) ∷ [] }
+    ensures bad { IsBad result → (id : ℤ) (arch : ℕ) (name : List ℕ) (sender number place : ℕ) → arch < 4_294_967_296 → sender < 4_294_967_296 → number < 4_294_967_296 → place < 4_294_967_296 → row.now ≢ Int id ∷ Int (pos arch) ∷ Words name ∷ Int (pos sender) ∷ Int (pos number) ∷ Int (pos place) ∷ [] }
 {
     let _rowid = rowid_in(row)?;
     let arch = number_in(row, 1)?;

@@ -1,5 +1,8 @@
 -- How a store of schema 1 is read and rewritten.
 use Rattle.std.specs.Prelude.{◌≡◌, ◌≤◌, ◌+◌, ◌==◌, ℕ, List, [], ◌∷◌, max, nat_le, if◌then◌else◌, is_some, slice_index, Option, Some, None, option_and_then}
+use Rattle.std.specs.Borrow.{MutBor}
+use Rattle.sqlite_trees.specs.declared.store.Store.{Ghosts}
+use Rattle.sqlite.specs.Held.{Held, state}
 use Rattle.sqlite.specs.Order.{Row, column}
 use Rattle.sqlite.specs.State.{State}
 use Rattle.sqlite.specs.Tree.{Trees}
@@ -14,12 +17,16 @@ use Rattle.office_mail.specs.Read.{read}
 use Rattle.office_mail.specs.Runs.{runs}
 use Rattle.office_store_keeper.specs.declared.values.Letter.{Letter}
 use Rattle.office_store_tables.specs.declared.said.Said.{Said}
-use Rattle.office_store_tables.specs.Tables.{number_in, office_in, said_in}
+use Rattle.office_store_tables.specs.Tables.{IsTrusted, number_in, office_in, said_in}
 use Rattle.office_store_tables.specs.TableContent.{own_by, release_place}
 use Rattle.office_store_tables.specs.TableSteps.{SaysAlone, rows_in, WentOn}
 use Rattle.office_store_tables.specs.FactSteps.{AddsDelays}
 use Rattle.office_store.specs.Opening.{text_before, lists_by}
 use Rattle.office_store.specs.Migrating.{order_of, KeepsDelays}
+
+-- if the connection is trusted after the step, this holds of the tables before it
+abbrev pub HeldBefore : {S : Type 0} → Ghosts S → MutBor (Held S) → MutBor (Held S) → (Trees → Type 0) → Type 0
+HeldBefore store old new said = IsTrusted (state store new.now) → said (state store old.now).now.trees
 
 -- ---- the office's row
 

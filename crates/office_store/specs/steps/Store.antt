@@ -1,7 +1,7 @@
 -- Steps beside `specs/Store.antt`.
 use Rattle.office_store_keeper.specs.declared.faults.Cause.TheVariants.{BadRow, Sqlite}
-use Rattle.office_store.specs.declared.opening.OpenFault.{OpenFault}
-use Rattle.office_store.specs.declared.opening.OpenFault.TheVariants as opening
+use Rattle.office_store.specs.declared.openings.OpenFault.{OpenFault}
+use Rattle.office_store.specs.declared.openings.OpenFault.TheVariants as opening
 use Rattle.office_store.specs.declared.store.FileFault.{FileFault}
 use Rattle.office_store.specs.declared.store.FileFault.TheVariants as fault
 

@@ -57,9 +57,9 @@ pub record MakesAll (old new : State) : Type 0 where
   pub facts : new.now.trees 8 ≡ []
   pub delays : new.now.trees 10 ≡ []
 
--- What a step leaves that makes tables, as any step within a transaction does: it still belongs to its connection. A
--- connection trusted after the step was trusted before it, and a trusted one stays trusted if the step succeeds over a
--- clean disk. Then the tables are made. No step commits anything.
+-- What a step leaves that makes tables: the transaction still belongs to its connection. A connection trusted after the
+-- step was trusted before it, and a trusted one stays trusted if the step succeeds over a clean disk. If the step
+-- succeeds, the tables are made as the last argument says; if it fails, what was committed stays.
 pub record Creates {S : Type 0} (store : Ghosts S) (old new : MutBor (Held S)) (result : Result ℕ Error) (are_made : State → State → Type 0) : Type 0 where
   pub same_reference : new.ghost_name ≡ old.ghost_name
   pub before : IsTrusted (state store new.now) → IsTrusted (state store old.now)

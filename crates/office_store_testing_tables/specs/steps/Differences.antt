@@ -5,13 +5,11 @@ use Rattle.std.specs.List.Sorted.{IsPermutation}
 use Rattle.sqlite.specs.Order.{Row, column}
 use Rattle.sqlite.specs.Tree.{Trees}
 use Rattle.sqlite.specs.declared.types.Value.TheVariants.{Int}
-use Rattle.testing_rules_model.specs.declared.suite.SourceIn.{SourceIn}
-use Rattle.testing_rules_model.specs.declared.suite.RowIn.{RowIn}
 use Rattle.office_store_testing_tables.specs.declared.differences.Change.{Change}
 use Rattle.office_store_testing_tables.specs.declared.differences.Change.TheVariants.{Stays, Leaves, Comes}
 use Rattle.office_store_testing_tables.specs.steps.TableSteps.{rows_in}
-use Rattle.office_store_testing_tables.specs.Entries.{source_in, entry_in}
-use Rattle.office_store_testing_tables.specs.steps.EntrySteps.{source_columns, source_entry, entry_columns, row_entry}
+use Rattle.office_store_testing_tables.specs.declared.rowids.ChangedTable.{ChangedTable}
+use Rattle.office_store_testing_tables.specs.steps.ChangedTables.{place_of, with_table}
 
 -- the change fits the lists from these places on: it stays and the next row says the next entry, or the next row has
 -- the leaving rowid, or a next entry comes
@@ -34,12 +32,14 @@ pub record AreCompared {X E : Type 0} (columns : Row → Row) (says : Row → Op
   pub are : IsPermutation (map columns table) (done ++ drop i shown)
   pub said : map says done ≡ map (λ x. Some (entry x)) (take j new)
 
--- testing's sources are compared so far, and the other tables are unchanged
-pub record SourcesCompared (db next : Trees) (shown : List Row) (sources : List SourceIn) (i j : ℕ) : Type 0 where
-  pub compared : AreCompared source_columns source_in source_entry (next 4) shown sources i j
-  pub rest : rows_in next ≡ record (rows_in db) { sources = next 4 }
+-- the rows of one table are compared so far, and the other tables are unchanged
+pub record TableCompared {X E : Type 0} (table : ChangedTable) (columns : Row → Row) (says : Row → Option E) (entry : X → E) (db next : Trees) (shown : List Row) (new : List X) (i j : ℕ) : Type 0 where
+  pub compared : AreCompared columns says entry (next (place_of table)) shown new i j
+  pub rest : rows_in next ≡ with_table table (next (place_of table)) (rows_in db)
 
--- testing's rows are compared so far, and the other tables are unchanged
-pub record RowsCompared (db next : Trees) (shown : List Row) (rows : List RowIn) (i j : ℕ) : Type 0 where
-  pub compared : AreCompared entry_columns entry_in row_entry (next 6) shown rows i j
-  pub rest : rows_in next ≡ record (rows_in db) { rows = next 6 }
+-- the table has one row for each new entry and no other, and the other tables are unchanged
+pub record HasAlone {X E : Type 0} (table : ChangedTable) (columns : Row → Row) (says : Row → Option E) (entry : X → E) (db next : Trees) (new : List X) : Type 0 where
+  pub rows : List Row
+  pub are : IsPermutation (map columns (next (place_of table))) rows
+  pub said : map says rows ≡ map (λ x. Some (entry x)) new
+  pub rest : rows_in next ≡ with_table table (next (place_of table)) (rows_in db)

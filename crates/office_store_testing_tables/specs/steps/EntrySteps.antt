@@ -1,10 +1,9 @@
 -- What the statements on the tables of testing show, and how they change them.
-use Rattle.std.specs.Prelude.{◌≡◌, ◌<◌, ℕ, ℤ, pos, false, List, [], ◌∷◌, map, Some}
+use Rattle.std.specs.Prelude.{◌≡◌, ◌<◌, ℕ, pos, List, [], ◌∷◌, map, refl}
 use Rattle.std.specs.FinMap.{from_entries}
-use Rattle.sqlite_rules.specs.Edit.{is_taken}
 use Rattle.sqlite.specs.Order.{Row, column}
 use Rattle.sqlite.specs.declared.types.Value.TheVariants.{Int, Text}
-use Rattle.sqlite.specs.Tree.{Trees, put_row}
+use Rattle.sqlite.specs.Tree.{Trees}
 use Rattle.testing_rules_model.specs.declared.suite.SourceIn.{SourceIn}
 use Rattle.testing_rules_model.specs.declared.suite.RowIn.{RowIn}
 use Rattle.testing_rules_model.specs.Moves.{row_key}
@@ -12,7 +11,6 @@ use Rattle.office_mail.specs.Kept.{Place}
 use Rattle.office_store_testing_tables.specs.Tables.{IsWhole}
 use Rattle.office_store_testing_tables.specs.steps.TableSteps.{rows_in}
 use Rattle.office_store_testing_tables.specs.Entries.{source_in, source_map, entry_in, entry_map}
-use Rattle.office_store_testing_tables.specs.steps.FactSteps.{TakesOut}
 
 -- ---- sources
 
@@ -20,21 +18,14 @@ use Rattle.office_store_testing_tables.specs.steps.FactSteps.{TakesOut}
 abbrev pub source_columns : Row → Row
 source_columns row = column row 0 ∷ column row 1 ∷ column row 2 ∷ column row 3 ∷ []
 
+-- the shown part says what the row says
+pub source_shown : (row : Row) → source_in (source_columns row) ≡ source_in row
+unfolding source_in
+source_shown row = refl
+
 -- a source of testing in the form of its table
 abbrev pub source_entry : SourceIn → List ℕ × Place
 source_entry s = (s.name, (s.sender, s.number))
-
--- the rows of sources with this rowid were removed, and the other tables are unchanged
-pub record TakesSource (db next : Trees) (id : ℤ) (count : ℕ) : Type 0 where
-  pub taken : TakesOut (db 4) (next 4) id count
-  pub rest : rows_in next ≡ record (rows_in db) { sources = next 4 }
-
--- one source's row was added, with a new rowid, and the other tables are unchanged
-pub record AddsSource (db next : Trees) (name : List ℕ) (sender number : ℕ) : Type 0 where
-  pub row : Row
-  pub says : source_in row ≡ Some (name, (sender, number))
-  pub free : is_taken (db 4) row ≡ false
-  pub put : rows_in next ≡ record (rows_in db) { sources = put_row row (db 4) }
 
 -- a statement's values for a source
 abbrev pub source_parameters : List ℕ → ℕ → ℕ → Row
@@ -43,11 +34,6 @@ source_parameters name sender number = Text name ∷ Int (pos sender) ∷ Int (p
 -- the numbers of a source fit in 32 bits
 abbrev pub FitsSource : ℕ → ℕ → Type 0
 FitsSource sender number = (sender < 4_294_967_296) × (number < 4_294_967_296)
-
--- rows of these sources were added one by one, and the other tables are unchanged
-abbrev pub AddsSources : Trees → Trees → List SourceIn → Type 0
-AddsSources db next [] = next ≡ db
-AddsSources db next (source ∷ sources) = (mid : Trees) × AddsSource db mid source.name source.sender source.number × AddsSources mid next sources
 
 -- the table has exactly these sources, it stays whole, and the other tables are unchanged
 pub record SetsSources (db next : Trees) (sources : List SourceIn) : Type 0 where
@@ -61,21 +47,14 @@ pub record SetsSources (db next : Trees) (sources : List SourceIn) : Type 0 wher
 abbrev pub entry_columns : Row → Row
 entry_columns row = column row 0 ∷ column row 1 ∷ column row 2 ∷ column row 3 ∷ column row 4 ∷ column row 5 ∷ []
 
+-- the shown part says what the row says
+pub row_shown : (row : Row) → entry_in (entry_columns row) ≡ entry_in row
+unfolding entry_in
+row_shown row = refl
+
 -- a row of testing in the form of its table
 abbrev pub row_entry : RowIn → (ℕ × List ℕ) × (Place × ℕ)
 row_entry r = (row_key r, ((r.sender, r.number), r.place))
-
--- the rows with this rowid were removed, and the other tables are unchanged
-pub record TakesRow (db next : Trees) (id : ℤ) (count : ℕ) : Type 0 where
-  pub taken : TakesOut (db 6) (next 6) id count
-  pub rest : rows_in next ≡ record (rows_in db) { rows = next 6 }
-
--- one row was added, with a new rowid, and the other tables are unchanged
-pub record AddsRow (db next : Trees) (arch : ℕ) (name : List ℕ) (sender number place : ℕ) : Type 0 where
-  pub row : Row
-  pub says : entry_in row ≡ Some ((arch, name), ((sender, number), place))
-  pub free : is_taken (db 6) row ≡ false
-  pub put : rows_in next ≡ record (rows_in db) { rows = put_row row (db 6) }
 
 -- a statement's values for a row
 abbrev pub row_parameters : ℕ → List ℕ → ℕ → ℕ → ℕ → Row
@@ -84,11 +63,6 @@ row_parameters arch name sender number place = Int (pos arch) ∷ Text name ∷ 
 -- the numbers of a row fit in 32 bits
 abbrev pub FitsRow : ℕ → ℕ → ℕ → ℕ → Type 0
 FitsRow arch sender number place = (arch < 4_294_967_296) × (sender < 4_294_967_296) × (number < 4_294_967_296) × (place < 4_294_967_296)
-
--- these rows were added one by one, and the other tables are unchanged
-abbrev pub AddsRows : Trees → Trees → List RowIn → Type 0
-AddsRows db next [] = next ≡ db
-AddsRows db next (row ∷ rows) = (mid : Trees) × AddsRow db mid row.arch row.binary.name row.sender row.number row.place × AddsRows mid next rows
 
 -- the table has exactly these rows, it stays whole, and the other tables are unchanged
 pub record SetsRows (db next : Trees) (rows : List RowIn) : Type 0 where

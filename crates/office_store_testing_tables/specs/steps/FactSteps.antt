@@ -6,7 +6,7 @@ use Rattle.std.specs.List.Sorted.{IsPermutation}
 use Rattle.sqlite_rules.specs.Lists.{Has}
 use Rattle.sqlite_rules.specs.Edit.{is_taken}
 use Rattle.sqlite.specs.Order.{Row, column, value_cmp}
-use Rattle.sqlite.specs.Tree.{Trees, rowid, has_rowid, without_rowid, put_row}
+use Rattle.sqlite.specs.Tree.{Trees, rowid, put_row}
 use Rattle.sqlite.specs.declared.types.Value.TheVariants.{Int}
 use Rattle.testing_rules_model.specs.declared.fact_row.FactKind.TheVariants.{Delays}
 use Rattle.testing_rules_model.specs.declared.fact_row.FactRow.{FactRow}
@@ -59,21 +59,6 @@ pub record IsFound (test : Row → Bool) (rows : List Row) (id : Option ℤ) : T
   pub shown : List Row
   pub are : IsPermutation (map id_columns (filter test rows)) shown
   pub only : IsOnlyId id shown
-
--- this many rows had the rowid, and if it was one, that row is removed
-pub record TakesOut (rows next : List Row) (id : ℤ) (count : ℕ) : Type 0 where
-  pub counted : count ≡ length (filter (has_rowid id) rows)
-  pub left : (row : Row) → filter (has_rowid id) rows ≡ row ∷ [] → rowid row ≡ Int id → next ≡ without_rowid id rows
-
--- the rows of facts with this rowid were removed, and the other tables are unchanged
-pub record TakesFact (db next : Trees) (id : ℤ) (count : ℕ) : Type 0 where
-  pub taken : TakesOut (db 8) (next 8) id count
-  pub rest : rows_in next ≡ record (rows_in db) { facts = next 8 }
-
--- the same for the last delays
-pub record TakesDelays (db next : Trees) (id : ℤ) (count : ℕ) : Type 0 where
-  pub taken : TakesOut (db 10) (next 10) id count
-  pub rest : rows_in next ≡ record (rows_in db) { delays = next 10 }
 
 -- one fact's row was added, with a new rowid, and the other tables are unchanged
 pub record AddsFact (db next : Trees) (fact : FactRow) : Type 0 where

@@ -39,8 +39,8 @@ pub record Performs {S T E : Type 0} (store : Ghosts S) (old new : MutBor (Held 
   pub steps : StepsWithin store old new result
   pub yields : Yields store old new result made
 
--- the same of a step that doesn't report a bad row
-pub record PerformsWell {S T : Type 0} (store : Ghosts S) (old new : MutBor (Held S)) (result : Result T KeepFault) (made : Trees → Trees → T → Type 0) : Type 0 where
+-- the same, and the step, whether it succeeds or fails, never reports a bad row
+pub record PerformsNeverBad {S T : Type 0} (store : Ghosts S) (old new : MutBor (Held S)) (result : Result T KeepFault) (made : Trees → Trees → T → Type 0) : Type 0 where
   pub steps : StepsWithin store old new result
   pub yields : Yields store old new result made
   pub bad : NeverBad result

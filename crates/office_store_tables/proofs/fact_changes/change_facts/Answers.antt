@@ -1,7 +1,7 @@
 use Rattle.sqlite.specs.Held.{state}
 use Rattle.office_store_testing_tables.proofs.FactMoves.{changes}
 use Rattle.office_store_testing_tables.proofs.Passed.{well, never_bad, still_well}
-use Rattle.office_store_testing_tables.proofs.WithinLemmas.{kept_within, failed_within, then_within, failed_well}
+use Rattle.office_store_testing_tables.proofs.WithinLemmas.{kept_within, failed_within, then_within, failed_never_bad}
 use Rattle.office_store_tables.proofs.fact_changes.change_facts.Goals as goal
 
 pub returns : goal.returns
@@ -14,7 +14,7 @@ returns g c = record {
 }
 
 pub returns-in_err-drop_gone : goal.returns-in_err-drop_gone
-returns-in_err-drop_gone g c = failed_well _ c.from_residual.ensures.0 (still_well _ _ c.from_residual.ensures.1 c.in_err-drop_gone.ensures.bad) (failed_within _ c.from_residual.ensures.0 c.in_err-drop_gone.ensures.steps)
+returns-in_err-drop_gone g c = failed_never_bad _ c.from_residual.ensures.0 (still_well _ _ c.from_residual.ensures.1 c.in_err-drop_gone.ensures.bad) (failed_within _ c.from_residual.ensures.0 c.in_err-drop_gone.ensures.steps)
 
 pub returns-in_err-add_each : goal.returns-in_err-add_each
-returns-in_err-add_each g c = failed_well _ c.from_residual-in_err-add_each.ensures.0 (never_bad _ c.from_residual-in_err-add_each.ensures.1) (then_within _ c.in_ok-drop_gone.ensures.steps (failed_within _ c.from_residual-in_err-add_each.ensures.0 c.in_err-add_each.ensures.steps))
+returns-in_err-add_each g c = failed_never_bad _ c.from_residual-in_err-add_each.ensures.0 (never_bad _ c.from_residual-in_err-add_each.ensures.1) (then_within _ c.in_ok-drop_gone.ensures.steps (failed_within _ c.from_residual-in_err-add_each.ensures.0 c.in_err-add_each.ensures.steps))

@@ -3,11 +3,11 @@ use Rattle.std.specs.List.{flat_map}
 use Rattle.sqlite.specs.Values.{bound}
 use Rattle.sqlite.specs.Held.{state}
 use Rattle.office_store_testing_tables.specs.steps.Texts.{keep_eight_text}
-use Rattle.office_store_testing_tables.specs.steps.TableSteps.{letter_parameters, AddsLetters}
+use Rattle.office_store_testing_tables.specs.steps.TableSteps.{letter_parameters}
 use Rattle.office_store_testing_tables.proofs.Eights.{flattened}
 use Rattle.office_store_testing_tables.proofs.StateLemmas.{lasts_survived}
-use Rattle.office_store_testing_tables.proofs.StepLemmas.{Stepped, step_gives}
-use Rattle.office_store_testing_tables.proofs.WithinLemmas.{stepped_within}
+use Rattle.office_store_testing_tables.proofs.StepLemmas.{Stepped}
+use Rattle.office_store_testing_tables.proofs.WithinLemmas.{stepped_does}
 use Rattle.office_store_testing_tables.proofs.KeepLemmas.{keeps_eight}
 use Rattle.office_store_tables.proofs.mail.add_eight.Goals as goal
 
@@ -19,16 +19,7 @@ stepped g c = record {
   runs = rw (ap bound c.as_flattened.ensures.value, flattened _ _ _ _ c.eight_values-values.ensures) at c.execute.ensures.runs;
 }
 
-pub returns-clause-steps : goal.returns-clause-steps
-returns-clause-steps g c =
-    let old = state g.S.Store c.args.tx.now.conn.now in
-    let new = state g.S.Store c.execute.new.self.conn.now in
-    stepped_within _ _ _ _ (λ _. AddsLetters old.now.trees new.now.trees c.args.letters.now) c.execute.result (stepped g c) c.execute.ensures.same_reference (λ idle. (c.execute.ensures.ended idle).1) (lasts_survived _ _ c.execute.ensures.survives) c.requires.inside
-    (λ count inside h. keeps_eight old new count inside.schema c.args.letters.now c.requires.eight h)
-
-pub returns-clause-added : goal.returns-clause-added
-returns-clause-added g c trusted =
-    let old = state g.S.Store c.args.tx.now.conn.now in
-    let new = state g.S.Store c.execute.new.self.conn.now in
-    step_gives _ _ old new (AddsLetters old.now.trees new.now.trees c.args.letters.now) c.execute.result (stepped g c) trusted c.requires.inside
-    (λ count inside h. keeps_eight old new count inside.schema c.args.letters.now c.requires.eight h)
+pub returns : goal.returns
+returns g c =
+    stepped_does _ _ _ _ _ c.execute.result (stepped g c) c.execute.ensures.same_reference (λ idle. (c.execute.ensures.ended idle).1) (lasts_survived _ _ c.execute.ensures.survives) c.requires.inside
+    (λ count inside h. keeps_eight _ _ count inside.schema c.args.letters.now c.requires.eight h)

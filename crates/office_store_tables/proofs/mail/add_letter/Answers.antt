@@ -2,10 +2,9 @@ use Rattle.std.proofs.Common.{◌∷◌, [], pos}
 use Rattle.sqlite.specs.declared.types.Value.TheVariants.{Int, Blob}
 use Rattle.sqlite.specs.Held.{state}
 use Rattle.office_store_testing_tables.specs.steps.Texts.{keep_text}
-use Rattle.office_store_testing_tables.specs.steps.TableSteps.{AddsLetter}
 use Rattle.office_store_testing_tables.proofs.StateLemmas.{lasts_survived}
-use Rattle.office_store_testing_tables.proofs.StepLemmas.{Stepped, step_gives}
-use Rattle.office_store_testing_tables.proofs.WithinLemmas.{stepped_within}
+use Rattle.office_store_testing_tables.proofs.StepLemmas.{Stepped}
+use Rattle.office_store_testing_tables.proofs.WithinLemmas.{stepped_does}
 use Rattle.office_store_testing_tables.proofs.KeepLemmas.{keeps}
 use Rattle.office_store_tables.proofs.mail.add_letter.Goals as goal
 
@@ -17,16 +16,7 @@ stepped g c = record {
   runs = rw (c.params-to_sql.ensures, c.params-to_sql-2.ensures, c.params-to_sql-3.ensures) at c.execute.ensures.runs;
 }
 
-pub returns-clause-steps : goal.returns-clause-steps
-returns-clause-steps g c =
-    let old = state g.S.Store c.args.tx.now.conn.now in
-    let new = state g.S.Store c.execute.new.self.conn.now in
-    stepped_within _ _ _ _ (λ _. AddsLetter old.now.trees new.now.trees c.args.sender c.args.number c.args.text.now) c.execute.result (stepped g c) c.execute.ensures.same_reference (λ idle. (c.execute.ensures.ended idle).1) (lasts_survived _ _ c.execute.ensures.survives) c.requires.inside
-    (λ count inside h. keeps c.args.sender c.args.number c.args.text.now old new count inside.schema h)
-
-pub returns-clause-added : goal.returns-clause-added
-returns-clause-added g c trusted =
-    let old = state g.S.Store c.args.tx.now.conn.now in
-    let new = state g.S.Store c.execute.new.self.conn.now in
-    step_gives _ _ old new (AddsLetter old.now.trees new.now.trees c.args.sender c.args.number c.args.text.now) c.execute.result (stepped g c) trusted c.requires.inside
-    (λ count inside h. keeps c.args.sender c.args.number c.args.text.now old new count inside.schema h)
+pub returns : goal.returns
+returns g c =
+    stepped_does _ _ _ _ _ c.execute.result (stepped g c) c.execute.ensures.same_reference (λ idle. (c.execute.ensures.ended idle).1) (lasts_survived _ _ c.execute.ensures.survives) c.requires
+    (λ count inside h. keeps c.args.sender c.args.number c.args.text.now _ _ count inside.schema h)

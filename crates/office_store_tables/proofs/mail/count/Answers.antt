@@ -7,7 +7,7 @@ use Rattle.office_store_tables.proofs.mail.count.Goals as goal
 
 pub returns-clause-count : goal.returns-clause-count
 returns-clause-count g c trusted =
-    let many = as_many rowid_column ((state g.S.Store c.rowids.new.conn).now.trees 1) c.in_ok-rows.rows.items (c.in_ok-rows.ensures.rows trusted) in
+    let many = as_many rowid_column ((state g.S.Store c.rowids.new.conn).now.trees 1) c.in_ok-rows.rows.items (c.in_ok-rows.ensures.finds trusted) in
     let size = c.len.ensures in
     omega (arith, many, size)
 

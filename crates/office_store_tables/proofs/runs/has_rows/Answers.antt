@@ -9,7 +9,7 @@ use Rattle.office_store_tables.proofs.runs.has_rows.Goals as goal
 pub returns-clause-own : goal.returns-clause-own
 returns-clause-own g c trusted =
     let rows = (state g.S.Store c.numbers.new.conn).now.trees 3 in
-    let many = as_many rowid_column rows c.in_ok-rows.rows.items (c.in_ok-rows.ensures.rows trusted) in
+    let many = as_many rowid_column rows c.in_ok-rows.rows.items (c.in_ok-rows.ensures.finds trusted) in
     let size = c.len.ensures in
     same_count (length rows) c.args.runs c.len.result (omega (arith, many, size))
 

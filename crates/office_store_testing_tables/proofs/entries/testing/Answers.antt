@@ -39,13 +39,13 @@ returns-clause-value g c fourth =
     let d : three.now ≡ two.now = (c.in_ok-found.ensures.reads.same third).now in
     let e : four.now ≡ three.now = (c.in_ok-given.ensures.reads.same fourth).now in
     let uploads = c.by_message-uploads.result.items in
-    let named = subst (λ (x : Database). IsPermutation (map source_columns (x.trees 4)) uploads) (sym (e ∙ d ∙ b)) (IsPermutation-trans (map source_columns (one.now.trees 4)) c.in_ok-named.named.items uploads (c.in_ok-named.ensures.rows first) c.by_message-uploads.ensures) in
+    let named = subst (λ (x : Database). IsPermutation (map source_columns (x.trees 4)) uploads) (sym (e ∙ d ∙ b)) (IsPermutation-trans (map source_columns (one.now.trees 4)) c.in_ok-named.named.items uploads (c.in_ok-named.ensures.finds first) c.by_message-uploads.ensures) in
     let said = subst (λ (x : Database). map (source_of c.args.setup.now (kept_rows (x.trees 1))) uploads ≡ map Some c.in_ok-read.read.items) (sym (e ∙ d)) (rw c.as_slice.ensures.value at (c.in_ok-read.ensures.ok second)) in
     let sources = reordered (source_of c.args.setup.now (kept_rows (four.now.trees 1))) uploads c.in_ok-read.read.items c.by_name-sources.result.items said c.by_name-sources.ensures in
     let put = reordered (row_of c.args.setup.now (kept_rows (four.now.trees 1))) c.by_message-listed.result.items c.in_ok-given.given.items c.by_key-rows.result.items (rw c.as_slice-2.ensures.value at (c.in_ok-given.ensures.ok fourth)) c.by_key-rows.ensures in
     gathered_on c.args.setup.now (kept_rows (four.now.trees 1)) (four.now.trees 4) (four.now.trees 6) sources.rows put.rows c.by_name-sources.result.items c.by_key-rows.result.items c.gathered.result
     (IsPermutation-trans (map source_columns (four.now.trees 4)) uploads sources.rows named sources.same)
-    (subst (λ (x : Database). IsPermutation (map entry_columns (x.trees 6)) put.rows) (sym e) (IsPermutation-trans (map entry_columns (three.now.trees 6)) c.by_message-listed.result.items put.rows (IsPermutation-trans (map entry_columns (three.now.trees 6)) c.in_ok-found.found.items c.by_message-listed.result.items (c.in_ok-found.ensures.rows third) c.by_message-listed.ensures) put.same))
+    (subst (λ (x : Database). IsPermutation (map entry_columns (x.trees 6)) put.rows) (sym e) (IsPermutation-trans (map entry_columns (three.now.trees 6)) c.by_message-listed.result.items put.rows (IsPermutation-trans (map entry_columns (three.now.trees 6)) c.in_ok-found.found.items c.by_message-listed.result.items (c.in_ok-found.ensures.finds third) c.by_message-listed.ensures) put.same))
     sources.reads
     put.reads
     c.gathered.ensures.ok
@@ -63,13 +63,13 @@ returns-clause-legible g c fourth =
     let d : three.now ≡ two.now = (c.in_ok-found.ensures.reads.same third).now in
     let e : four.now ≡ three.now = (c.in_ok-given.ensures.reads.same fourth).now in
     let uploads = c.by_message-uploads.result.items in
-    let named = subst (λ (x : Database). IsPermutation (map source_columns (x.trees 4)) uploads) (sym (e ∙ d ∙ b)) (IsPermutation-trans (map source_columns (one.now.trees 4)) c.in_ok-named.named.items uploads (c.in_ok-named.ensures.rows first) c.by_message-uploads.ensures) in
+    let named = subst (λ (x : Database). IsPermutation (map source_columns (x.trees 4)) uploads) (sym (e ∙ d ∙ b)) (IsPermutation-trans (map source_columns (one.now.trees 4)) c.in_ok-named.named.items uploads (c.in_ok-named.ensures.finds first) c.by_message-uploads.ensures) in
     let said = subst (λ (x : Database). map (source_of c.args.setup.now (kept_rows (x.trees 1))) uploads ≡ map Some c.in_ok-read.read.items) (sym (e ∙ d)) (rw c.as_slice.ensures.value at (c.in_ok-read.ensures.ok second)) in
     let sources = reordered (source_of c.args.setup.now (kept_rows (four.now.trees 1))) uploads c.in_ok-read.read.items c.by_name-sources.result.items said c.by_name-sources.ensures in
     let put = reordered (row_of c.args.setup.now (kept_rows (four.now.trees 1))) c.by_message-listed.result.items c.in_ok-given.given.items c.by_key-rows.result.items (rw c.as_slice-2.ensures.value at (c.in_ok-given.ensures.ok fourth)) c.by_key-rows.ensures in
     named_on c.args.setup.now four.now.trees sources.rows put.rows c.by_name-sources.result.items c.by_key-rows.result.items c.gathered.result
     (IsPermutation-trans (map source_columns (four.now.trees 4)) uploads sources.rows named sources.same)
-    (subst (λ (x : Database). IsPermutation (map entry_columns (x.trees 6)) put.rows) (sym e) (IsPermutation-trans (map entry_columns (three.now.trees 6)) c.by_message-listed.result.items put.rows (IsPermutation-trans (map entry_columns (three.now.trees 6)) c.in_ok-found.found.items c.by_message-listed.result.items (c.in_ok-found.ensures.rows third) c.by_message-listed.ensures) put.same))
+    (subst (λ (x : Database). IsPermutation (map entry_columns (x.trees 6)) put.rows) (sym e) (IsPermutation-trans (map entry_columns (three.now.trees 6)) c.by_message-listed.result.items put.rows (IsPermutation-trans (map entry_columns (three.now.trees 6)) c.in_ok-found.found.items c.by_message-listed.result.items (c.in_ok-found.ensures.finds third) c.by_message-listed.ensures) put.same))
     sources.reads
     put.reads
     c.gathered.ensures.ok
@@ -81,7 +81,7 @@ returns-in_err-read-clause-bad g c second whole named bad =
     let two = state g.S.Store c.sources_at.new.conn in
     let setup = c.args.setup.now in
     let uploads = c.by_message-uploads.result.items in
-    let shown = subst (λ (d : Database). IsPermutation (map source_columns (d.trees 4)) uploads) (sym (ensures.reads.same second).now) (IsPermutation-trans (map source_columns (one.now.trees 4)) c.in_ok-named.named.items uploads (c.in_ok-named.ensures.rows (ensures.reads.before second)) c.by_message-uploads.ensures) in
+    let shown = subst (λ (d : Database). IsPermutation (map source_columns (d.trees 4)) uploads) (sym (ensures.reads.same second).now) (IsPermutation-trans (map source_columns (one.now.trees 4)) c.in_ok-named.named.items uploads (c.in_ok-named.ensures.finds (ensures.reads.before second)) c.by_message-uploads.ensures) in
     let reads = sources_read setup (kept_rows (two.now.trees 1)) (two.now.trees 4) uploads shown named.sources named.source in
     not_crowded (two.now.trees 1) whole (ensures.bad second (passed c.from_residual-in_err-read.result c.in_err-read.field-0.0 _ bad c.from_residual-in_err-read.ensures.1)
     (subst (λ (rows : List Row). ReadsEach source_columns (source_of setup (kept_rows (two.now.trees 1))) rows) (sym c.as_slice.ensures.value) reads))
@@ -92,7 +92,7 @@ returns-in_err-given-clause-bad g c fourth whole named bad =
     let three = state g.S.Store c.entry_rows.new.conn in
     let four = state g.S.Store c.rows_at.new.conn in
     let setup = c.args.setup.now in
-    let shown = subst (λ (d : Database). IsPermutation (map entry_columns (d.trees 6)) c.by_message-listed.result.items) (sym (ensures.reads.same fourth).now) (IsPermutation-trans (map entry_columns (three.now.trees 6)) c.in_ok-found.found.items c.by_message-listed.result.items (c.in_ok-found.ensures.rows (ensures.reads.before fourth)) c.by_message-listed.ensures) in
+    let shown = subst (λ (d : Database). IsPermutation (map entry_columns (d.trees 6)) c.by_message-listed.result.items) (sym (ensures.reads.same fourth).now) (IsPermutation-trans (map entry_columns (three.now.trees 6)) c.in_ok-found.found.items c.by_message-listed.result.items (c.in_ok-found.ensures.finds (ensures.reads.before fourth)) c.by_message-listed.ensures) in
     let reads = rows_read setup (kept_rows (four.now.trees 1)) (four.now.trees 6) c.by_message-listed.result.items shown named.rows named.row in
     not_crowded (four.now.trees 1) whole (ensures.bad fourth (passed c.from_residual-in_err-given.result c.in_err-given.field-0.0 _ bad c.from_residual-in_err-given.ensures.1)
     (subst (λ (rows : List Row). ReadsEach entry_columns (row_of setup (kept_rows (four.now.trees 1))) rows) (sym c.as_slice-2.ensures.value) reads))
@@ -111,11 +111,11 @@ returns-clause-bad g c fourth whole named bad =
     let d : three.now ≡ two.now = (c.in_ok-found.ensures.reads.same third).now in
     let e : four.now ≡ three.now = (c.in_ok-given.ensures.reads.same fourth).now in
     let uploads = c.by_message-uploads.result.items in
-    let shown = subst (λ (x : Database). IsPermutation (map source_columns (x.trees 4)) uploads) (sym (e ∙ d ∙ b)) (IsPermutation-trans (map source_columns (one.now.trees 4)) c.in_ok-named.named.items uploads (c.in_ok-named.ensures.rows first) c.by_message-uploads.ensures) in
+    let shown = subst (λ (x : Database). IsPermutation (map source_columns (x.trees 4)) uploads) (sym (e ∙ d ∙ b)) (IsPermutation-trans (map source_columns (one.now.trees 4)) c.in_ok-named.named.items uploads (c.in_ok-named.ensures.finds first) c.by_message-uploads.ensures) in
     let said = subst (λ (x : Database). map (source_of setup (kept_rows (x.trees 1))) uploads ≡ map Some c.in_ok-read.read.items) (sym (e ∙ d)) (rw c.as_slice.ensures.value at (c.in_ok-read.ensures.ok second)) in
     let sources = reordered (source_of setup (kept_rows (four.now.trees 1))) uploads c.in_ok-read.read.items c.by_name-sources.result.items said c.by_name-sources.ensures in
     let put = reordered (row_of setup (kept_rows (four.now.trees 1))) c.by_message-listed.result.items c.in_ok-given.given.items c.by_key-rows.result.items (rw c.as_slice-2.ensures.value at (c.in_ok-given.ensures.ok fourth)) c.by_key-rows.ensures in
-    let rows = subst (λ (x : Database). IsPermutation (map entry_columns (x.trees 6)) put.rows) (sym e) (IsPermutation-trans (map entry_columns (three.now.trees 6)) c.by_message-listed.result.items put.rows (IsPermutation-trans (map entry_columns (three.now.trees 6)) c.in_ok-found.found.items c.by_message-listed.result.items (c.in_ok-found.ensures.rows third) c.by_message-listed.ensures) put.same) in
+    let rows = subst (λ (x : Database). IsPermutation (map entry_columns (x.trees 6)) put.rows) (sym e) (IsPermutation-trans (map entry_columns (three.now.trees 6)) c.by_message-listed.result.items put.rows (IsPermutation-trans (map entry_columns (three.now.trees 6)) c.in_ok-found.found.items c.by_message-listed.result.items (c.in_ok-found.ensures.finds third) c.by_message-listed.ensures) put.same) in
     c.gathered.ensures.bad bad (sources_put setup (kept_rows (four.now.trees 1)) (four.now.trees 4) sources.rows (IsPermutation-trans (map source_columns (four.now.trees 4)) uploads sources.rows shown sources.same) named.sources c.by_name-sources.result.items sources.reads)
     (rows_put setup (kept_rows (four.now.trees 1)) (four.now.trees 6) put.rows rows named.rows c.by_key-rows.result.items put.reads)
 

@@ -2,7 +2,7 @@ use Rattle.std.proofs.Common.{◌≤◌, length, refl, true, arith}
 use Rattle.std.proofs.lemmas.List.{take_all}
 use Rattle.sqlite.specs.Held.{state}
 use Rattle.office_store_testing_tables.proofs.Passed.{well, still_well}
-use Rattle.office_store_testing_tables.proofs.WithinLemmas.{none_within, kept_within, failed_within, then_within, failed_well}
+use Rattle.office_store_testing_tables.proofs.WithinLemmas.{none_within, kept_within, failed_within, then_within, failed_never_bad}
 use Rattle.office_store_testing_tables.proofs.FactMoves.{drops_start, drops_at}
 use Rattle.office_store_testing_tables.proofs.fact_changes.drop_each.Goals as goal
 
@@ -30,4 +30,4 @@ returns g c =
     }
 
 pub returns-in_err-drop_one : goal.returns-in_err-drop_one
-returns-in_err-drop_one g c = failed_well _ c.from_residual.ensures.0 (still_well _ _ c.from_residual.ensures.1 c.in_err-drop_one.ensures.bad) (then_within _ c.facts.invariant.steps (failed_within _ c.from_residual.ensures.0 c.in_err-drop_one.ensures.steps))
+returns-in_err-drop_one g c = failed_never_bad _ c.from_residual.ensures.0 (still_well _ _ c.from_residual.ensures.1 c.in_err-drop_one.ensures.bad) (then_within _ c.facts.invariant.steps (failed_within _ c.from_residual.ensures.0 c.in_err-drop_one.ensures.steps))

@@ -3,7 +3,7 @@ use Rattle.sqlite.specs.Held.{state}
 use Rattle.testing_rules_model.specs.declared.fact_row.FactRow.{FactRow}
 use Rattle.office_store_testing_tables.proofs.KindReads.{of_others, of_delays}
 use Rattle.office_store_testing_tables.proofs.Passed.{well, still_well}
-use Rattle.office_store_testing_tables.proofs.WithinLemmas.{none_within, kept_within, failed_within, failed_well}
+use Rattle.office_store_testing_tables.proofs.WithinLemmas.{none_within, kept_within, failed_within, failed_never_bad}
 use Rattle.office_store_testing_tables.proofs.FactMoves.{drops_fact_moves, drops_nothing, drops_delays_moves, delays_are}
 use Rattle.office_store_testing_tables.proofs.fact_changes.drop_one.Goals as goal
 
@@ -42,7 +42,7 @@ returns g c = record {
 }
 
 pub returns-in_err-drop_fact : goal.returns-in_err-drop_fact
-returns-in_err-drop_fact g c = failed_well _ c.from_residual.ensures.0 (still_well _ _ c.from_residual.ensures.1 c.in_err-drop_fact.ensures.bad) (failed_within _ c.from_residual.ensures.0 c.in_err-drop_fact.ensures.steps)
+returns-in_err-drop_fact g c = failed_never_bad _ c.from_residual.ensures.0 (still_well _ _ c.from_residual.ensures.1 c.in_err-drop_fact.ensures.bad) (failed_within _ c.from_residual.ensures.0 c.in_err-drop_fact.ensures.steps)
 
 pub returns-in_err-drop_delays : goal.returns-in_err-drop_delays
-returns-in_err-drop_delays g c = failed_well _ c.from_residual-in_err-drop_delays.ensures.0 (still_well _ _ c.from_residual-in_err-drop_delays.ensures.1 c.in_err-drop_delays.ensures.bad) (failed_within _ c.from_residual-in_err-drop_delays.ensures.0 c.in_err-drop_delays.ensures.steps)
+returns-in_err-drop_delays g c = failed_never_bad _ c.from_residual-in_err-drop_delays.ensures.0 (still_well _ _ c.from_residual-in_err-drop_delays.ensures.1 c.in_err-drop_delays.ensures.bad) (failed_within _ c.from_residual-in_err-drop_delays.ensures.0 c.in_err-drop_delays.ensures.steps)

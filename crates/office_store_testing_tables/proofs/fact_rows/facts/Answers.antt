@@ -20,10 +20,10 @@ returns-clause-value g c trusted =
     let two = state g.S.Store c.delays_rows.new.conn in
     let release = release_place c.args.setup.now in
     let still : two.now ≡ one.now = (c.in_ok-last.ensures.reads.same trusted).now in
-    let shown = subst (λ (d : Database). IsPermutation (map fact_columns (d.trees 8)) c.in_ok-shown.shown.items) (sym still) (c.in_ok-shown.ensures.rows (c.in_ok-last.ensures.reads.before trusted)) in
+    let shown = subst (λ (d : Database). IsPermutation (map fact_columns (d.trees 8)) c.in_ok-shown.shown.items) (sym still) (c.in_ok-shown.ensures.finds (c.in_ok-last.ensures.reads.before trusted)) in
     let only = subst (λ n. IsOnlyDelays n c.in_ok-delays.delays c.in_ok-last.last.items) c.release_place-release.ensures (rw c.as_slice-2.ensures.value at c.in_ok-delays.ensures.ok) in
     c.in_ok-rows.ensures ∙ ap rows_in (facts_are release (two.now.trees 8) (two.now.trees 10) c.in_ok-shown.shown.items c.in_ok-last.last.items c.in_ok-facts.facts.items c.in_ok-delays.delays
-    shown (c.in_ok-last.ensures.rows trusted) (rw c.as_slice.ensures.value at c.in_ok-facts.ensures.ok) only)
+    shown (c.in_ok-last.ensures.finds trusted) (rw c.as_slice.ensures.value at c.in_ok-facts.ensures.ok) only)
 
 pub returns-clause-legible : goal.returns-clause-legible
 returns-clause-legible g c trusted =
@@ -31,22 +31,22 @@ returns-clause-legible g c trusted =
     let two = state g.S.Store c.delays_rows.new.conn in
     let release = release_place c.args.setup.now in
     let still : two.now ≡ one.now = (c.in_ok-last.ensures.reads.same trusted).now in
-    let shown = subst (λ (d : Database). IsPermutation (map fact_columns (d.trees 8)) c.in_ok-shown.shown.items) (sym still) (c.in_ok-shown.ensures.rows (c.in_ok-last.ensures.reads.before trusted)) in
+    let shown = subst (λ (d : Database). IsPermutation (map fact_columns (d.trees 8)) c.in_ok-shown.shown.items) (sym still) (c.in_ok-shown.ensures.finds (c.in_ok-last.ensures.reads.before trusted)) in
     let only = subst (λ n. IsOnlyDelays n c.in_ok-delays.delays c.in_ok-last.last.items) c.release_place-release.ensures (rw c.as_slice-2.ensures.value at c.in_ok-delays.ensures.ok) in
     read_back release (two.now.trees 8) (two.now.trees 10) c.in_ok-shown.shown.items c.in_ok-last.last.items c.in_ok-facts.facts.items c.in_ok-delays.delays
-    shown (c.in_ok-last.ensures.rows trusted) (rw c.as_slice.ensures.value at c.in_ok-facts.ensures.ok) only
+    shown (c.in_ok-last.ensures.finds trusted) (rw c.as_slice.ensures.value at c.in_ok-facts.ensures.ok) only
 
 pub returns-in_err-facts-clause-bad : goal.returns-in_err-facts-clause-bad
 returns-in_err-facts-clause-bad g c trusted read bad =
     let one = state g.S.Store c.fact_rows.new.conn in
     c.in_err-facts.ensures.bad (passed c.from_residual-in_err-facts.result c.in_err-facts.field-0.0 _ bad c.from_residual-in_err-facts.ensures.1)
-    (subst (λ (rows : List Row). ReadsEach fact_columns fact_in rows) (sym c.as_slice.ensures.value) (facts_read (one.now.trees 8) c.in_ok-shown.shown.items (c.in_ok-shown.ensures.rows trusted) read.fact))
+    (subst (λ (rows : List Row). ReadsEach fact_columns fact_in rows) (sym c.as_slice.ensures.value) (facts_read (one.now.trees 8) c.in_ok-shown.shown.items (c.in_ok-shown.ensures.finds trusted) read.fact))
 
 pub returns-in_err-delays-clause-bad : goal.returns-in_err-delays-clause-bad
 returns-in_err-delays-clause-bad g c trusted read bad =
     let two = state g.S.Store c.delays_rows.new.conn in
     let fault = passed c.from_residual-in_err-delays.result c.in_err-delays.field-0.0 _ bad c.from_residual-in_err-delays.ensures.1 in
-    delays_shown_one (release_place c.args.setup.now) (two.now.trees 8) (two.now.trees 10) c.in_ok-last.last.items (c.in_ok-last.ensures.rows trusted) read (rw c.as_slice-2.ensures.value at (c.in_err-delays.ensures.none fault)) (rw c.as_slice-2.ensures.value at (c.in_err-delays.ensures.one fault))
+    delays_shown_one (release_place c.args.setup.now) (two.now.trees 8) (two.now.trees 10) c.in_ok-last.last.items (c.in_ok-last.ensures.finds trusted) read (rw c.as_slice-2.ensures.value at (c.in_err-delays.ensures.none fault)) (rw c.as_slice-2.ensures.value at (c.in_err-delays.ensures.one fault))
 
 pub returns-in_err-shown-clause-value : goal.returns-in_err-shown-clause-value
 returns-in_err-shown-clause-value g c trusted = IfOk-from_err c.from_residual.result _ c.from_residual.ensures.0

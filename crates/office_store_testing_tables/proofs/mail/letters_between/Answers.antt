@@ -1,15 +1,14 @@
-use Rattle.std.proofs.Common.{◌∷◌, [], List, pos, map, filter, sym, subst}
+use Rattle.std.proofs.Common.{◌∷◌, [], List, pos, map, filter}
 use Rattle.std.specs.List.Sorted.{IsPermutation}
 use Rattle.sqlite.specs.Order.{Row}
 use Rattle.sqlite.specs.Tree.{Trees}
-use Rattle.sqlite.specs.Effect.{Database}
 use Rattle.sqlite.specs.declared.types.Value.TheVariants.{Int}
 use Rattle.sqlite.specs.Held.{state}
 use Rattle.office_store_testing_tables.specs.steps.Texts.{load_text}
 use Rattle.office_store_testing_tables.specs.steps.TableSteps.{is_between, letter_columns}
-use Rattle.office_store_testing_tables.proofs.StateLemmas.{Asked, asked_before, asked_same, asked_rows, lasts_survived}
+use Rattle.office_store_testing_tables.proofs.StateLemmas.{Asked, lasts_survived}
 use Rattle.office_store_testing_tables.proofs.LoadLemmas.{load_plain, shows_between}
-use Rattle.office_store_testing_tables.proofs.ReadingLemmas.{asked_read}
+use Rattle.office_store_testing_tables.proofs.ReadingLemmas.{asked_reads}
 use Rattle.office_store_testing_tables.proofs.mail.letters_between.Goals as goal
 
 asked : (g : _) (c : goal.After-query_all g) → Asked (λ r. r.items) load_text (Int (pos c.args.sender) ∷ Int (pos c.args.from) ∷ Int (pos c.args.to) ∷ []) (state g.S.Store c.args.conn.now) (state g.S.Store c.query_all.new.self) c.query_all.result
@@ -20,15 +19,7 @@ asked g c = record {
   err = rw (c.params-to_sql.ensures, c.params-to_sql-2.ensures, c.params-to_sql-3.ensures) at c.query_all.ensures.err;
 }
 
-pub returns-clause-reads : goal.returns-clause-reads
-returns-clause-reads g c = asked_read _ _ _ _ _ _ (asked g c) load_plain.0 (lasts_survived _ _ c.query_all.ensures.survives) c.requires.ours
-
-pub returns-clause-rows : goal.returns-clause-rows
-returns-clause-rows g c trusted =
-    let ours = c.requires.ours (asked_before _ _ _ _ _ _ (asked g c) trusted) in
-    let same = asked_same _ _ _ _ _ _ (asked g c) load_plain.0 ours trusted in
-    let old = state g.S.Store c.args.conn.now in
-    let new = state g.S.Store c.query_all.new.self in
-    let found = λ (db : Trees) (rows : List Row). IsPermutation (map letter_columns (filter (is_between c.args.sender c.args.from c.args.to) (db 1))) rows in
-    asked_rows (λ r. r.items) load_text (Int (pos c.args.sender) ∷ Int (pos c.args.from) ∷ Int (pos c.args.to) ∷ []) old new (found new.now.trees) c.query_all.result (asked g c) trusted
-    (λ rows h. subst (λ (d : Database). found d.trees rows) (sym same.now) (shows_between c.args.sender c.args.from c.args.to old new rows ours.schema h))
+pub returns : goal.returns
+returns g c =
+    asked_reads _ _ _ _ _ (λ (db : Trees) (rows : List Row). IsPermutation (map letter_columns (filter (is_between c.args.sender c.args.from c.args.to) (db 1))) rows) c.query_all.result (asked g c) load_plain.0 (lasts_survived _ _ c.query_all.ensures.survives) c.requires
+    (λ rows has h. shows_between c.args.sender c.args.from c.args.to _ _ rows has h)

@@ -1,34 +1,6 @@
-use Rattle.std.proofs.Common.{◌≡◌, map, sym, ap, subst}
-use Rattle.std.specs.List.Sorted.{IsPermutation}
-use Rattle.std.proofs.lemmas.List.Sorted.{IsPermutation-trans}
-use Rattle.sqlite.specs.Effect.{Database}
-use Rattle.sqlite.specs.Tree.{Trees}
-use Rattle.sqlite.specs.Held.{state}
-use Rattle.office_store_testing_tables.specs.steps.EntrySteps.{entry_columns, SetsRows}
-use Rattle.office_store_testing_tables.proofs.Passed.{well, never_bad, still_well}
-use Rattle.office_store_testing_tables.proofs.WithinLemmas.{failed_within, then_within, kept_within, failed_well}
+use Rattle.office_store_testing_tables.proofs.WithinLemmas.{makes_also}
+use Rattle.office_store_testing_tables.proofs.DifferenceLemmas.{sets_rows}
 use Rattle.office_store_testing_tables.proofs.testing.set_rows.Goals as goal
 
-pub change_rows-requires-clause-shown : goal.change_rows-requires-clause-shown
-change_rows-requires-clause-shown g c trusted =
-    let old = state g.S.Store c.args.tx.now.conn.now in
-    let new = state g.S.Store c.listed_rows.new.tx.conn.now in
-    let same : new.now.trees ≡ old.now.trees = ap (λ (d : Database). d.trees) (c.in_ok-listed.ensures.same trusted) in
-    let there = IsPermutation-trans _ _ _ (c.in_ok-listed.ensures.yields trusted) c.rows_in_order-shown.ensures in
-    subst (λ (t : Trees). IsPermutation (map entry_columns (t 6)) c.as_slice.result.now) (sym same)
-    (subst (IsPermutation (map entry_columns (old.now.trees 6))) (sym c.as_slice.ensures.value) there)
-
 pub returns : goal.returns
-returns g c = record {
-  steps = then_within _ c.in_ok-listed.ensures.steps c.in_ok-change_rows.ensures.steps;
-  yields = λ trusted. subst (λ (d : Database). SetsRows d.trees (state g.S.Store c.change_rows.new.tx.conn.now).now.trees c.args.rows.now) (c.in_ok-listed.ensures.same (c.in_ok-change_rows.ensures.steps.before trusted)) (c.in_ok-change_rows.ensures.yields trusted);
-  bad = well _;
-}
-
-pub returns-in_err-listed : goal.returns-in_err-listed
-returns-in_err-listed g c = failed_well _ c.from_residual.ensures.0 (never_bad _ c.from_residual.ensures.1) (failed_within _ c.from_residual.ensures.0 c.in_err-listed.ensures.steps)
-
-pub returns-in_err-change_rows : goal.returns-in_err-change_rows
-returns-in_err-change_rows g c =
-    let exit = c.from_residual-in_err-change_rows in
-    failed_well _ exit.ensures.0 (still_well _ _ exit.ensures.1 c.in_err-change_rows.ensures.bad) (then_within _ c.in_ok-listed.ensures.steps (failed_within _ exit.ensures.0 c.in_err-change_rows.ensures.steps))
+returns g c = makes_also _ (λ db next _ it. sets_rows db next c.args.rows.now c.requires.ordered it) c.set_entries.ensures
