@@ -1,5 +1,5 @@
 -- The names of rows that fail, and the first of them.
-use Rattle.std.proofs.Common.{◌≡◌, ℕ, Bool, List, [], ◌∷◌, map, filter, Option, Some, None, refl, ap}
+use Rattle.std.proofs.Common.{◌≡◌, ℕ, List, [], ◌∷◌, map, filter, Option, Some, None, refl, ap}
 use Rattle.std.specs.Prelude.{◌↔◌, option_map}
 use Rattle.testing_rules_items.specs.Words.{Text, byte_cmp, least, lesser}
 use Rattle.testing_rules_model.specs.declared.suite.RowIn.{RowIn}

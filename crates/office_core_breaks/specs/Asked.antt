@@ -1,6 +1,6 @@
 -- What is asked about: that a source moves, that a group moves as one, or that versions leave. In which words it is asked is decided by this
 -- office.
-use Rattle.std.specs.Prelude.{ℕ, Bool, if◌then◌else◌, List, ◌++◌, codes, Result, Ok, Err}
+use Rattle.std.specs.Prelude.{ℕ, if◌then◌else◌, List, ◌++◌, codes, Result, Ok, Err}
 use Rattle.deb_control.specs.Relations.{is_package_name}
 use Rattle.testing_rules_items.specs.declared.item.Hint.TheVariants.{Easy, Remove}
 use Rattle.testing_rules_items.specs.declared.item.Item.TheVariants.{Hint as Wish}

@@ -1,6 +1,6 @@
 -- Which rows of testing a change breaks: all of them, where a refusal names the first (Debian Developer's Reference 5.13.2). That all are told
 -- is decided by this office.
-use Rattle.std.specs.Prelude.{ℕ, Bool, false, ◌&&◌, not, List, [], map, filter, Option}
+use Rattle.std.specs.Prelude.{ℕ, Bool, false, ◌&&◌, not, List, [], map, filter}
 use Rattle.std.specs.Option.{option_map_or}
 use Rattle.testing_rules_items.specs.Words.{Text, is_same_version, only_if}
 use Rattle.testing_rules_items.specs.declared.item.HintItem.{HintItem}

@@ -13,7 +13,7 @@ ghost use Rattle.office_core_breaks.specs.Texts as texts;
 use crate::asked::Change;
 use crate::broken::broken_on;
 use crate::change::{is_offered, is_there};
-use crate::offers::{Ground, push_offers};
+use crate::offers::{OfferInput, push_offers};
 use deb_control::Text;
 use deb_version::NoMemory;
 use std::alloc::{AllocError, Global};
@@ -65,30 +65,30 @@ fn push_broken_row(text: &mut String, name: &str, row: &LentRow) -> Result<(), A
 fn push_broken(
     alloc: Global,
     text: &mut String,
-    ground: &Ground,
+    input: &OfferInput,
     arch: u32,
     row: &LentRow,
 ) -> Result<(), NoMemory>
-    requires { AreBySource (unboxed ground.now.unstable.sources.now) }
-    ensures { OnOk result (string_bytes text.new ≡ string_bytes text.old ++ texts.row_text (known_on ground.now) (lent ground.now.unstable.rows.now) arch (row_of row.now)) }
+    requires { AreBySource (unboxed input.now.unstable.sources.now) }
+    ensures { OnOk result (string_bytes text.new ≡ string_bytes text.old ++ texts.row_text (known_on input.now) (lent input.now.unstable.rows.now) arch (row_of row.now)) }
 {
-    let same = same_rows(alloc, row, ground.unstable.rows)?;
-    push_broken_row(text, ground.archs.name(arch), row)?;
-    push_offers(alloc, text, ground, &same)
+    let same = same_rows(alloc, row, input.unstable.rows)?;
+    push_broken_row(text, input.archs.name(arch), row)?;
+    push_offers(alloc, text, input, &same)
 }
 
 fn push_each_broken(
     alloc: Global,
     text: &mut String,
-    ground: &Ground,
+    input: &OfferInput,
     arch: u32,
     rows: &[LentRow],
 ) -> Result<(), NoMemory>
-    requires { AreBySource (unboxed ground.now.unstable.sources.now) }
-    ensures { OnOk result (string_bytes text.new ≡ string_bytes text.old ++ flat_map (texts.row_text (known_on ground.now) (lent ground.now.unstable.rows.now) arch) (lent rows.now)) }
+    requires { AreBySource (unboxed input.now.unstable.sources.now) }
+    ensures { OnOk result (string_bytes text.new ≡ string_bytes text.old ++ flat_map (texts.row_text (known_on input.now) (lent input.now.unstable.rows.now) arch) (lent rows.now)) }
 {
     for row in rows {
-        push_broken(alloc, text, ground, arch, row)?;
+        push_broken(alloc, text, input, arch, row)?;
     }
     Ok(())
 }
@@ -128,15 +128,15 @@ fn push_untold(text: &mut String, rows: &[LentRow]) -> Result<(), AllocError>
 fn push_first(
     alloc: Global,
     text: &mut String,
-    ground: &Ground,
+    input: &OfferInput,
     arch: u32,
     rows: &[LentRow],
 ) -> Result<(), NoMemory>
-    requires { AreBySource (unboxed ground.now.unstable.sources.now) }
-    ensures { OnOk result (string_bytes text.new ≡ string_bytes text.old ++ texts.first_text (known_on ground.now) (lent ground.now.unstable.rows.now) arch (lent rows.now)) }
+    requires { AreBySource (unboxed input.now.unstable.sources.now) }
+    ensures { OnOk result (string_bytes text.new ≡ string_bytes text.old ++ texts.first_text (known_on input.now) (lent input.now.unstable.rows.now) arch (lent rows.now)) }
 {
     let (told, untold) = rows.split_at(told_count(rows));
-    push_each_broken(alloc, text, ground, arch, told)?;
+    push_each_broken(alloc, text, input, arch, told)?;
     Ok(push_untold(text, untold)?)
 }
 
@@ -144,32 +144,32 @@ fn push_first(
 fn push_arch(
     alloc: Global,
     text: &mut String,
-    ground: &Ground,
+    input: &OfferInput,
     old: &[LentRow],
     new: &[LentRow],
     arch: u32,
 ) -> Result<(), NoMemory>
-    requires { AreBySource (unboxed ground.now.unstable.sources.now) }
-    ensures { OnOk result (string_bytes text.new ≡ string_bytes text.old ++ texts.broken_text (known_on ground.now) (lent ground.now.unstable.rows.now) (lent old.now) (lent new.now) arch) }
+    requires { AreBySource (unboxed input.now.unstable.sources.now) }
+    ensures { OnOk result (string_bytes text.new ≡ string_bytes text.old ++ texts.broken_text (known_on input.now) (lent input.now.unstable.rows.now) (lent old.now) (lent new.now) arch) }
 {
-    let broken = broken_on(alloc, arch, ground.coming, old, new)?;
-    push_count(text, ground.archs.name(arch), broken.len())?;
-    push_first(alloc, text, ground, arch, &broken)
+    let broken = broken_on(alloc, arch, input.coming, old, new)?;
+    push_count(text, input.archs.name(arch), broken.len())?;
+    push_first(alloc, text, input, arch, &broken)
 }
 
 /// The rows that a change from the old rows to the new ones breaks, by architecture.
 pub(crate) fn push_all(
     alloc: Global,
     text: &mut String,
-    ground: &Ground,
+    input: &OfferInput,
     old: &[LentRow],
     new: &[LentRow],
 ) -> Result<(), NoMemory>
-    requires { AreBySource (unboxed ground.now.unstable.sources.now) }
-    ensures { OnOk result (string_bytes text.new ≡ string_bytes text.old ++ texts.all_text (known_on ground.now) (lent ground.now.unstable.rows.now) (lent old.now) (lent new.now)) }
+    requires { AreBySource (unboxed input.now.unstable.sources.now) }
+    ensures { OnOk result (string_bytes text.new ≡ string_bytes text.old ++ texts.all_text (known_on input.now) (lent input.now.unstable.rows.now) (lent old.now) (lent new.now)) }
 {
-    for arch in 0..ground.archs.len() {
-        push_arch(alloc, text, ground, old, new, arch)?;
+    for arch in 0..input.archs.len() {
+        push_arch(alloc, text, input, old, new, arch)?;
     }
     Ok(())
 }

@@ -24,7 +24,7 @@ use testing_rules_reports::push_reason_words;
 /// What is known where a change is told of: the architectures, unstable, the excuses of the run, and the sources that come
 /// in.
 #[derive(Clone, Copy)]
-pub(crate) struct Ground<'g, 'a> {
+pub(crate) struct OfferInput<'g, 'a> {
     pub archs: &'g Archs,
     pub unstable: Unstable<'g, 'a>,
     pub excuses: &'g [Excuse],
@@ -95,43 +95,43 @@ fn moving_with<'a>(group: &[Text], row: &LentRow<'a>) -> &'a str
 fn push_offer_words(
     alloc: Global,
     text: &mut String,
-    ground: &Ground,
+    input: &OfferInput,
     row: &LentRow,
 ) -> Result<(), NoMemory>
-    requires { AreBySource (unboxed ground.now.unstable.sources.now) }
-    ensures { OnOk result (string_bytes text.new ≡ string_bytes text.old ++ texts.offer_words (known_on ground.now) (row_of row.now)) }
+    requires { AreBySource (unboxed input.now.unstable.sources.now) }
+    ensures { OnOk result (string_bytes text.new ≡ string_bytes text.old ++ texts.offer_words (known_on input.now) (row_of row.now)) }
 {
-    let moving = moving_with(ground.coming, row);
-    let sources = ground.unstable.sources;
-    let state = state_of(alloc, sources, ground.excuses, moving, row)?;
-    Ok(push_state(text, ground.archs, &state)?)
+    let moving = moving_with(input.coming, row);
+    let sources = input.unstable.sources;
+    let state = state_of(alloc, sources, input.excuses, moving, row)?;
+    Ok(push_state(text, input.archs, &state)?)
 }
 
 fn push_offer(
     alloc: Global,
     text: &mut String,
-    ground: &Ground,
+    input: &OfferInput,
     row: &LentRow,
 ) -> Result<(), NoMemory>
-    requires { AreBySource (unboxed ground.now.unstable.sources.now) }
-    ensures { OnOk result (string_bytes text.new ≡ string_bytes text.old ++ texts.offer_line (known_on ground.now) (row_of row.now)) }
+    requires { AreBySource (unboxed input.now.unstable.sources.now) }
+    ensures { OnOk result (string_bytes text.new ≡ string_bytes text.old ++ texts.offer_line (known_on input.now) (row_of row.now)) }
 {
     push_unstable(text, row)?;
-    push_offer_words(alloc, text, ground, row)?;
+    push_offer_words(alloc, text, input, row)?;
     Ok(text.push_str("\n")?)
 }
 
 fn push_each_offer(
     alloc: Global,
     text: &mut String,
-    ground: &Ground,
+    input: &OfferInput,
     rows: &[LentRow],
 ) -> Result<(), NoMemory>
-    requires { AreBySource (unboxed ground.now.unstable.sources.now) }
-    ensures { OnOk result (string_bytes text.new ≡ string_bytes text.old ++ flat_map (texts.offer_line (known_on ground.now)) (lent rows.now)) }
+    requires { AreBySource (unboxed input.now.unstable.sources.now) }
+    ensures { OnOk result (string_bytes text.new ≡ string_bytes text.old ++ flat_map (texts.offer_line (known_on input.now)) (lent rows.now)) }
 {
     for row in rows {
-        push_offer(alloc, text, ground, row)?;
+        push_offer(alloc, text, input, row)?;
     }
     Ok(())
 }
@@ -141,15 +141,15 @@ fn push_each_offer(
 pub(crate) fn push_offers(
     alloc: Global,
     text: &mut String,
-    ground: &Ground,
+    input: &OfferInput,
     rows: &[LentRow],
 ) -> Result<(), NoMemory>
-    requires { AreBySource (unboxed ground.now.unstable.sources.now) }
-    ensures { OnOk result (string_bytes text.new ≡ string_bytes text.old ++ texts.offers_text (known_on ground.now) (lent rows.now)) }
+    requires { AreBySource (unboxed input.now.unstable.sources.now) }
+    ensures { OnOk result (string_bytes text.new ≡ string_bytes text.old ++ texts.offers_text (known_on input.now) (lent rows.now)) }
 {
     if rows.is_empty() {
         text.push_str("unstable nothing\n")?;
         return Ok(());
     }
-    push_each_offer(alloc, text, ground, rows)
+    push_each_offer(alloc, text, input, rows)
 }

@@ -18,7 +18,7 @@ use crate::BreaksText;
 use crate::asked::{Change, Question};
 use crate::change::{coming, rows_after};
 use crate::lines::{push_all, push_head, push_unknown};
-use crate::offers::Ground;
+use crate::offers::OfferInput;
 use deb_control::{NoMemory, Text};
 use jiff_core::civil::Date;
 use std::alloc::Global;
@@ -48,52 +48,52 @@ pub(crate) struct Basis<'g> {
 /// The rows that a change from the old rows to the new ones breaks, by architecture.
 fn all_lines(
     alloc: Global,
-    ground: &Ground,
+    input: &OfferInput,
     old: &[LentRow],
     new: &[LentRow],
 ) -> Result<Text, NoMemory>
-    requires { AreBySource (unboxed ground.now.unstable.sources.now) }
-    ensures { IfOk result (λ text. text ≡ texts.all_text (known_on ground.now) (lent ground.now.unstable.rows.now) (lent old.now) (lent new.now)) }
+    requires { AreBySource (unboxed input.now.unstable.sources.now) }
+    ensures { IfOk result (λ text. text ≡ texts.all_text (known_on input.now) (lent input.now.unstable.rows.now) (lent old.now) (lent new.now)) }
 {
     let mut text = String::new(alloc);
-    push_all(alloc, &mut text, ground, old, new)?;
+    push_all(alloc, &mut text, input, old, new)?;
     Ok(Text::from_string(text))
 }
 
 /// The rows that a change breaks by which this group comes in, where testing has these rows and unstable those.
 fn broken_over<'a>(
     alloc: Global,
-    ground: &Ground<'_, 'a>,
+    input: &OfferInput<'_, 'a>,
     testing: &'a Testing,
     old: &[LentRow<'a>],
     change: &Change,
 ) -> Result<Text, NoMemory>
-    requires sources { AreBySource (unboxed ground.now.unstable.sources.now) }
+    requires sources { AreBySource (unboxed input.now.unstable.sources.now) }
     requires order { AreByKey (lent old.now) }
     requires rows { lent old.now ≡ testing.now.rows }
-    requires group { ground.now.coming.now ≡ rules.coming (unboxed ground.now.unstable.sources.now) testing.now change.now }
-    ensures { IfOk result (λ text. text ≡ texts.all_text (known_on ground.now) (lent ground.now.unstable.rows.now) testing.now.rows
-        (rules.rows_after (unboxed ground.now.unstable.sources.now) (lent ground.now.unstable.rows.now) testing.now change.now)) }
+    requires group { input.now.coming.now ≡ rules.coming (unboxed input.now.unstable.sources.now) testing.now change.now }
+    ensures { IfOk result (λ text. text ≡ texts.all_text (known_on input.now) (lent input.now.unstable.rows.now) testing.now.rows
+        (rules.rows_after (unboxed input.now.unstable.sources.now) (lent input.now.unstable.rows.now) testing.now change.now)) }
 {
-    let new = rows_after(alloc, ground.unstable, testing, old, ground.coming, change)?;
-    all_lines(alloc, ground, old, &new)
+    let new = rows_after(alloc, input.unstable, testing, old, input.coming, change)?;
+    all_lines(alloc, input, old, &new)
 }
 
 /// The same over the rows of a testing.
 fn broken_there<'a>(
     alloc: Global,
-    ground: &Ground<'_, 'a>,
+    input: &OfferInput<'_, 'a>,
     testing: &'a Testing,
     change: &Change,
 ) -> Result<Text, NoMemory>
-    requires sources { AreBySource (unboxed ground.now.unstable.sources.now) }
-    requires group { ground.now.coming.now ≡ rules.coming (unboxed ground.now.unstable.sources.now) testing.now change.now }
-    ensures { IfOk result (λ text. text ≡ texts.all_text (known_on ground.now) (lent ground.now.unstable.rows.now) testing.now.rows
-        (rules.rows_after (unboxed ground.now.unstable.sources.now) (lent ground.now.unstable.rows.now) testing.now change.now)) }
+    requires sources { AreBySource (unboxed input.now.unstable.sources.now) }
+    requires group { input.now.coming.now ≡ rules.coming (unboxed input.now.unstable.sources.now) testing.now change.now }
+    ensures { IfOk result (λ text. text ≡ texts.all_text (known_on input.now) (lent input.now.unstable.rows.now) testing.now.rows
+        (rules.rows_after (unboxed input.now.unstable.sources.now) (lent input.now.unstable.rows.now) testing.now change.now)) }
 {
     let there = testing.rows();
     let old = lend_rows(alloc, there)?;
-    broken_over(alloc, ground, testing, &old, change)
+    broken_over(alloc, input, testing, &old, change)
 }
 
 /// The same, where unstable has these rows.
@@ -111,13 +111,13 @@ fn broken_by(
 {
     let sources = basis.facts.sources();
     let unstable = Unstable { sources, rows };
-    let ground = Ground {
+    let input = OfferInput {
         archs: basis.archs,
         unstable,
         excuses: basis.excuses,
         coming: group,
     };
-    broken_there(alloc, &ground, testing, change)
+    broken_there(alloc, &input, testing, change)
 }
 
 /// The rows that a change breaks by which this group comes in.

@@ -1,6 +1,5 @@
 -- What is chosen of kept mail and taken, letter by letter and block by block.
-use Rattle.std.proofs.Common.{◌≡◌, ℕ, ◌+◌, ◌≤◌, Bool, false, List, [], ◌∷◌, ◌++◌, Option, Some, option_to_list, sym, ap, subst, ◌∙◌, refl}
-use Rattle.std.specs.Prelude.{Contains}
+use Rattle.std.proofs.Common.{◌≡◌, ℕ, ◌+◌, ◌≤◌, false, List, [], ◌∷◌, ◌++◌, Option, Some, option_to_list, sym, ap, subst, ◌∙◌, refl}
 use Rattle.std.proofs.lemmas.Bool.{false≢true}
 use Rattle.std.proofs.lemmas.List.Elements.{Contains-append_left, Contains-append_right}
 use Rattle.testing_rules_model.proofs.Sets.{at_front}
@@ -14,7 +13,7 @@ use Rattle.office_core_facts.specs.declared.choice.Choice.{Choice}
 use Rattle.office_core_facts.specs.declared.choice.Choice.TheVariants.{All, UploadsOf}
 use Rattle.office_core_facts.specs.Outcome.{item_at}
 use Rattle.office_core_facts.specs.steps.Chosen.{AreTaken, IsChosen, TookLetters, TookStretch}
-use Rattle.office_core_facts.specs.steps.Taking.{AreLettersOf, Took, TookAgain}
+use Rattle.office_core_facts.specs.steps.Taking.{Took, TookAgain}
 use Rattle.office_core_facts.specs.steps.Walk.{said_by, said_in}
 use Rattle.office_core_facts.proofs.AgainFacts.{again_passed, again_taken}
 use Rattle.office_core_facts.proofs.SaidLetters.{letters_own, said_block, said_in-more, said_in-none, said_in-one}

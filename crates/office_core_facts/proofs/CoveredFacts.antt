@@ -1,5 +1,5 @@
 -- What the kept messages say that numbers cover.
-use Rattle.std.proofs.Common.{◌≡◌, ℕ, ◌≤◌, Bool, cond, length, Option, Some, None, List, IsSome, sym, ap, ◌∙◌}
+use Rattle.std.proofs.Common.{◌≡◌, ℕ, ◌≤◌, Bool, cond, length, Some, None, List, sym, ap, ◌∙◌}
 use Rattle.std.specs.Prelude.{Contains}
 use Rattle.std.specs.FinMap.{get, entries, entries_sorted, get-entries, get-retain_keys, retain_keys}
 use Rattle.testing_rules_model.proofs.Sets.{given_by, gives}

@@ -62,3 +62,13 @@ pub if_known_are : (setup : Lists) (content : Content) (known : KnownFacts) (r :
 if_known_are setup content known (Ok None) same each so = tt
 if_known_are setup content known (Ok (Some left)) same each so = subst (AreKnown setup content) (sym same) (so (subst (λ (k : KnownFacts). HasEach content.kept k.taken.items) same each))
 if_known_are setup content known (Err fault) same each so = tt
+
+-- what is known after three calls that only ask: for the count of the finished runs, for their orders, and for their mail
+pub known_after : (setup : Lists) (content one two three : Content) (count : ℕ) (orders given : List RunOrder) (old new : Option KnownFacts) → one ≡ content → two ≡ one → three ≡ two → given ≡ orders
+    → count ≡ length content.reports → FirstOrders setup one.kept orders → IfSome old (λ (k : KnownFacts). AreKnown setup content k)
+    → (FirstOrders setup two.kept given → count ≡ length two.reports → IfSome old (λ (k : KnownFacts). AreKnown setup two k) → IfSome new (λ (k : KnownFacts). AreKnown setup two k))
+    → IfSome new (λ (k : KnownFacts). AreKnown setup three k)
+known_after setup content one two three count orders given old new a b c lent is first was next =
+    let there : FirstOrders setup content.kept given = subst (FirstOrders setup content.kept) (sym lent) (subst (λ (m : Content). FirstOrders setup m.kept orders) a first) in
+    subst (λ (m : Content). IfSome new (λ (k : KnownFacts). AreKnown setup m k)) (sym (c ∙ b ∙ a))
+    (subst (λ (m : Content). FirstOrders setup m.kept given → count ≡ length m.reports → IfSome old (λ (k : KnownFacts). AreKnown setup m k) → IfSome new (λ (k : KnownFacts). AreKnown setup m k)) (b ∙ a) next there is was)

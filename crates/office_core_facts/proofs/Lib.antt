@@ -7,6 +7,7 @@ pub mod FinishedFacts
 pub mod GivenFacts
 pub mod KeptRows
 pub mod KnownStand
+pub mod LastStand
 pub mod ReportFacts
 pub mod RestoringFacts
 pub mod SaidFacts

@@ -1,6 +1,6 @@
 -- Covers that say the same of each sender cover the same mail, and mail goes on without a gap up to one number alone.
 use Rattle.std.proofs.Common.{◌≡◌, ⊎_elim, ℕ, ◌+◌, ◌<◌, ◌≤◌, Bool, true, false, cond, List, length, Option, Some, None, IsSome, sym, ap, subst, ◌∙◌, refl, arith}
-use Rattle.std.specs.FinMap.{get, entries, get-retain_keys, retain_keys}
+use Rattle.std.specs.FinMap.{get, entries, retain_keys}
 use Rattle.std.specs.List.{filter_map}
 use Rattle.std.proofs.lemmas.Bool.{cases_lt}
 use Rattle.testing_rules_model.specs.Covered.{Covered}

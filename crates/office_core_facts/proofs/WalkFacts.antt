@@ -244,11 +244,6 @@ unfolding said_at
 said_at-text setup kept p text e = ap (λ (o : Option (List ℕ)). option_to_list (item_of setup p o)) e
 
 -- what a text says is what its message says
-pub item_at-read : (setup : Lists) (p : Place) (text : List ℕ) (r : Result Message MailFault) → read setup text ≡ r → option_to_list (item_at setup (p, text)) ≡ option_to_list (item_in_answer p r)
-unfolding item_at
-item_at-read setup p text r is = ap (λ (x : Result Message MailFault). option_to_list (item_in_answer p x)) is
-
--- and so its item
 pub item_is : (setup : Lists) (p : Place) (text : List ℕ) (r : Result Message MailFault) → read setup text ≡ r → item_at setup (p, text) ≡ item_in_answer p r
 unfolding item_at
 item_is setup p text r is = ap (item_in_answer p) is

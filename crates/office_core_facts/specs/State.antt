@@ -15,7 +15,7 @@ use Rattle.office_store_keeper.specs.Content.{Content}
 use Rattle.office_store_keeper.specs.FactSet.{count_in}
 use Rattle.office_store_keeper.specs.Provenance.{AreOwnTexts}
 use Rattle.office_store_keeper.specs.declared.values.Reports.{Reports}
-use Rattle.office_store_keeper.specs.declared.keeping.Keeper.{Ghosts}
+use Rattle.office_store_keeper.specs.declared.keeper.Keeper.{Ghosts}
 use Rattle.office_core_facts.specs.OfficeState.{OfficeState}
 use Rattle.office_core_facts.specs.Outcome.{covered_items, reports_of, reports_to, testing_after}
 use Rattle.testing_rules_model.specs.FactLists.{FactLists}

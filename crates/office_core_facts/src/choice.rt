@@ -1,7 +1,7 @@
 //! Which messages of kept mail are taken.
 #![tactic(auto, using(office_core_orders::proofs::LastFacts::lasting))]
 
-ghost use Rattle.std.specs.Prelude.{◌≡◌, ℕ, Some, IsTrue, IfOk, IfErr, Contains};
+ghost use Rattle.std.specs.Prelude.{◌≡◌, ℕ, Some, IsTrue, IfOk, Contains};
 ghost use Rattle.testing_rules_model.specs.Covered.{CoveredItem, upload_of};
 ghost use Rattle.testing_rules_model.specs.declared.facts.UploadIn.{UploadIn};
 ghost use Rattle.testing_rules_facts.specs.Restored.{said};
@@ -9,9 +9,8 @@ ghost use Rattle.office_mail.specs.Kept.{Place};
 ghost use Rattle.office_core_facts.specs.Outcome.{item_at};
 ghost use Rattle.office_core_facts.specs.steps.Chosen.{IsChosen};
 
-use crate::restoring::item_in;
-use deb_control::Text;
-use office_core_orders::StoreFault;
+use crate::restored::item_in;
+use deb_control::{NoMemory, Text};
 use office_mail::Setup;
 use std::alloc::Global;
 use testing_rules_items::Item;
@@ -23,15 +22,14 @@ pub enum Choice<'a> {
     UploadsOf(&'a [Text]),
 }
 
-/// Whether a text is chosen. It fails only if memory runs out.
+/// Whether a text is chosen.
 pub(crate) fn is_chosen(
     alloc: Global,
     setup: &Setup,
     text: &[u8],
     choice: Choice<'_>,
-) -> Result<bool, StoreFault>
-    ensures chosen { IfOk result (λ chosen. (p : Place) → IsChosen choice.entry (item_at setup.now (p, text.now)) chosen) }
-    ensures no_store { IfErr result (λ fault. fault ≡ StoreFault.NoMemory) }
+) -> Result<bool, NoMemory>
+    ensures { IfOk result (λ chosen. (p : Place) → IsChosen choice.entry (item_at setup.now (p, text.now)) chosen) }
 {
     match choice {
         Choice::All => Ok(true),
@@ -39,10 +37,9 @@ pub(crate) fn is_chosen(
     }
 }
 
-/// Whether a text is an upload of one of these names. It fails only if memory runs out.
-fn is_named(alloc: Global, setup: &Setup, text: &[u8], names: &[Text]) -> Result<bool, StoreFault>
-    ensures named { IfOk result (λ named. (p : Place) (m : CoveredItem) (u : UploadIn) → item_at setup.now (p, text.now) ≡ Some m → upload_of m ≡ Some u → Contains names.now u.source → IsTrue named) }
-    ensures no_store { IfErr result (λ fault. fault ≡ StoreFault.NoMemory) }
+/// Whether a text is an upload of one of these names.
+fn is_named(alloc: Global, setup: &Setup, text: &[u8], names: &[Text]) -> Result<bool, NoMemory>
+    ensures { IfOk result (λ named. (p : Place) (m : CoveredItem) (u : UploadIn) → item_at setup.now (p, text.now) ≡ Some m → upload_of m ≡ Some u → Contains names.now u.source → IsTrue named) }
 {
     let item = item_in(alloc, setup, text)?;
     let named = is_upload_of(&item, names);

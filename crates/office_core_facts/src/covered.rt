@@ -1,7 +1,7 @@
 //! The facts of a run's covered messages: those of the run before, with further messages from the store.
 #![tactic(auto, using(office_core_orders::proofs::LastFacts::lasting))]
 
-ghost use Rattle.std.specs.Prelude.{◌≡◌, ◌≢◌, ℕ, ◌<◌, ◌≤◌, [], Some, IsTrue, IfOk, IfErr, IfSome, OnOk, length, slice_index};
+ghost use Rattle.std.specs.Prelude.{◌≡◌, ◌≢◌, ℕ, ◌<◌, ◌≤◌, [], Some, IsTrue, IfOk, IfSome, OnOk, length, slice_index};
 ghost use Rattle.testing_rules_model.specs.FactLists.{no_facts};
 ghost use Rattle.testing_rules_model.specs.FactRows.{rows_of};
 ghost use Rattle.testing_rules_model.specs.StandsFor.{StandsFor, StandsForNone};
@@ -17,9 +17,10 @@ ghost use Rattle.office_core_facts.specs.steps.Walk.{said_within};
 ghost use Rattle.office_core_facts.specs.steps.Stands.{AreCovered, AreFound, OfFinished, OfNext, StandUpTo};
 
 use crate::choice::Choice;
-use crate::restoring::put_back;
-use crate::taking::cover_of;
+use crate::restored::put_back;
+use crate::taken::cover_of;
 use crate::walk::{Stretch, take_stretch};
+use deb_control::NoMemory;
 use office_core_orders::orders::make_room;
 use office_core_orders::{StoreFault, stored};
 use office_mail::{RunOrder, Setup};
@@ -132,18 +133,17 @@ pub(crate) fn finished_facts<K: Keeper>(
 }
 
 /// What is known from rows of facts that were put back: the facts, if they have all of these rows. Otherwise nothing is
-/// known, and all of the rows have left. It fails only if memory runs out.
+/// known, and all of the rows have left.
 fn known_by(
     alloc: Global,
     setup: &Setup,
     orders: &[RunOrder],
     rows: &[FactRow],
     facts: Facts,
-) -> Result<KnownFacts, StoreFault>
+) -> Result<KnownFacts, NoMemory>
     ensures within { IfOk result (λ known. AreCovered orders.now known.taken.items) }
     ensures found { IfOk result (λ known. (content : Content) → rows.now ≡ rows_in content.facts → HavePutBack (said_all setup.now content.kept) rows.now no_facts facts
         → AreFound setup.now content (OfFinished setup.now content orders.now) known) }
-    ensures no_store { IfErr result (λ fault. fault ≡ StoreFault.NoMemory) }
 {
     if has_all(&facts, rows) {
         Ok(known_at(alloc, setup, orders, facts)?)
@@ -153,18 +153,17 @@ fn known_by(
     }
 }
 
-/// Facts that are known of the runs of these orders. It fails only if memory runs out.
+/// Facts that are known of the runs of these orders.
 pub(crate) fn known_at(
     alloc: Global,
     setup: &Setup,
     orders: &[RunOrder],
     facts: Facts,
-) -> Result<KnownFacts, StoreFault>
+) -> Result<KnownFacts, NoMemory>
     ensures same { IfOk result (λ known. known.facts ≡ facts) }
     ensures by_message { IfOk result (λ known. AreByMessage known.facts.uploads) }
     ensures taken { IfOk result (λ known. (s : ℕ) → s < length setup.now.senders → slice_index known.taken.items s ≡ cover_of orders.now s) }
     ensures within { IfOk result (λ known. AreCovered orders.now known.taken.items) }
-    ensures no_store { IfErr result (λ fault. fault ≡ StoreFault.NoMemory) }
 {
     let _ = facts.uploads();
     match covers(alloc, setup, orders) {
@@ -183,11 +182,10 @@ pub fn has_all(facts: &Facts, rows: &[FactRow]) -> bool
     facts.count() == rows.len() as u128
 }
 
-/// The covers of these orders, sender by sender. It fails only if memory runs out.
-pub fn covers(alloc: Global, setup: &Setup, orders: &[RunOrder]) -> Result<Vec<u32>, StoreFault>
+/// The covers of these orders, sender by sender.
+pub fn covers(alloc: Global, setup: &Setup, orders: &[RunOrder]) -> Result<Vec<u32>, NoMemory>
     ensures covers { IfOk result (λ taken. (s : ℕ) → s < length setup.now.senders → slice_index taken.items s ≡ cover_of orders.now s) }
     ensures within { IfOk result (λ taken. AreCovered orders.now taken.items) }
-    ensures no_store { IfErr result (λ fault. fault ≡ StoreFault.NoMemory) }
 {
     let mut taken = Vec::new(alloc);
     'senders: for sender in 0..setup.senders().len() {
@@ -196,13 +194,12 @@ pub fn covers(alloc: Global, setup: &Setup, orders: &[RunOrder]) -> Result<Vec<u
     Ok(taken)
 }
 
-/// Nothing is known, and all of these rows have left. It fails only if memory runs out.
-pub fn known_without(alloc: Global, rows: &[FactRow]) -> Result<KnownFacts, StoreFault>
+/// Nothing is known, and all of these rows have left.
+pub fn known_without(alloc: Global, rows: &[FactRow]) -> Result<KnownFacts, NoMemory>
     ensures facts { IfOk result (λ known. known.facts ≡ record no_facts { left = rows.now }) }
     ensures none { IfOk result (λ known. StandsForNone known.facts) }
     ensures by_message { IfOk result (λ known. AreByMessage known.facts.uploads) }
     ensures taken { IfOk result (λ known. known.taken.items ≡ []) }
-    ensures no_store { IfErr result (λ fault. fault ≡ StoreFault.NoMemory) }
 {
     let facts = Facts::without(alloc, rows)?;
     let _ = facts.uploads();

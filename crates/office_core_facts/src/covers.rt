@@ -7,9 +7,9 @@ ghost use Rattle.office_core_orders.specs.steps.ReadsStore.{ReadsStore};
 ghost use Rattle.office_core_facts.specs.Seen.{covers_all, release, IsTrialCover};
 ghost use Rattle.office_core_facts.specs.steps.Stands.{OfFinished};
 
-use crate::counting::count_on;
+use crate::counts::count_on;
 use crate::release::release_place;
-use crate::taking::cover_of;
+use crate::taken::cover_of;
 use office_core_orders::StoreFault;
 use office_mail::{RunOrder, Setup};
 use office_store_keeper::Keeper;

@@ -17,7 +17,7 @@ ghost use Rattle.office_core_facts.specs.steps.Walk.{said_within};
 ghost use Rattle.office_core_facts.specs.steps.Stands.{OfFinished, StandUpTo};
 
 use crate::covered::{KnownFacts, finished_facts, has_all, known_at, take_on};
-use crate::restoring::put_back;
+use crate::restored::put_back;
 use office_core_orders::orders::{count_on, read_orders};
 use office_core_orders::{StoreFault, stored};
 use office_mail::{RunOrder, Setup};

@@ -2,14 +2,15 @@
 #![tactic(auto)]
 
 pub mod choice;
-pub mod copying;
-mod counting;
+pub mod copies;
+mod counts;
 pub mod covered;
 pub mod covers;
 pub mod finished;
+pub mod last_run;
 pub mod release;
-pub mod restoring;
-pub mod retaking;
+pub mod restored;
+pub mod retaken;
 pub mod seen;
-pub mod taking;
+pub mod taken;
 pub mod walk;

@@ -11,10 +11,10 @@ ghost use Rattle.office_core_facts.specs.Known.{AreKnown};
 ghost use Rattle.office_core_facts.specs.Seen.{IsSeen, IsUnbroken};
 ghost use Rattle.office_core_facts.specs.steps.Stands.{OfFinished};
 
-use crate::copying::known_to;
-use crate::counting::count_on;
+use crate::copies::known_to;
+use crate::counts::count_on;
 use crate::covered::KnownFacts;
-use crate::taking::cover_of;
+use crate::taken::cover_of;
 use office_core_orders::StoreFault;
 use office_mail::{RunOrder, Setup};
 use office_store_keeper::Keeper;

@@ -1,12 +1,13 @@
 //! A walk over a sender's kept mail, block by block, that adds what its messages say to the facts.
 #![tactic(auto, using(office_core_orders::proofs::LastFacts::lasting))]
 
-ghost use Rattle.std.specs.Prelude.{◌≡◌, ◌+◌, ◌<◌, ◌≤◌, [], ◌∷◌, IfErr, OnOk};
+ghost use Rattle.std.specs.Prelude.{◌≡◌, ◌+◌, ◌<◌, ◌≤◌, [], ◌∷◌, OnOk};
 ghost use Rattle.office_core_orders.specs.steps.ReadsStore.{ReadsStore};
 ghost use Rattle.office_core_facts.specs.steps.Chosen.{TookLetters, TookStretch};
 
 use crate::choice::{Choice, is_chosen};
-use crate::taking::take_text;
+use crate::taken::take_text;
+use deb_control::NoMemory;
 use office_core_orders::stored::{BLOCK, block_end};
 use office_core_orders::{StoreFault, stored};
 use office_mail::Setup;
@@ -22,7 +23,7 @@ pub(crate) struct Stretch {
     pub end: u32,
 }
 
-/// Adds what the chosen messages of a stretch say to the facts.
+/// Adds to the facts what the chosen messages of a stretch say.
 pub(crate) fn take_stretch<K: Keeper>(
     alloc: Global,
     setup: &Setup,
@@ -49,7 +50,7 @@ pub(crate) fn take_stretch<K: Keeper>(
     Ok(())
 }
 
-/// Adds what the chosen messages of a stretch say to the facts, after one look at the store.
+/// Adds to the facts what the chosen messages of a stretch say, which are loaded at once.
 fn take_block<K: Keeper>(
     alloc: Global,
     setup: &Setup,
@@ -64,10 +65,11 @@ fn take_block<K: Keeper>(
     ensures looks { ReadsStore K.Keeper keeper.old keeper.new result }
 {
     let letters = stored::load(keeper, stretch.sender, stretch.done + 1, stretch.end)?;
-    take_letters(alloc, setup, facts, stretch.sender, &letters, choice)
+    take_letters(alloc, setup, facts, stretch.sender, &letters, choice)?;
+    Ok(())
 }
 
-/// Adds what the chosen letters of a sender say to the facts. It fails only if memory runs out.
+/// Adds to the facts what the chosen letters of a sender say.
 pub fn take_letters(
     alloc: Global,
     setup: &Setup,
@@ -75,9 +77,8 @@ pub fn take_letters(
     sender: u32,
     letters: &[Letter],
     choice: Choice<'_>,
-) -> Result<(), StoreFault>
-    ensures took { OnOk result (TookLetters choice.entry setup.now sender letters.now facts.old facts.new) }
-    ensures no_store { IfErr result (λ fault. fault ≡ StoreFault.NoMemory) }
+) -> Result<(), NoMemory>
+    ensures { OnOk result (TookLetters choice.entry setup.now sender letters.now facts.old facts.new) }
 {
     'letters: for letter in letters {
         take_letter(alloc, setup, facts, sender, letter, choice)?;
@@ -85,7 +86,7 @@ pub fn take_letters(
     Ok(())
 }
 
-/// Adds what a letter of a sender says to the facts, if it is chosen. It fails only if memory runs out.
+/// Adds to the facts what a letter of a sender says, if it is chosen.
 fn take_letter(
     alloc: Global,
     setup: &Setup,
@@ -93,9 +94,8 @@ fn take_letter(
     sender: u32,
     letter: &Letter,
     choice: Choice<'_>,
-) -> Result<(), StoreFault>
-    ensures took { OnOk result (TookLetters choice.entry setup.now sender (letter.now ∷ []) facts.old facts.new) }
-    ensures no_store { IfErr result (λ fault. fault ≡ StoreFault.NoMemory) }
+) -> Result<(), NoMemory>
+    ensures { OnOk result (TookLetters choice.entry setup.now sender (letter.now ∷ []) facts.old facts.new) }
 {
     let text = letter.text.as_slice();
     let chosen = is_chosen(alloc, setup, text, choice)?;

@@ -11,16 +11,16 @@ use Rattle.testing_rules_model.specs.Unstable.{built_rows, in_force, is_in_force
 use Rattle.testing_rules_reports.specs.Reports.{row_line, source_line}
 use Rattle.office_mail_setup.specs.Lists.{Lists}
 use Rattle.office_mail.specs.declared.message.RunOrder.{RunOrder}
-use Rattle.office_mail.specs.Runs.{cover, cover_of, orders_to}
+use Rattle.office_mail.specs.Kept.{Kept}
+use Rattle.office_mail.specs.Runs.{cover, cover_of}
 use Rattle.office_store_keeper.specs.Content.{Content}
+use Rattle.office_core_facts.specs.declared.last_run.FinishedRuns.{FinishedRuns}
 use Rattle.office_core_facts.specs.Seen.{IsSeen}
 use Rattle.office_core_facts.specs.State.{IsOffice}
-use Rattle.office_core_why.specs.Hints.{hint_lines, hints_text}
-use Rattle.office_core_why.specs.steps.SeenText.{IsSeenText, text_over}
-use Rattle.office_core_why.specs.UnstableText.{unstable_text}
+use Rattle.office_core_facts.specs.steps.Last.{AreFinished}
+use Rattle.office_core_why.specs.Hints.{IsHintsText, hint_lines, hints_text}
+use Rattle.office_core_why.specs.UnstableText.{IsUnstableText, unstable_text}
 use Rattle.office_core_why.specs.Why.{Unstable}
-use Rattle.office_core_why.specs.declared.seen.Subject.{Subject}
-use Rattle.office_core_why.specs.declared.seen.Subject.TheVariants.{Hints, Unstable as OfUnstable}
 use Rattle.office_core_why.proofs.WhyFacts.{unstable_stands}
 
 pub hints_stand : (setup : Lists) (covers : ℕ → ℕ) (f : FactLists) (s : Covered) (t : Suite) → StandsFor f s t
@@ -34,16 +34,19 @@ pub rows_stand : (archs : List Text) (f : FactLists) (s : Covered) (t : Suite) �
 rows_stand archs f s t stands =
     ap (λ (u : Unstable). flat_map (λ x. source_line (as_source x)) u.sources ++ flat_map (row_line archs) u.rows) (unstable_stands archs f s t stands)
 
--- what is told by what is seen of an office is the text behind its finished runs
-pub seen_told : (subject : Subject) (setup : Lists) (content : Content) (orders : List RunOrder) (finished : ℕ) (s : Covered) (text : Text) → IsOffice setup content → orders ≡ orders_to setup content.kept (length content.reports) → finished ≡ length content.reports
-    → IsSeen setup content.kept s → text ≡ text_over subject setup finished (cover_of orders) s content.testing → IsSeenText subject setup content.kept (length content.reports) text
-seen_told Hints setup content orders finished s text office are is seen told =
+-- the hints that are told by what is seen of an office
+pub hints_told : (setup : Lists) (content : Content) (finished : FinishedRuns) (s : Covered) (text : Text) → IsOffice setup content → AreFinished setup content finished → IsSeen setup content.kept s
+    → text ≡ hints_text setup finished.count (cover_of finished.orders.items) s content.testing → IsHintsText setup content.kept (length content.reports) text
+hints_told setup content finished s text office are seen told =
     let k : ℕ = length content.reports in
     let covered = cover setup content.kept k in
     record {
       seen = s;
       is_seen = seen;
-      is = told ∙ ap (λ (os : List RunOrder). hints_text setup finished (cover_of os) s content.testing) are ∙ ap (λ (n : ℕ). hints_text setup n covered s content.testing) is
+      is = told ∙ ap (λ (os : List RunOrder). hints_text setup finished.count (cover_of os) s content.testing) (are.orders office) ∙ ap (λ (n : ℕ). hints_text setup n covered s content.testing) are.count
           ∙ ap (hints_text setup k covered s) office.testing_is;
     }
-seen_told OfUnstable setup content orders finished s text office are is seen told = record { seen = s; is_seen = seen; is = told ∙ ap (λ (n : ℕ). unstable_text setup.archs n s) is }
+
+-- and unstable
+pub unstable_told : (setup : Lists) (kept : Kept) (k finished : ℕ) (s : Covered) (text : Text) → finished ≡ k → IsSeen setup kept s → text ≡ unstable_text setup.archs finished s → IsUnstableText setup kept k text
+unstable_told setup kept k finished s text is seen told = record { seen = s; is_seen = seen; is = told ∙ ap (λ (n : ℕ). unstable_text setup.archs n s) is }

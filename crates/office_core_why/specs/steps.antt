@@ -1,3 +1,2 @@
 -- What serves proofs alone: no contract of a call that users make rests on it.
-pub mod SeenText
 pub mod Telling

@@ -10,7 +10,7 @@ ghost use Rattle.office_core_why.specs.Hints.{asked_words, hint_front, hint_line
 
 use deb_control::{NoMemory, Text};
 use deb_version::Version;
-use office_core_facts::taking::cover_of;
+use office_core_facts::taken::cover_of;
 use office_core_orders::name_at;
 use office_mail::{RunOrder, Setup};
 use std::alloc::{AllocError, Global};
@@ -19,6 +19,15 @@ use testing_rules_items::{Hint, HintItem};
 use testing_rules_model::{HintIn, UploadIn};
 use testing_rules_refusals::is_in_testing;
 use testing_rules_suites::Testing;
+
+/// What hints are told by: the setup, the orders of the finished runs, the facts, and the testing that the runs left.
+#[derive(Clone, Copy)]
+struct HintContext<'a> {
+    setup: &'a Setup,
+    orders: &'a [RunOrder],
+    facts: &'a Facts,
+    testing: &'a Testing,
+}
 
 /// The state of an unmoved version that a hint names, by unstable's source of the name.
 fn push_state_of(text: &mut String, version: &Version, source: &UploadIn) -> Result<(), AllocError>
@@ -181,34 +190,26 @@ fn hint_front(
 fn push_hint(
     alloc: Global,
     text: &mut String,
-    setup: &Setup,
-    orders: &[RunOrder],
-    facts: &Facts,
-    testing: &Testing,
+    context: &HintContext<'_>,
     hint: &HintIn,
 ) -> Result<(), AllocError>
-    ensures { OnOk result (string_bytes text.new ≡ string_bytes text.old ++ hint_lines setup.now (cover_of orders.now) facts.now.sources testing.now hint.now) }
+    ensures { OnOk result (string_bytes text.new ≡ string_bytes text.old ++ hint_lines context.now.setup.now (cover_of context.now.orders.now) context.now.facts.now.sources context.now.testing.now hint.now) }
 {
-    let front = hint_front(alloc, setup, orders, hint)?;
+    let (facts, testing) = (context.facts, context.testing);
+    let front = hint_front(alloc, context.setup, context.orders, hint)?;
     push_named(text, front.as_str(), facts, testing, &hint.hint)
 }
 
 /// The lines on the hints that no unhint names.
-fn push_hints(
-    alloc: Global,
-    text: &mut String,
-    setup: &Setup,
-    orders: &[RunOrder],
-    facts: &Facts,
-    testing: &Testing,
-) -> Result<(), NoMemory>
-    ensures { OnOk result (string_bytes text.new ≡ string_bytes text.old ++ flat_map (hint_lines setup.now (cover_of orders.now) facts.now.sources testing.now) (filter (unstable.is_in_force facts.now.unhints) facts.now.hints)) }
+fn push_hints(alloc: Global, text: &mut String, context: &HintContext<'_>) -> Result<(), NoMemory>
+    ensures { OnOk result (string_bytes text.new ≡ string_bytes text.old ++ flat_map (hint_lines context.now.setup.now (cover_of context.now.orders.now) context.now.facts.now.sources context.now.testing.now) (filter (unstable.is_in_force context.now.facts.now.unhints) context.now.facts.now.hints)) }
 {
+    let facts = context.facts;
     let unhints = Unhints::of(alloc, facts.unhints())?;
     let hints = facts.hints();
     for hint in hints {
         if is_in_force(&unhints, hint) {
-            push_hint(alloc, text, setup, orders, facts, testing, hint)?;
+            push_hint(alloc, text, context, hint)?;
         }
     }
     Ok(())
@@ -227,6 +228,12 @@ pub(crate) fn hints_over(
     ensures { IfOk result (λ text. (s : Covered) → StandsFor facts.now s testing.now → text ≡ hints_text setup.now finished (cover_of orders.now) s testing.now) }
 {
     let mut text = format!(in alloc; "hints {finished}\n")?;
-    push_hints(alloc, &mut text, setup, orders, facts, testing)?;
+    let context = HintContext {
+        setup,
+        orders,
+        facts,
+        testing,
+    };
+    push_hints(alloc, &mut text, &context)?;
     Ok(Text::from_string(text))
 }

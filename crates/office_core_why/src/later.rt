@@ -9,7 +9,7 @@ ghost use Rattle.testing_rules_model.specs.Moves.{row_cmp, row_key};
 ghost use Rattle.testing_rules_model.specs.Unstable as unstable;
 ghost use Rattle.office_core_why.specs.Later as rules;
 
-use crate::told::Ground;
+use crate::told::AnswerInput;
 use deb_control::Text;
 use std::alloc::AllocError;
 use std::cmp::Ordering;
@@ -61,52 +61,52 @@ fn sender_name(senders: &[Text], place: u32) -> &str
 /// The line on a row, which begins so.
 fn push_words(
     text: &mut String,
-    ground: &Ground<'_>,
+    input: &AnswerInput<'_>,
     front: &str,
     row: &LentRow,
 ) -> Result<(), AllocError>
-    ensures { OnOk result (string_bytes text.new ≡ string_bytes text.old ++ rules.later_words ground.now.senders.now ground.now.archs.now front.now (row_of row.now)) }
+    ensures { OnOk result (string_bytes text.new ≡ string_bytes text.old ++ rules.later_words input.now.senders.now input.now.archs.now front.now (row_of row.now)) }
 {
-    let (arch, name) = (ground.archs.name(row.arch), row.binary.name.as_str());
+    let (arch, name) = (input.archs.name(row.arch), row.binary.name.as_str());
     write!(text, "{front} {arch} {name} {}", row.binary.version.text())?;
-    let (sender, number) = (sender_name(ground.senders, row.sender), row.number);
+    let (sender, number) = (sender_name(input.senders, row.sender), row.number);
     writeln!(text, " by {sender} {number}")
 }
 
 /// The line on a row, by testing's row of its architecture and name.
 fn push_line(
     text: &mut String,
-    ground: &Ground<'_>,
+    input: &AnswerInput<'_>,
     row: &LentRow,
     there: Option<&RowIn>,
 ) -> Result<(), AllocError>
-    ensures { OnOk result (string_bytes text.new ≡ string_bytes text.old ++ rules.later_line ground.now.senders.now ground.now.archs.now (row_of row.now) (option_copied there.entry)) }
+    ensures { OnOk result (string_bytes text.new ≡ string_bytes text.old ++ rules.later_line input.now.senders.now input.now.archs.now (row_of row.now) (option_copied there.entry)) }
 {
     match there {
         Some(old) => {
             if is_same_version(&old.binary.version, &row.binary.version) {
                 Ok(())
             } else {
-                push_words(text, ground, "rebuilt", row)
+                push_words(text, input, "rebuilt", row)
             }
         }
-        None => push_words(text, ground, "not in testing", row),
+        None => push_words(text, input, "not in testing", row),
     }
 }
 
 /// The lines on those of the rows that are current for the source and that testing doesn't have.
 pub(crate) fn push_later(
     text: &mut String,
-    ground: &Ground<'_>,
+    input: &AnswerInput<'_>,
     testing: &Testing,
     rows: &[LentRow],
     upload: &UploadIn,
 ) -> Result<(), AllocError>
-    ensures { OnOk result (string_bytes text.new ≡ string_bytes text.old ++ rules.later_lines ground.now.senders.now ground.now.archs.now testing.now (lent rows.now) upload.now) }
+    ensures { OnOk result (string_bytes text.new ≡ string_bytes text.old ++ rules.later_lines input.now.senders.now input.now.archs.now testing.now (lent rows.now) upload.now) }
 {
     for row in rows {
         if is_current(upload, row) {
-            push_line(text, ground, row, row_there(testing, row))?;
+            push_line(text, input, row, row_there(testing, row))?;
         }
     }
     Ok(())

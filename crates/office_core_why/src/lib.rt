@@ -3,10 +3,10 @@
 #![tactic(auto)]
 
 mod hints;
+mod idle;
 mod later;
 pub mod laws;
 mod seen;
-mod standing;
 mod told;
 mod unstable;
 mod why;

@@ -12,7 +12,7 @@ ghost use Rattle.office_core_why.specs.steps.Telling.{unstable_of};
 ghost use Rattle.office_core_why.specs.Why.{AreOrigins, IsRefused, IsRefusedWhere, IsTold, IsToldBy, IsToldOf, said_in, sender_names};
 
 use crate::WhyText;
-use crate::standing::standing_lines;
+use crate::idle::standing_lines;
 use deb_control::{NoMemory, Text};
 use jiff_core::civil::Date;
 use office_mail::Setup;
@@ -36,7 +36,7 @@ pub(crate) struct AskedSource<'a> {
 
 /// The basis of lines on a source: the names of the senders, the architectures, and the facts of a run.
 #[derive(Clone, Copy)]
-pub(crate) struct Ground<'g> {
+pub(crate) struct AnswerInput<'g> {
     pub senders: &'g [Text],
     pub archs: &'g Archs,
     pub facts: &'g Facts,
@@ -64,30 +64,30 @@ pub(crate) fn no_lines(alloc: Global) -> Text
 /// The origin of the reasons that keep a source of unstable out.
 fn origins_of(
     alloc: Global,
-    ground: &Ground<'_>,
+    input: &AnswerInput<'_>,
     testing: &Testing,
     upload: &UploadIn,
     excuse: Option<&Excuse>,
 ) -> Result<Text, NoMemory>
-    ensures { IfOk result (λ text. IsOriginText ground.now.senders.now ground.now.archs.now (said_in (unstable_of ground.now.archs.now ground.now.facts.now) testing.now upload.now) upload.now (option_copied excuse.entry) text) }
+    ensures { IfOk result (λ text. IsOriginText input.now.senders.now input.now.archs.now (said_in (unstable_of input.now.archs.now input.now.facts.now) testing.now upload.now) upload.now (option_copied excuse.entry) text) }
 {
-    let said = said_of(alloc, ground.archs, ground.facts, testing, upload)?;
-    origin_lines(alloc, ground.senders, ground.archs, &said, upload, excuse)
+    let said = said_of(alloc, input.archs, input.facts, testing, upload)?;
+    origin_lines(alloc, input.senders, input.archs, &said, upload, excuse)
 }
 
 /// The origin of the reasons that keep a source out; no line if unstable doesn't have it.
 fn origins_in(
     alloc: Global,
-    ground: &Ground<'_>,
+    input: &AnswerInput<'_>,
     testing: &Testing,
     excuses: &[Excuse],
     source: &str,
 ) -> Result<Text, NoMemory>
-    ensures { IfOk result (λ text. AreOrigins ground.now.senders.now ground.now.archs.now (unstable_of ground.now.archs.now ground.now.facts.now) testing.now (states.excuse_of excuses.now source.now) (moves.source_in ground.now.facts.now.sources source.now) text) }
+    ensures { IfOk result (λ text. AreOrigins input.now.senders.now input.now.archs.now (unstable_of input.now.archs.now input.now.facts.now) testing.now (states.excuse_of excuses.now source.now) (moves.source_in input.now.facts.now.sources source.now) text) }
 {
     let excuse = excuse_of(excuses, source);
-    match source_in(ground.facts.sources(), source) {
-        Some(upload) => origins_of(alloc, ground, testing, upload, excuse),
+    match source_in(input.facts.sources(), source) {
+        Some(upload) => origins_of(alloc, input, testing, upload, excuse),
         None => Ok(no_lines(alloc)),
     }
 }
@@ -131,18 +131,18 @@ fn refusal_in(
 /// Why a source that waits by an update can't move alone; no line on any other.
 fn refusal_by(
     alloc: Global,
-    ground: &Ground<'_>,
+    input: &AnswerInput<'_>,
     testing: &mut Testing,
     excuses: &[Excuse],
     update: &str,
     source: &str,
 ) -> Result<Text, NoMemory>
-    ensures told { IfOk result (λ text. IsRefusedWhere (lines.waits_in source.now update.now) ground.now.archs.now (unstable_of ground.now.archs.now ground.now.facts.now) testing.old excuses.now (states.excuse_of excuses.now source.now) text) }
+    ensures told { IfOk result (λ text. IsRefusedWhere (lines.waits_in source.now update.now) input.now.archs.now (unstable_of input.now.archs.now input.now.facts.now) testing.old excuses.now (states.excuse_of excuses.now source.now) text) }
     ensures same { testing.new ≡ testing.old }
 {
     let waits = waits_in(alloc, source, update)?;
     if waits {
-        refusal_in(alloc, ground.archs, ground.facts, testing, excuses, source)
+        refusal_in(alloc, input.archs, input.facts, testing, excuses, source)
     } else {
         Ok(no_lines(alloc))
     }
@@ -197,21 +197,21 @@ fn with_reasons(
 /// The text on the source asked about, from the excuses that the run left.
 fn lines_from_excuses(
     alloc: Global,
-    ground: &Ground<'_>,
+    input: &AnswerInput<'_>,
     testing: &mut Testing,
     excuses: &[Excuse],
     asked: &AskedSource<'_>,
     reports: &Reports,
 ) -> Result<WhyText, NoMemory>
-    ensures told { IfOk result (λ told. IsToldBy ground.now.senders.now ground.now.archs.now (unstable_of ground.now.archs.now ground.now.facts.now) testing.old excuses.now asked.now.run reports.now asked.now.source.now told) }
+    ensures told { IfOk result (λ told. IsToldBy input.now.senders.now input.now.archs.now (unstable_of input.now.archs.now input.now.facts.now) testing.old excuses.now asked.now.run reports.now asked.now.source.now told) }
     ensures same { testing.new ≡ testing.old }
 {
     let source = asked.source;
     let update = reports.updates.as_str();
-    let upload = source_in(ground.facts.sources(), source);
-    let standing = standing_lines(alloc, ground, testing, source, upload)?;
-    let origins = origins_in(alloc, ground, testing, excuses, source)?;
-    let refusal = refusal_by(alloc, ground, testing, excuses, update, source)?;
+    let upload = source_in(input.facts.sources(), source);
+    let standing = standing_lines(alloc, input, testing, source, upload)?;
+    let origins = origins_in(alloc, input, testing, excuses, source)?;
+    let refusal = refusal_by(alloc, input, testing, excuses, update, source)?;
     let text = with_reasons(alloc, asked, reports, &standing, &origins, &refusal)?;
     Ok(WhyText {
         text,
@@ -222,16 +222,16 @@ fn lines_from_excuses(
 /// The text after the run on the source asked about, over the messages that the facts represent.
 fn lines_after_run(
     alloc: Global,
-    ground: &Ground<'_>,
+    input: &AnswerInput<'_>,
     testing: &mut Testing,
     asked: &AskedSource<'_>,
     reports: &Reports,
 ) -> Result<WhyText, NoMemory>
-    ensures told { IfOk result (λ told. (s : Covered) → StandsFor ground.now.facts.now s testing.old → IsToldOf ground.now.senders.now ground.now.archs.now s testing.old asked.now.run asked.now.date reports.now asked.now.source.now told) }
+    ensures told { IfOk result (λ told. (s : Covered) → StandsFor input.now.facts.now s testing.old → IsToldOf input.now.senders.now input.now.archs.now s testing.old asked.now.run asked.now.date reports.now asked.now.source.now told) }
     ensures same { testing.new ≡ testing.old }
 {
-    let excuses = excuses(alloc, ground.archs, ground.facts, testing, asked.date)?;
-    lines_from_excuses(alloc, ground, testing, excuses.as_slice(), asked, reports)
+    let excuses = excuses(alloc, input.archs, input.facts, testing, asked.date)?;
+    lines_from_excuses(alloc, input, testing, excuses.as_slice(), asked, reports)
 }
 
 /// The text after the run on the source asked about, from the run's reports and testing, over the messages that the
@@ -249,10 +249,10 @@ pub(crate) fn lines_from_run(
 {
     let senders = sender_names(alloc, setup)?;
     let archs = setup.archs();
-    let ground = Ground {
+    let input = AnswerInput {
         senders: &senders,
         archs,
         facts,
     };
-    lines_after_run(alloc, &ground, testing, asked, reports)
+    lines_after_run(alloc, &input, testing, asked, reports)
 }

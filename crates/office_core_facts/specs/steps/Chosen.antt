@@ -14,7 +14,8 @@ use Rattle.office_core_facts.specs.Known.{AreUnderWay}
 use Rattle.office_core_facts.specs.steps.Taking.{AreLettersOf, TookAgain}
 use Rattle.office_core_facts.specs.steps.Walk.{said_by, said_in}
 
--- whether a message that says this is chosen: if not, it isn't an upload of the names
+-- The test of a message by what it says. It passes if all messages are chosen, or if it uploads a chosen source; others
+-- may pass, too.
 abbrev pub IsChosen : Choice → Option CoveredItem → Bool → Type 0
 IsChosen All says chosen = IsTrue chosen
 IsChosen (UploadsOf names) says chosen = (m : CoveredItem) (u : UploadIn) → says ≡ Some m → upload_of m ≡ Some u → Contains names.now u.source → IsTrue chosen

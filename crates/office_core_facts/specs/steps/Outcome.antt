@@ -1,6 +1,6 @@
 -- Steps beside `specs/Outcome.antt`.
 use Rattle.office_store_keeper.specs.declared.values.Finished.{Finished}
-use Rattle.office_core_facts.specs.Outcome.{Outcome, outcome}
+use Rattle.office_core_facts.specs.Outcome.{Outcome}
 
 -- the outcome in what a finished run leaves
 abbrev pub outcome_in : Finished → Outcome

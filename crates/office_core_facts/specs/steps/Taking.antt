@@ -1,4 +1,4 @@
--- Facts put back from their rows, and uploads taken again.
+-- What facts take from mail: a message, the messages that kept rows name, and uploads once more.
 use Rattle.std.specs.Prelude.{◌≡◌, ◌≤◌, ◌<◌, ◌+◌, ◌⊎◌, ℕ, List, ◌++◌, Option, Some, None, map, option_to_list, slice_index_or, Contains}
 use Rattle.std.specs.FinMap.{get}
 use Rattle.testing_rules_items.specs.Words.{Text}
@@ -41,7 +41,7 @@ pub record IsNear (span : ℕ) (first row : FactRow) : Type 0 where
 abbrev pub AreNear : ℕ → FactRow → List FactRow → ℕ → ℕ → Type 0
 AreNear span first rows start end = (k : ℕ) (d : FactRow) → start ≤ k → k < end → IsNear span first (slice_index_or rows k d)
 
--- The facts took what a message says, if it says something: they stand for it, too, and have its upload.
+-- The facts took one message. If it says something, they stand for that as well, and hold its upload.
 pub record Took (says : Option CoveredItem) (old new : FactLists) : Type 0 where
   pub stand : (s : Covered) (t : Suite) → StandsFor old s t → StandsFor new (option_to_list says ++ s) t
   pub tells : (s : Covered) → Tells old s → Tells new (option_to_list says ++ s)

@@ -1,6 +1,4 @@
-use Rattle.std.proofs.Common.{Result, refl, sym, ap, ◌∙◌}
-use Rattle.office_mail.specs.declared.message.MailFault.{MailFault}
-use Rattle.office_mail.specs.declared.message.Message.{Message}
+use Rattle.std.proofs.Common.{refl, sym, ap, ◌∙◌}
 use Rattle.office_mail.specs.Read.{read}
 use Rattle.office_core_facts.proofs.TakenFacts.{ok_read}
 use Rattle.office_core_breaks.specs.Asked.{change_in}

@@ -11,13 +11,13 @@ loop-arch-preserved c =
     let a = c.args in
     let k = c.loop-arch.arch in
     let old : List ℕ = string_bytes a.text.now in
-    let f : ℕ → List ℕ = broken_text (known_on a.ground.now) (lent a.ground.now.unstable.rows.now) (lent a.old.now) (lent a.new.now) in
+    let f : ℕ → List ℕ = broken_text (known_on a.input.now) (lent a.input.now.unstable.rows.now) (lent a.old.now) (lent a.new.now) in
     c.in_ok-push_arch.ensures ∙ ap (λ xs. xs ++ f k) c.loop-arch.invariant ∙ append_assoc old (flat_map f (range_with_len 0 k)) (f k) ∙ ap (λ xs. old ++ xs) (sym (each_arch f k))
 
 pub returns : goal.returns
 returns c =
     let a = c.args in
     let old : List ℕ = string_bytes a.text.now in
-    let f : ℕ → List ℕ = broken_text (known_on a.ground.now) (lent a.ground.now.unstable.rows.now) (lent a.old.now) (lent a.new.now) in
-    let all : c.loop-arch.arch ≡ length a.ground.now.archs.now = omega arith in
+    let f : ℕ → List ℕ = broken_text (known_on a.input.now) (lent a.input.now.unstable.rows.now) (lent a.old.now) (lent a.new.now) in
+    let all : c.loop-arch.arch ≡ length a.input.now.archs.now = omega arith in
     c.loop-arch.invariant ∙ ap (λ n. old ++ flat_map f (range_with_len 0 n)) all

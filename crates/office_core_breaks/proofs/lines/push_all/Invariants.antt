@@ -8,4 +8,4 @@ use Rattle.office_core_breaks.proofs.lines.push_all.Given as goal
 -- those so far
 abbrev pub invariant-loop-arch : goal.invariant-loop-arch
 invariant-loop-arch l =
-    string_bytes l.text ≡ string_bytes l.fn.text ++ flat_map (broken_text (known_on l.ground) (lent l.ground.unstable.rows.now) (lent l.old) (lent l.new)) (range_with_len 0 l.arch)
+    string_bytes l.text ≡ string_bytes l.fn.text ++ flat_map (broken_text (known_on l.input) (lent l.input.unstable.rows.now) (lent l.old) (lent l.new)) (range_with_len 0 l.arch)

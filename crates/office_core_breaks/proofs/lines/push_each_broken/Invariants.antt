@@ -7,4 +7,4 @@ use Rattle.office_core_breaks.proofs.lines.push_each_broken.Given as goal
 
 -- those so far
 abbrev pub invariant-loop-row : goal.invariant-loop-row
-invariant-loop-row l = string_bytes l.text ≡ string_bytes l.fn.text ++ flat_map (row_text (known_on l.ground) (lent l.ground.unstable.rows.now) l.arch) (lent (take l.row-index l.rows))
+invariant-loop-row l = string_bytes l.text ≡ string_bytes l.fn.text ++ flat_map (row_text (known_on l.input) (lent l.input.unstable.rows.now) l.arch) (lent (take l.row-index l.rows))

@@ -1,5 +1,4 @@
 use Rattle.std.proofs.Common.{◌≡◌, ◌++◌, List, drop, append_assoc, string_bytes, take, ap, ◌∙◌}
-use Rattle.std.proofs.lemmas.Result.{on_ok_weaker}
 use Rattle.std.specs.List.{flat_map}
 use Rattle.testing_rules_items.specs.Words.{Text}
 use Rattle.testing_rules_model.specs.JudgedRows.{lent}
@@ -13,7 +12,7 @@ use Rattle.office_core_breaks.proofs.lines.push_first.Goals as goal
 pub returns : goal.returns
 returns c =
     let a = c.args in
-    let g = a.ground.now in
+    let g = a.input.now in
     let k = known_on g in
     let unstable : List RowIn = lent g.unstable.rows.now in
     let old : Text = string_bytes a.text.now in

@@ -10,4 +10,4 @@ abbrev pub invariant-loop-row : goal.invariant-loop-row
 invariant-loop-row l =
     string_bytes l.text
     ≡ string_bytes l.fn.text
-    ++ flat_map (offer_line (known_on l.ground)) (lent (take l.row-index l.rows))
+    ++ flat_map (offer_line (known_on l.input)) (lent (take l.row-index l.rows))

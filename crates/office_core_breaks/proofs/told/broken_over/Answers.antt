@@ -11,7 +11,7 @@ use Rattle.office_core_breaks.proofs.told.broken_over.Goals as goal
 pub returns : goal.returns
 returns c =
     let a = c.args in
-    let g = a.ground.now in
+    let g = a.input.now in
     let unstable : List RowIn = lent g.unstable.rows.now in
     let after : List RowIn = rows_after (unboxed g.unstable.sources.now) unstable a.testing.now a.change.now in
     let new : lent c.deref.result.now ≡ after = ap lent c.deref.ensures.value ∙ c.in_ok-new.ensures c.requires.rows c.requires.group in

@@ -1,4 +1,4 @@
-use Rattle.std.proofs.Common.{◌≡◌, ◌++◌, ◌∙◌, List, sym, ap, subst}
+use Rattle.std.proofs.Common.{◌≡◌, ◌++◌, ◌∙◌, List, ap, subst}
 use Rattle.testing_rules_items.specs.Words.{Text, is_empty}
 use Rattle.testing_rules_model.specs.Unstable.{built_rows}
 use Rattle.testing_rules_model.specs.declared.facts.UploadIn.{UploadIn}

@@ -18,9 +18,9 @@ letters-preserved c =
     let letter = c.letter-item.result in
     let more : take (i + 1) letters ≡ take i letters ++ letter ∷ [] = take_more letters i letter c.letters-test.true ∙ ap (λ (l : Letter). take i letters ++ l ∷ []) (sym c.letter-item.is) in
     subst (λ (ls : List Letter). TookLetters choice setup sender ls c.args.facts.now c.take_letter.new.facts) (sym more)
-    (letters_then choice setup sender (take i letters) letter c.args.facts.now c.letters.facts c.take_letter.new.facts c.letters.invariant c.in_ok-take_letter.ensures.took)
+    (letters_then choice setup sender (take i letters) letter c.args.facts.now c.letters.facts c.take_letter.new.facts c.letters.invariant c.in_ok-take_letter.ensures)
 
-pub returns-clause-took : goal.returns-clause-took
-returns-clause-took c =
+pub returns : goal.returns
+returns c =
     subst (λ (ls : List Letter). TookLetters c.args.choice c.args.setup.now c.args.sender ls c.args.facts.now c.letters.facts)
     (take_all c.letters.letter-index c.args.letters.now (omega (arith, c.letters-test.false))) c.letters.invariant

@@ -7,4 +7,4 @@ use Rattle.office_core_why.proofs.hints.push_hints.Given as goal
 
 -- the text so far
 abbrev pub invariant-loop-hint : goal.invariant-loop-hint
-invariant-loop-hint l = string_bytes l.text ≡ string_bytes l.fn.text ++ flat_map (hint_lines l.setup (cover_of l.orders) l.facts.sources l.testing) (filter (is_in_force l.facts.unhints) (take l.hint-index l.hints))
+invariant-loop-hint l = string_bytes l.text ≡ string_bytes l.fn.text ++ flat_map (hint_lines l.context.setup.now (cover_of l.context.orders.now) l.context.facts.now.sources l.context.testing.now) (filter (is_in_force l.context.facts.now.unhints) (take l.hint-index l.hints))

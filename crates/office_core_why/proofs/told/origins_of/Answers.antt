@@ -7,5 +7,5 @@ use Rattle.office_core_why.proofs.told.origins_of.Goals as goal
 pub returns : goal.returns
 returns c =
     let a = c.args in
-    let ground = a.ground.now in
-    subst (λ (said : SaidLists). IfOk c.origin_lines.result (λ text. IsOriginText ground.senders.now ground.archs.now said a.upload.now (option_copied a.excuse) text)) c.in_ok-said.ensures c.origin_lines.ensures
+    let input = a.input.now in
+    subst (λ (said : SaidLists). IfOk c.origin_lines.result (λ text. IsOriginText input.senders.now input.archs.now said a.upload.now (option_copied a.excuse) text)) c.in_ok-said.ensures c.origin_lines.ensures
