@@ -9,3 +9,4 @@ pub mod RefusalFacts
 pub mod StuckFacts
 pub mod HintTextFacts
 pub mod KeepFacts
+pub mod SnapshotFacts

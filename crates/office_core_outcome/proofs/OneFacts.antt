@@ -8,7 +8,7 @@ use Rattle.office_mail.specs.Kept.{Kept}
 use Rattle.office_mail.specs.Runs.{latest_day, orders_to}
 use Rattle.office_core_facts.specs.Outcome.{outcome, testing_after}
 use Rattle.office_core_orders.specs.Ready.{HasPlaces}
-use Rattle.testing_rules_reports.specs.declared.telling.TrialReport.{TrialReport}
+use Rattle.testing_rules_reports.specs.declared.hint_lines.TrialReport.{TrialReport}
 use Rattle.office_core_outcome.specs.declared.TrialOptions.{TrialOptions}
 use Rattle.office_core_outcome.specs.declared.Trial.{Trial}
 use Rattle.office_core_facts.specs.Seen.{items_within, release}

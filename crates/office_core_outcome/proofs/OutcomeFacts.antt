@@ -5,10 +5,10 @@ use Rattle.std.specs.List.{filter_map}
 use Rattle.jiff_core.specs.declared.civil.date.Date.{Date}
 use Rattle.testing_rules_model.specs.declared.excuse.Excuse.{Excuse}
 use Rattle.testing_rules_model.specs.declared.update.Decision.{Decision}
-use Rattle.testing_rules_laws.specs.Covered.{Covered}
-use Rattle.testing_rules_laws.specs.Suite.{Suite}
-use Rattle.testing_rules_laws.specs.Excuses.{excuses_of}
-use Rattle.testing_rules_laws.specs.Updates.{update_of, IsUpdate}
+use Rattle.testing_rules_model.specs.Covered.{Covered}
+use Rattle.testing_rules_model.specs.Suite.{Suite}
+use Rattle.testing_rules_model.specs.Excuses.{excuses_of}
+use Rattle.testing_rules_model.specs.Updates.{update_of, IsUpdate}
 use Rattle.office_mail.specs.declared.message.RunOrder.{RunOrder}
 use Rattle.office_mail.specs.Lists.{Lists}
 use Rattle.office_mail.specs.Kept.{Kept, Within}

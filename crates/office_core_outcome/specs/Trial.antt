@@ -12,8 +12,8 @@ use Rattle.office_mail.specs.Runs.{later, latest_day, orders_to}
 use Rattle.office_core_orders.specs.Replies.{name_at}
 use Rattle.office_core_facts.specs.Outcome.{Outcome, outcome, testing_after, testing_text}
 use Rattle.office_core_facts.specs.Seen.{AreTrialCovers, items_within, release}
-use Rattle.testing_rules_reports.specs.declared.telling.Decided.{Decided}
-use Rattle.testing_rules_reports.specs.declared.telling.TrialReport.{TrialReport}
+use Rattle.testing_rules_reports.specs.declared.hint_lines.Decided.{Decided}
+use Rattle.testing_rules_reports.specs.declared.hint_lines.TrialReport.{TrialReport}
 use Rattle.testing_rules_reports.specs.Tried.{tried_text}
 use Rattle.office_core_outcome.specs.declared.TrialOptions.{TrialOptions}
 use Rattle.office_core_outcome.specs.declared.Trial.{Trial}

@@ -3,3 +3,4 @@ pub mod RuleSteps
 pub mod RefusalSteps
 pub mod TrialSteps
 pub mod Settled
+pub mod Snapshot

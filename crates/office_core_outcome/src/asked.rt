@@ -3,7 +3,7 @@
 use deb_control::Text;
 use jiff_core::civil::Date;
 use office_mail::Setup;
-use testing_rules_laws::Facts;
+use testing_rules_facts::Facts;
 
 /// The basis of a run, the number after which its hints continue, and the sources to be freed, if any is named.
 #[derive(Clone, Copy)]

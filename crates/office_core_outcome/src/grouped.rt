@@ -8,7 +8,7 @@ ghost use Rattle.office_core_outcome.specs.Proposal.{are_done, easy_text, is_don
 use deb_control::{NoMemory, Text};
 use office_mail::MAX_NUMBER;
 use std::alloc::{AllocError, Global};
-use testing_rules_laws::{Decision, Moved};
+use testing_rules_model::{Decision, Moved};
 
 /// Adds a source at its version.
 fn push_moved(text: &mut String, moved: &Moved) -> Result<(), AllocError>

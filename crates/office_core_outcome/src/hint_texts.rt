@@ -1,36 +1,36 @@
 //! What a run makes of one hint, in lines.
 #![tactic(auto, using(office_core_orders::proofs::LastFacts::lasting))]
 
-ghost use Rattle.std.specs.Prelude.{is_none, is_ok, ◌≡◌, ◌+◌, ◌++◌, [], IfOk, IfSome, OnOk, Some, filter, length, option_copied, string_bytes};
+ghost use Rattle.std.specs.Prelude.{is_none, ◌≡◌, ◌+◌, ◌++◌, ℕ, [], IfOk, IfSome, OnOk, filter, length, option_copied, string_bytes};
 ghost use Rattle.std.specs.List.{flat_map};
-ghost use Rattle.testing_rules_laws.specs.Covered.{Covered};
-ghost use Rattle.testing_rules_laws.specs.StandsFor.{StandsFor};
-ghost use Rattle.testing_rules_laws.specs.Suite.{Suite};
+ghost use Rattle.testing_rules_model.specs.Covered.{Covered};
+ghost use Rattle.testing_rules_model.specs.StandsFor.{StandsFor};
+ghost use Rattle.testing_rules_model.specs.Suite.{Suite};
 ghost use Rattle.testing_rules_reports.specs.Changes.{behind};
 ghost use Rattle.testing_rules_reports.specs.steps.LentLines.{lent_lines};
-ghost use Rattle.office_mail.specs.Runs.{latest_day, order_at};
-ghost use Rattle.office_core_orders.specs.Counted.{Counted};
-ghost use Rattle.office_core_orders.specs.steps.Ready.{FirstOrders};
+ghost use Rattle.office_mail.specs.Kept.{Kept};
+ghost use Rattle.office_mail.specs.Runs.{order_at};
 ghost use Rattle.office_core_orders.specs.steps.ReadsStore.{ReadsStore};
-ghost use Rattle.office_core_orders.specs.StaysTrusted.{StaysTrusted};
 ghost use Rattle.office_core_facts.specs.Known.{AreKnown};
 ghost use Rattle.office_core_facts.specs.State.{IsOffice};
 ghost use Rattle.office_core_outcome.specs.HintTold.{IsHintText, IsHintTold, begins_with_either, front, hint_text, lines_on_hint, lines_or_standing, standing_of};
 ghost use Rattle.office_core_outcome.specs.steps.RuleSteps.{IsRuled};
+ghost use Rattle.office_core_outcome.specs.steps.Snapshot.{IsOrderedRun};
 
 use crate::HintText;
+use crate::hint_trials::keep_suites;
 use crate::proposal::push_line;
+use crate::refused_hints::{Judging, told_of_hint};
 use crate::refused_items::hint_at;
-use crate::refusing::{Judging, told_of_hint};
 use crate::rules::{Ruled, judge_run};
-use crate::settling::keep_suites;
+use crate::snapshot::{Snapshot, ordered_snapshot};
 use deb_control::{NoMemory, Text};
 use jiff_core::civil::Date;
-use office_core_facts::covered::{KnownFacts, facts};
+use office_core_facts::covered::KnownFacts;
+use office_core_facts::last_run::give_back;
 use office_core_facts::release::release_place;
-use office_core_orders::orders::read_orders;
-use office_core_orders::{StoreFault, name_at, stored};
-use office_mail::{RunOrder, Setup, latest_day};
+use office_core_orders::{StoreFault, name_at};
+use office_mail::Setup;
 use office_store_keeper::Keeper;
 use std::alloc::{AllocError, Global};
 use testing_rules_facts::{Facts, Unhints, is_in_force};
@@ -193,40 +193,28 @@ fn told_over(
     told_by(alloc, setup, facts, asked, testing, &ruled)
 }
 
-/// The same over the store's testing, with facts that go with it.
-fn told_kept<K: Keeper>(
+/// What a run makes of the hint with this number. Also the testing before the run, with what speeds it.
+fn told_of(
     alloc: Global,
     setup: &Setup,
-    keeper: &mut K,
-    facts: &Facts,
-    asked: AskedHint,
-) -> Result<HintText, StoreFault>
-    ensures told { K.is_trusted keeper.new → K.is_legible keeper.old
-        → IfOk result (λ told. (s : Covered) → StandsFor facts.now s (K.content keeper.old).testing → IsHintText setup.now asked.run asked.date s (K.content keeper.old).testing asked.number told) }
-    ensures looks { ReadsStore K.Keeper keeper.old keeper.new result }
+    snapshot: Snapshot,
+    number: u32,
+) -> Result<(Testing, HintText), NoMemory>
+    ensures before { IfOk result (λ o. o.0 ≡ snapshot.testing) }
+    ensures told { IfOk result (λ o. (kept : Kept) (k : ℕ) → IsOrderedRun setup.now kept k snapshot → IsHintTold setup.now kept k number o.1) }
 {
-    let mut testing = stored::next_testing(keeper)?;
-    let told = told_over(alloc, setup, facts, asked, &mut testing)?;
-    keeper.give_back(testing);
-    Ok(told)
-}
-
-/// What a run makes of a hint, given the orders of that run and of those before it.
-fn told_next<K: Keeper>(
-    alloc: Global,
-    setup: &Setup,
-    keeper: &mut K,
-    before: Option<KnownFacts>,
-    orders: &[RunOrder],
-    asked: AskedHint,
-) -> Result<HintText, StoreFault>
-    requires known { K.is_trusted keeper.old → IfSome before (λ known. AreKnown setup.now (K.content keeper.old) known) }
-    ensures told { K.is_trusted keeper.new → K.is_legible keeper.old → IsOffice setup.now (K.content keeper.old) → FirstOrders setup.now (K.content keeper.old).kept orders.now → length orders.now ≡ length (K.content keeper.old).reports + 1
-        → asked.run ≡ length orders.now → latest_day orders.now ≡ Some asked.date → IfOk result (IsHintTold setup.now (K.content keeper.old).kept (length (K.content keeper.old).reports) asked.number) }
-    ensures looks { ReadsStore K.Keeper keeper.old keeper.new result }
-{
-    let known = facts(alloc, setup, keeper, before, orders)?;
-    told_kept(alloc, setup, keeper, &known.facts, asked)
+    let Snapshot {
+        run,
+        date,
+        behind: _,
+        facts,
+        testing,
+    } = snapshot;
+    let mut before = testing;
+    let asked = AskedHint { run, date, number };
+    let told = told_over(alloc, setup, &facts, asked, &mut before)?;
+    drop(facts);
+    Ok((before, told))
 }
 
 /// What the next run of an office with this store makes of the hint of this number, over all kept mail that the run
@@ -246,24 +234,13 @@ pub fn hint_told<K: Keeper>(
         → IfOk result (λ found. IfSome found (IsHintTold setup.now (K.content keeper.old).kept (length (K.content keeper.old).reports) number)) }
     ensures ordered { K.is_trusted keeper.new → IsOffice setup.now (K.content keeper.old)
         → IfOk result (λ found. is_none found ≡ is_none (order_at setup.now (K.content keeper.old).kept (length (K.content keeper.old).reports + 1))) }
-    ensures same { K.is_trusted keeper.new → K.content keeper.new ≡ K.content keeper.old }
-    ensures setup { K.setup keeper.new ≡ K.setup keeper.old }
-    ensures before { K.is_trusted keeper.new → K.is_trusted keeper.old }
-    ensures legible { K.is_trusted keeper.new → K.is_legible keeper.old → K.is_legible keeper.new }
-    ensures lasts { StaysTrusted K.Keeper keeper.old keeper.new (is_ok result) }
-    ensures counted { Counted (K.refusals keeper.old) (K.refusals keeper.new) result }
+    ensures looks { ReadsStore K.Keeper keeper.old keeper.new result }
 {
-    let finished = stored::finished(keeper)?;
-    let run = finished.saturating_add(1);
-    let mut orders = Vec::new(alloc);
-    read_orders(alloc, setup, keeper, &mut orders, run)?;
-    if orders.len() != run as usize {
-        return Ok(None);
-    }
-    let Some(date) = latest_day(&orders) else {
+    let found = ordered_snapshot(alloc, setup, keeper, before)?;
+    let Some(snapshot) = found else {
         return Ok(None);
     };
-    let asked = AskedHint { run, date, number };
-    let told = told_next(alloc, setup, keeper, before, &orders, asked)?;
+    let (testing, told) = told_of(alloc, setup, snapshot, number)?;
+    give_back(keeper, testing);
     Ok(Some(told))
 }

@@ -17,9 +17,9 @@ ghost use Rattle.office_core_outcome.specs.declared.Trial.{Trial};
 ghost use Rattle.office_core_outcome.specs.declared.Trial.TheVariants.{Told};
 ghost use Rattle.testing_rules_reports.specs.Reports.{update_text};
 
-/// A tried hint is a promise: where messages that say the hints have come under their numbers, and the order of the next
-/// run has the date of the trial, and covers what it did and the hints, that run decides what the trial was told of it.
-/// Other fields of these messages, and other mail that has come, which the order doesn't cover, change nothing.
+/// A tried hint is a promise: where messages that say the hints have come under their numbers, and the order of the
+/// next run has the date of the trial, and covers what it did and the hints, that run decides what the trial was told
+/// of it. Other fields of these messages, and other mail that has come, which the order doesn't cover, change nothing.
 pub fn try_is_next_run()
     ensures next { (setup : Lists) (kept late : Kept) (k : ℕ) (all : Bool) (day : Option Date) (date : Date) (covers : ℕ → ℕ) (hints : List (List ℕ)) → IsReady setup kept k → AreTrialCovers setup kept k all covers
         → trial_date (latest_day (orders_to setup kept k)) day ≡ Some date → HasPlaces setup late → HasCome setup kept late k date covers hints

@@ -3,34 +3,36 @@
 #![tactic(auto)]
 
 mod asked;
-mod deciding;
+mod decisions;
 mod grouped;
 mod hint_texts;
+mod hint_trials;
 mod hints;
-mod keeping;
+mod kept_moves;
 pub mod laws;
 mod no_candidate;
 mod proposal;
-mod proposing;
+mod proposal_search;
+mod refused_hints;
 mod refused_items;
-mod refusing;
 mod rules;
 mod search_notes;
-mod settling;
+mod snapshot;
 mod stuck;
-mod trying;
+mod trials;
 
 use deb_control::Text;
+pub use decisions::testing_text;
 pub use hint_texts::hint_told;
 use jiff_core::civil::Date;
 pub use office_core_facts::release::release_place;
 use office_mail::MailFault;
 pub use proposal::{AskedSource, Proposal, SearchNotes, SourceEnd, proposal_text};
-pub use proposing::propose;
+pub use proposal_search::propose;
 pub use rules::{RunOutcome, run_beside};
 pub use testing_rules_groups::{DeadSource, LongGroup};
 pub use testing_rules_reports::{Decided, TrialReport, has_changes};
-pub use trying::{trial_text, try_hints};
+pub use trials::{trial_text, try_hints};
 
 /// The terms of a trial: a day, if one is given, and whether it covers all mail of all senders that is kept without a
 /// gap.

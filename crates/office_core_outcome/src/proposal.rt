@@ -52,8 +52,8 @@ pub struct SearchNotes {
 }
 
 /// The hints proposed for the next run, numbered from `first`. `freed` are the requested sources that the run with the
-/// hints moves. `answers` has for each requested source its line if it isn't a candidate; else the blocks of lines which
-/// show that no group frees it, if there are any.
+/// hints moves. `answers` has for each requested source its line if it isn't a candidate; else the blocks of lines
+/// which show that no group frees it, if there are any.
 #[derive(Drop)]
 pub struct Proposal {
     pub run: u32,

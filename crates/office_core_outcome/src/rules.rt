@@ -3,12 +3,12 @@ ghost use Rattle.std.specs.Prelude.{◌≡◌, IfOk};
 ghost use Rattle.office_core_facts.specs.Outcome.{Outcome, outcome};
 ghost use Rattle.office_core_outcome.specs.Proposal.{decisions_by};
 ghost use Rattle.office_core_outcome.specs.steps.RuleSteps.{IsRuled, outcome_left};
-ghost use Rattle.testing_rules_laws.specs.Covered.{Covered};
-ghost use Rattle.testing_rules_laws.specs.Reports.{excuses_text, update_text};
-ghost use Rattle.testing_rules_laws.specs.StandsFor.{StandsFor};
+ghost use Rattle.testing_rules_model.specs.Covered.{Covered};
+ghost use Rattle.testing_rules_reports.specs.Reports.{excuses_text, update_text};
+ghost use Rattle.testing_rules_model.specs.StandsFor.{StandsFor};
 ghost use Rattle.testing_rules_model.specs.Tells.{AreSaidBy};
-ghost use Rattle.testing_rules_laws.specs.Watched.{AllWatchedWork};
-ghost use Rattle.testing_rules_laws.specs.Provenance.{IsGivenBy};
+ghost use Rattle.testing_rules_model.specs.Watched.{AllWatchedWork};
+ghost use Rattle.testing_rules_model.specs.Provenance.{IsGivenBy};
 
 use deb_control::{NoMemory, Text};
 use jiff_core::civil::Date;
@@ -16,8 +16,12 @@ use office_mail::Setup;
 use office_store_keeper::Reports;
 use std::alloc::Global;
 use testing_rules_excuses::excuses;
-use testing_rules_laws::{Archs, Excuses, Facts, Testing, Update, migrate};
+use testing_rules_facts::Facts;
+use testing_rules_items::Archs;
+use testing_rules_model::{Excuses, Update};
+use testing_rules_moves::migrate;
 use testing_rules_reports::{excuses_text, update_text};
+use testing_rules_suites::Testing;
 
 /// What a run decides: testing after it, and the two reports.
 #[derive(Drop)]

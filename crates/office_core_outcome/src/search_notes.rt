@@ -5,7 +5,7 @@ use crate::proposal::{AskedSource, SearchNotes, SourceEnd};
 use deb_control::{NoMemory, Text};
 use std::alloc::Global;
 use testing_rules_groups::{DeadSource, Found};
-use testing_rules_laws::{Decision, Moved};
+use testing_rules_model::{Decision, Moved};
 
 /// The groups that the search found, without their hints.
 #[derive(Drop)]

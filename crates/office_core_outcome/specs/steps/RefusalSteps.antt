@@ -2,7 +2,7 @@
 use Rattle.std.specs.Prelude.{◌≡◌, ℕ, Bool, true, false, List, []}
 use Rattle.testing_rules_model.specs.Unstable.{built_rows}
 use Rattle.testing_rules_model.specs.declared.update.Decision.{Decision}
-use Rattle.office_core_outcome.specs.declared.refusing.Judging.{Judging}
+use Rattle.office_core_outcome.specs.declared.refused_hints.Judging.{Judging}
 use Rattle.office_core_outcome.specs.WhyRefused.{IsToldOf, Judged}
 
 abbrev pub judged_in : Judging → Judged

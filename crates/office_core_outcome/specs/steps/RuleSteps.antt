@@ -7,7 +7,7 @@ use Rattle.testing_rules_model.specs.Suite.{Suite}
 use Rattle.testing_rules_model.specs.Updates.{IsUpdate}
 use Rattle.office_mail.specs.Lists.{Lists}
 use Rattle.office_core_facts.specs.Outcome.{Outcome, outcome}
-use Rattle.office_core_outcome.specs.declared.deciding.ToldRun.{ToldRun}
+use Rattle.office_core_outcome.specs.declared.decisions.ToldRun.{ToldRun}
 use Rattle.office_core_outcome.specs.declared.rules.Ruled.{Ruled}
 use Rattle.office_core_outcome.specs.declared.rules.RunOutcome.{RunOutcome}
 use Rattle.office_core_outcome.specs.Trial.{decided, judged_by}

@@ -1,5 +1,5 @@
 -- Hints of which the run does each, and what is told of the sources that were asked for.
-use Rattle.std.specs.Prelude.{◌≡◌, ℕ, ◌+◌, true, false, List, [], ◌∷◌, map, Option, None}
+use Rattle.std.specs.Prelude.{◌≡◌, ℕ, true, false, List, [], ◌∷◌, map, Option, None}
 use Rattle.std.specs.List.{AllZip, list_any}
 use Rattle.jiff_core.specs.declared.civil.date.Date.{Date}
 use Rattle.testing_rules_model.specs.Covered.{Covered}
@@ -14,12 +14,10 @@ use Rattle.testing_rules_items.specs.Words.{Text}
 use Rattle.office_core_outcome.specs.NoCandidate.{no_candidate_line}
 use Rattle.testing_rules_refusals.specs.Stuck.{IsStuckText}
 use Rattle.office_mail.specs.Lists.{Lists}
-use Rattle.office_mail.specs.Kept.{Kept}
-use Rattle.office_core_facts.specs.Outcome.{testing_after}
-use Rattle.office_core_facts.specs.Seen.{items_within, release}
+use Rattle.office_core_facts.specs.Seen.{release}
 use Rattle.office_core_outcome.specs.Hints.{first_refused, hint_letters, with_letters}
-use Rattle.office_core_outcome.specs.Proposal.{AreAnswers, IsAnswer, KeepsMoves, are_done, decisions_by, freed_by, is_moved, tried_decisions}
-use Rattle.office_core_outcome.specs.declared.proposal.Proposal.{Proposal}
+use Rattle.office_core_outcome.specs.Proposal.{AreAnswers, IsAnswer, KeepsMoves, are_done, decisions_by, is_moved}
+use Rattle.office_core_outcome.specs.declared.asked.Asked.{Asked}
 
 -- the names of the sources that the decision moves
 abbrev pub names_in : Decision → List Text
@@ -43,6 +41,14 @@ pub record IsSettled (setup : Lists) (date : Date) (number : ℕ) (facts : FactL
 abbrev pub KeepsRun : Lists → Date → FactLists → Suite → List Decision → Type 0
 KeepsRun setup date facts t ds = (s : Covered) → StandsFor facts s t → KeepsMoves (decisions_by setup date s t) ds
 
+-- hints and decisions are settled for what a search is asked
+abbrev pub IsSettledFor : Asked → Suite → List (List ℕ) → List Decision → Type 0
+IsSettledFor asked t hints ds = IsSettled asked.setup.now asked.date asked.number asked.facts.now t hints ds
+
+-- decisions move all that the run moves without hints, by what a search is asked
+abbrev pub KeepsRunFor : Asked → Suite → List Decision → Type 0
+KeepsRunFor asked t ds = KeepsRun asked.setup.now asked.date asked.facts.now t ds
+
 -- by facts, excuses, and testing behind the hints that stand, a text shows that no group frees the source, which these decisions don't move
 abbrev pub IsStuckBehind : List Text → FactLists → List Excuse → Suite → List Decision → Text → Text → Type 0
 IsStuckBehind archs facts excuses behind ds source text =
@@ -61,13 +67,6 @@ AreAnswersBehind archs facts excuses behind ds sources texts = AllZip (IsAnswerB
 abbrev pub AreAnswersOver : List Text → Date → FactLists → Suite → List Decision → List Text → List (Option Text) → Type 0
 AreAnswersOver archs date facts t ds sources texts = (s : Covered) → StandsFor facts s t → AreAnswers archs date s t ds sources texts
 
--- a proposal over these covers, with a given date
-pub record IsProposedOver (setup : Lists) (kept : Kept) (k : ℕ) (date : Date) (covers : ℕ → ℕ) (sources : List Text) (p : Proposal) : Type 0 where
-  pub dated : p.date ≡ date
-  pub run : p.run ≡ k + 1
-  pub first : p.first ≡ covers (release setup) + 1
-  pub taken : first_refused setup (covers (release setup)) 0 p.hints.items ≡ None
-  pub done : are_done (covers (release setup)) p.hints.items (tried_decisions setup kept k date covers p.hints.items) ≡ true
-  pub keeps : KeepsMoves (decisions_by setup date (items_within setup kept covers) (testing_after setup kept k)) (tried_decisions setup kept k date covers p.hints.items)
-  pub freed : p.freed.items ≡ freed_by (tried_decisions setup kept k date covers p.hints.items) sources
-  pub answers : AreAnswers setup.archs date (items_within setup kept covers) (testing_after setup kept k) (tried_decisions setup kept k date covers p.hints.items) sources p.answers.items
+-- this is told of the sources that a search is asked for
+abbrev pub AreAnswersFor : Asked → Suite → List Decision → List (Option Text) → Type 0
+AreAnswersFor asked t ds texts = AreAnswersOver asked.setup.now.archs asked.date asked.facts.now t ds asked.sources.now texts

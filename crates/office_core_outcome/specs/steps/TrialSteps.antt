@@ -4,11 +4,11 @@ use Rattle.std.specs.Option.{option_map_or}
 use Rattle.jiff_core.specs.declared.civil.date.Date.{Date}
 use Rattle.office_mail.specs.Lists.{Lists}
 use Rattle.office_mail.specs.Kept.{Kept}
-use Rattle.testing_rules_reports.specs.declared.telling.TrialReport.{TrialReport}
+use Rattle.testing_rules_reports.specs.declared.hint_lines.TrialReport.{TrialReport}
 use Rattle.office_core_outcome.specs.declared.RefusedHint.{RefusedHint}
 use Rattle.office_core_outcome.specs.declared.Trial.{Trial}
 use Rattle.office_core_outcome.specs.declared.Trial.TheVariants.{Told, Refused}
-use Rattle.office_core_outcome.specs.Trial.{IsReasoned, judged, told_on, tried}
+use Rattle.office_core_outcome.specs.Trial.{judged, tried}
 use Rattle.office_core_outcome.specs.WhyRefused.{AreReasons}
 
 -- the first refused hint, or else what the hints would change, and why some of them are refused
@@ -19,9 +19,3 @@ unless_refused refused t reasons = option_map_or Refused refused (Told t reasons
 pub record IsTried (setup : Lists) (kept : Kept) (k : ℕ) (date : Date) (covers : ℕ → ℕ) (hints : List (List ℕ)) (report : TrialReport) (reasons : List ℕ) : Type 0 where
   pub report_is : report ≡ tried setup kept k date covers hints
   pub reasons_are : AreReasons (judged setup kept k date covers hints) reasons
-
--- what a trial over these covers reports
-pub record IsTrialOver (setup : Lists) (kept : Kept) (k : ℕ) (date : Option Date) (covers : ℕ → ℕ) (hints : List (List ℕ)) (trial : Trial) : Type 0 where
-  pub reasons : List ℕ
-  pub told : trial ≡ told_on setup kept k date covers hints reasons
-  pub reasoned : IsReasoned setup kept k covers hints trial

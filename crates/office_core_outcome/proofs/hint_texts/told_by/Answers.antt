@@ -1,7 +1,7 @@
 use Rattle.std.proofs.Common.{◌≡◌, ℕ, List, filter, is_some, option_copied, sym, ap, subst, ◌∙◌}
-use Rattle.testing_rules_laws.specs.Excuses.{excuses_of}
-use Rattle.testing_rules_laws.specs.Reports.{update_text}
-use Rattle.testing_rules_laws.specs.Suite.{Suite}
+use Rattle.testing_rules_model.specs.Excuses.{excuses_of}
+use Rattle.testing_rules_reports.specs.Reports.{update_text}
+use Rattle.testing_rules_model.specs.Suite.{Suite}
 use Rattle.testing_rules_model.specs.declared.excuse.Excuse.{Excuse}
 use Rattle.testing_rules_model.specs.declared.facts.HintIn.{HintIn}
 use Rattle.testing_rules_model.specs.declared.facts.UnhintIn.{UnhintIn}

@@ -1,8 +1,8 @@
 use Rattle.std.proofs.Common.{◌≡◌, IfOk, sym, subst, ◌∙◌}
 use Rattle.std.proofs.lemmas.Result.{IfOk-weaker}
-use Rattle.testing_rules_laws.specs.Covered.{Covered}
-use Rattle.testing_rules_laws.specs.StandsFor.{StandsFor}
-use Rattle.testing_rules_laws.specs.Suite.{Suite}
+use Rattle.testing_rules_model.specs.Covered.{Covered}
+use Rattle.testing_rules_model.specs.StandsFor.{StandsFor}
+use Rattle.testing_rules_model.specs.Suite.{Suite}
 use Rattle.office_core_outcome.specs.HintTold.{IsHintText}
 use Rattle.office_core_outcome.specs.steps.RuleSteps.{IsRuled}
 use Rattle.office_core_outcome.proofs.hint_texts.told_over.Goals as goal

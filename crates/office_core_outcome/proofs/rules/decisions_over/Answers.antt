@@ -1,6 +1,6 @@
 use Rattle.std.proofs.Common.{ℕ, List, ap, ◌∙◌}
-use Rattle.testing_rules_laws.specs.Excuses.{excuses_of}
-use Rattle.testing_rules_laws.specs.Updates.{IsUpdate, update_of}
+use Rattle.testing_rules_model.specs.Excuses.{excuses_of}
+use Rattle.testing_rules_model.specs.Updates.{IsUpdate, update_of}
 use Rattle.testing_rules_model.specs.declared.excuse.Excuse.{Excuse}
 use Rattle.office_core_outcome.proofs.rules.decisions_over.Goals as goal
 

@@ -1,6 +1,6 @@
 use Rattle.std.proofs.Common.{ℕ, List, ap, subst, ◌∙◌}
-use Rattle.testing_rules_laws.specs.Excuses.{excuses_of}
-use Rattle.testing_rules_laws.specs.Updates.{IsUpdate}
+use Rattle.testing_rules_model.specs.Excuses.{excuses_of}
+use Rattle.testing_rules_model.specs.Updates.{IsUpdate}
 use Rattle.office_core_outcome.proofs.rules.judge_run.Goals as goal
 
 pub returns-in-Ok : goal.returns-in-Ok

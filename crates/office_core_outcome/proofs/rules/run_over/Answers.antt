@@ -1,12 +1,12 @@
 use Rattle.std.proofs.Common.{◌≡◌, ◌≤◌, ℕ, List, Result, Ok, Err, IfOk, length, sym, ap, subst, ◌∙◌}
-use Rattle.testing_rules_laws.specs.Covered.{Covered}
-use Rattle.testing_rules_laws.specs.StandsFor.{StandsFor}
-use Rattle.testing_rules_laws.specs.Suite.{Suite}
+use Rattle.testing_rules_model.specs.Covered.{Covered}
+use Rattle.testing_rules_model.specs.StandsFor.{StandsFor}
+use Rattle.testing_rules_model.specs.Suite.{Suite}
 use Rattle.testing_rules_model.specs.Tells.{AreSaidBy}
-use Rattle.testing_rules_laws.specs.Excuses.{excuses_of}
-use Rattle.testing_rules_laws.specs.Updates.{IsUpdate}
-use Rattle.testing_rules_laws.specs.Reports.{excuses_text, update_text}
-use Rattle.testing_rules_laws.specs.Provenance.{IsGivenBy}
+use Rattle.testing_rules_model.specs.Excuses.{excuses_of}
+use Rattle.testing_rules_model.specs.Updates.{IsUpdate}
+use Rattle.testing_rules_reports.specs.Reports.{excuses_text, update_text}
+use Rattle.testing_rules_model.specs.Provenance.{IsGivenBy}
 use Rattle.testing_rules_laws.proofs.Giving.{facts_give_update}
 use Rattle.testing_rules_laws.specs.steps.GivenUpdate.{suite_by}
 use Rattle.testing_rules_model.specs.Updates.{Outcome as Update}

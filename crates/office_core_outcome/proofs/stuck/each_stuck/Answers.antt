@@ -7,7 +7,7 @@ use Rattle.office_core_outcome.proofs.stuck.each_stuck.Goals as goal
 
 pub loop-source-preserved : goal.loop-source-preserved
 loop-source-preserved c =
-    let g = c.args.ground.now in
+    let g = c.args.input.now in
     let Told : Text → Option Text → Type 0 = IsAnswerBehind g.archs.now g.facts.now g.excuses.now g.behind.now g.decisions.now in
     let text : Option Text = c.in_ok-text.text in
     let source : Text = c.source-item.result in
@@ -16,6 +16,6 @@ loop-source-preserved c =
 
 pub returns : goal.returns
 returns c =
-    let g = c.args.ground.now in
+    let g = c.args.input.now in
     let over : length c.args.sources.now ≤ c.loop-source.source-index = omega arith in
     subst (λ (sources : List Text). AreAnswersBehind g.archs.now g.facts.now g.excuses.now g.behind.now g.decisions.now sources c.loop-source.texts.items) (take_all c.loop-source.source-index c.args.sources.now over) c.loop-source.invariant

@@ -5,5 +5,5 @@ use Rattle.office_core_outcome.proofs.stuck.each_stuck.Given as goal
 -- those so far
 abbrev pub invariant-loop-source : goal.invariant-loop-source
 invariant-loop-source l =
-    let g = l.ground in
+    let g = l.input in
     AreAnswersBehind g.archs.now g.facts.now g.excuses.now g.behind.now g.decisions.now (take l.source-index l.sources) l.texts.items
