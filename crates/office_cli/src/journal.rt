@@ -1,6 +1,6 @@
 //! What the service prints on standard error about the mail that it gets.
 
-use crate::teller::{is_plain, sender_and_number};
+use crate::printer::{is_plain, sender_and_number};
 use deb_control::Paragraphs;
 use std::env;
 

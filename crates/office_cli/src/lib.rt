@@ -4,21 +4,21 @@
 //! where a run left them, tries hints and proposes some, and prints which messages of a bag are refused.
 #![tactic(auto)]
 
+mod answers;
 mod arrived;
-mod asking;
-mod checking;
+mod checks;
 mod client;
 mod clients;
 mod journal;
 mod noted;
+mod printer;
 mod proposals;
+mod questions;
 mod reasons;
 mod service;
 mod setups;
 mod status;
 mod tasks;
-mod teller;
-mod telling;
 mod trials;
 
 pub use office_store::{

@@ -3,8 +3,8 @@
 ghost use Rattle.std.specs.Prelude.{◌≡◌, length};
 ghost use Rattle.office_cli.specs.steps.Told.{status_of_proposal};
 
+use crate::answers::{print_text, refuse};
 use crate::status::ExitStatus;
-use crate::telling::{print_text, refuse};
 use deb_control::Text;
 use office_core_orders::name_at;
 use office_core_outcome::{
@@ -23,8 +23,8 @@ pub fn print_proposal(
     match proposal_text(rt.alloc(), proposal) {
         Ok(text) => {
             let status = print_text(rt, &text, proposal_status(sources, proposal));
-            tell_count(rt, setup, proposal);
-            tell_notes(rt, &proposal.notes);
+            print_count(rt, setup, proposal);
+            print_notes(rt, &proposal.notes);
             status
         }
         Err(_) => refuse(rt, StoreFault::NoMemory),
@@ -48,7 +48,7 @@ fn proposal_status(sources: &[Text], proposal: &Proposal) -> u8
 }
 
 /// Prints on standard error how many hints are proposed, under which numbers, and how many sources move.
-fn tell_count(rt: &HostRuntime, setup: &Setup, proposal: &Proposal) {
+fn print_count(rt: &HostRuntime, setup: &Setup, proposal: &Proposal) {
     let run = proposal.run;
     let (year, month, day) = (proposal.date.year, proposal.date.month, proposal.date.day);
     let (count, notes) = (proposal.hints.len(), &proposal.notes);
@@ -68,21 +68,21 @@ fn tell_count(rt: &HostRuntime, setup: &Setup, proposal: &Proposal) {
 
 /// Prints on standard error which groups are too long for a hint, how many the run refused, and how the search ended
 /// for the sources that were asked for.
-fn tell_notes(rt: &HostRuntime, notes: &SearchNotes) {
+fn print_notes(rt: &HostRuntime, notes: &SearchNotes) {
     for group in &notes.long {
-        tell_long(rt, group);
+        print_long(rt, group);
     }
     let refused = notes.refused;
     if refused > 0 {
         let _ = eprintln!(rt; "office: {refused} groups weren't allowed");
     }
     for asked in &notes.asked {
-        tell_end(rt, asked);
+        print_end(rt, asked);
     }
 }
 
 /// Prints on standard error that a group is too long for a hint.
-fn tell_long(rt: &HostRuntime, group: &LongGroup) {
+fn print_long(rt: &HostRuntime, group: &LongGroup) {
     let (sources, first, bytes) = (group.sources, group.first.as_str(), group.bytes);
     let _ = eprintln!(rt;
         "office: a group of {sources} sources, the first {first}: no hint: it has {bytes} bytes, and a message at most 65536"
@@ -90,7 +90,7 @@ fn tell_long(rt: &HostRuntime, group: &LongGroup) {
 }
 
 /// Prints on standard error how the search ended for a source, unless a hint moves it or standard output has its answer.
-fn tell_end(rt: &HostRuntime, asked: &AskedSource) {
+fn print_end(rt: &HostRuntime, asked: &AskedSource) {
     let name = asked.name.as_str();
     let _ = match asked.end {
         SourceEnd::Grouped | SourceEnd::Answered => Ok(()),

@@ -6,12 +6,12 @@ ghost use Rattle.office_cli.specs.steps.Told.{IsAsked};
 ghost use Rattle.office_core.specs.Preserves.{Holds};
 ghost use Rattle.office_core_facts.specs.State.{state_of};
 
+use crate::answers::{print_text, refuse, refuse_unfinished};
 use crate::status::ExitStatus;
 use crate::tasks::{
-    end_store, find_file, out_of_memory, replay_to, tell_setup, tell_store, tell_unfound,
+    end_store, find_file, out_of_memory, refuse_setup, refuse_store, refuse_unfound, replay_to,
 };
-use crate::telling::{print_text, refuse, refuse_unfinished};
-use crate::trials::{NextAsk, tell_next};
+use crate::trials::{NextAsk, print_next};
 use office_core_breaks::question_in;
 use office_core_check::{office_after, office_before, why_of_run};
 use office_core_orders::{DeliverFault, fault_words};
@@ -107,14 +107,14 @@ pub(crate) fn ask_for(
             Some(path) => ask_stored(rt, path, setup, run, ask),
             None => ask_in_memory(rt, setup, run, ask),
         },
-        Err(fault) => tell_setup(rt, conf, &fault),
+        Err(fault) => refuse_setup(rt, conf, &fault),
     }
 }
 
 /// Asks a run over the store in a file.
 fn ask_stored(rt: &HostRuntime, path: &str, setup: Setup, run: Option<u32>, ask: Ask<'_>) -> u8 {
     if let Err(fault) = find_file(rt, path) {
-        return tell_unfound(rt, path, fault);
+        return refuse_unfound(rt, path, fault);
     }
     let Ok(copy) = setup.copy(rt.alloc()) else {
         return out_of_memory(rt);
@@ -122,10 +122,10 @@ fn ask_stored(rt: &HostRuntime, path: &str, setup: Setup, run: Option<u32>, ask:
     match open_store(rt, path, Unknown, &setup) {
         Ok(tables) => {
             let office = Office::new(rt.alloc(), setup, tables);
-            let (tables, status) = tell(rt, &copy, office, run, ask);
+            let (tables, status) = print_asked(rt, &copy, office, run, ask);
             end_store(rt, path, tables, status)
         }
-        Err(fault) => tell_store(rt, path, &fault),
+        Err(fault) => refuse_store(rt, path, &fault),
     }
 }
 
@@ -139,7 +139,7 @@ fn ask_in_memory(rt: &HostRuntime, setup: Setup, run: Option<u32>, ask: Ask<'_>)
             let mut office = Office::new(rt.alloc(), setup, plain);
             match replay_to(rt, &mut office, &mut io::sink()) {
                 0 => {
-                    let (_plain, status) = tell(rt, &copy, office, run, ask);
+                    let (_plain, status) = print_asked(rt, &copy, office, run, ask);
                     status
                 }
                 status => status,
@@ -150,7 +150,7 @@ fn ask_in_memory(rt: &HostRuntime, setup: Setup, run: Option<u32>, ask: Ask<'_>)
 }
 
 /// Prints what is asked of a run of an office, and returns the office's store with the exit status.
-fn tell<K: Keeper>(
+fn print_asked<K: Keeper>(
     rt: &HostRuntime,
     setup: &Setup,
     office: Office<K>,
@@ -158,18 +158,18 @@ fn tell<K: Keeper>(
     ask: Ask<'_>,
 ) -> (K, u8) {
     match ask {
-        Ask::Sources(_) | Ask::Changes(_) => tell_left(rt, setup, office, run, ask),
-        Ask::Hints(_) => tell_hints(rt, setup, office, run, ask),
+        Ask::Sources(_) | Ask::Changes(_) => print_left(rt, setup, office, run, ask),
+        Ask::Hints(_) => print_hints(rt, setup, office, run, ask),
         Ask::Next(next) => {
             let mut office = office;
-            let status = tell_next(rt, &mut office, next);
+            let status = print_next(rt, &mut office, next);
             (office.into_keeper(), status)
         }
     }
 }
 
 /// Prints what is asked of the testing that a run of an office left, and gives the office's store with the exit status.
-fn tell_left<K: Keeper>(
+fn print_left<K: Keeper>(
     rt: &HostRuntime,
     setup: &Setup,
     office: Office<K>,
@@ -180,18 +180,18 @@ fn tell_left<K: Keeper>(
     match asked_run(&mut office, run) {
         Ok(WhichRun::Earlier { run }) => {
             let mut keeper = office.into_keeper();
-            let status = tell_earlier(rt, setup, &mut keeper, run, ask);
+            let status = print_earlier(rt, setup, &mut keeper, run, ask);
             (keeper, status)
         }
         asked => {
-            let status = tell_last(rt, &mut office, asked, ask);
+            let status = print_last(rt, &mut office, asked, ask);
             (office.into_keeper(), status)
         }
     }
 }
 
 /// Prints what a run of an office made of hints, and returns the office's store with the exit status.
-fn tell_hints<K: Keeper>(
+fn print_hints<K: Keeper>(
     rt: &HostRuntime,
     setup: &Setup,
     office: Office<K>,
@@ -203,7 +203,7 @@ fn tell_hints<K: Keeper>(
     let mut keeper = office.into_keeper();
     let status = match asked {
         Ok(WhichRun::Earlier { run }) | Ok(WhichRun::Last { run }) if run > 0 => {
-            tell_hints_of(rt, setup, &mut keeper, run, ask)
+            print_hints_of(rt, setup, &mut keeper, run, ask)
         }
         Ok(_) => refuse_unfinished(rt),
         Err(fault) => refuse(rt, fault),
@@ -213,7 +213,7 @@ fn tell_hints<K: Keeper>(
 
 /// Prints what a finished run of a store made of hints, over an office in memory as it was before the run, and returns
 /// the exit status.
-fn tell_hints_of<K: Keeper>(
+fn print_hints_of<K: Keeper>(
     rt: &HostRuntime,
     setup: &Setup,
     keeper: &mut K,
@@ -223,9 +223,9 @@ fn tell_hints_of<K: Keeper>(
     match office_before(rt.alloc(), setup, keeper, run) {
         Ok(Some(office)) => {
             let mut office = office;
-            tell_each(rt, &mut office, run, ask)
+            print_each(rt, &mut office, run, ask)
         }
-        Ok(None) => tell_other_mail(rt),
+        Ok(None) => refuse_other_mail(rt),
         Err(fault) => refuse(rt, fault),
     }
 }
@@ -239,11 +239,11 @@ fn count_of(ask: Ask<'_>) -> usize {
     }
 }
 
-/// Prints what is told of each thing that is asked for, and gives the exit status.
-fn tell_each<K: Keeper>(rt: &HostRuntime, office: &mut Office<K>, run: u32, ask: Ask<'_>) -> u8 {
+/// Prints what is known of each thing that is asked for, and gives the exit status.
+fn print_each<K: Keeper>(rt: &HostRuntime, office: &mut Office<K>, run: u32, ask: Ask<'_>) -> u8 {
     let mut status = 0;
     for place in 0..count_of(ask) {
-        match tell_one(rt, office, run, ask, place) {
+        match print_one(rt, office, run, ask, place) {
             0 => {}
             code if code == ExitStatus::Negative.code() => status = code,
             failed => return failed,
@@ -252,8 +252,8 @@ fn tell_each<K: Keeper>(rt: &HostRuntime, office: &mut Office<K>, run: u32, ask:
     status
 }
 
-/// Prints what is told of the thing at a place of those that are asked for, and gives the exit status.
-fn tell_one<K: Keeper>(
+/// Prints what is known of the thing at a place of those that are asked for, and gives the exit status.
+fn print_one<K: Keeper>(
     rt: &HostRuntime,
     office: &mut Office<K>,
     run: u32,
@@ -261,20 +261,20 @@ fn tell_one<K: Keeper>(
     place: usize,
 ) -> u8 {
     match ask {
-        Ask::Sources(words) => tell_source(
+        Ask::Sources(words) => print_source(
             rt,
             office,
             run,
             words.get(place).map_or("", |word| *word),
         ),
-        Ask::Changes(words) => tell_change(rt, office, words.get(place).map_or("", |word| *word)),
-        Ask::Hints(numbers) => tell_hint(rt, office, numbers.get(place).map_or(0, |n| *n)),
+        Ask::Changes(words) => print_change(rt, office, words.get(place).map_or("", |word| *word)),
+        Ask::Hints(numbers) => print_hint(rt, office, numbers.get(place).map_or(0, |n| *n)),
         Ask::Next(_) => 0,
     }
 }
 
 /// Prints what the next run of an office makes of a hint, and gives the exit status.
-fn tell_hint<K: Keeper>(rt: &HostRuntime, office: &mut Office<K>, number: u32) -> u8 {
+fn print_hint<K: Keeper>(rt: &HostRuntime, office: &mut Office<K>, number: u32) -> u8 {
     match office.hint_told(number) {
         Ok(Some(told)) => print_text(rt, &told.text, known_status(told.is_known)),
         Ok(None) => ExitStatus::Negative.code(),
@@ -284,7 +284,7 @@ fn tell_hint<K: Keeper>(rt: &HostRuntime, office: &mut Office<K>, number: u32) -
 
 /// Prints what a change breaks that words name where the last run of an office left testing, and gives the exit status. Words
 /// that name none are refused on standard error.
-fn tell_change<K: Keeper>(rt: &HostRuntime, office: &mut Office<K>, words: &str) -> u8 {
+fn print_change<K: Keeper>(rt: &HostRuntime, office: &mut Office<K>, words: &str) -> u8 {
     match question_in(rt.alloc(), office.setup(), words) {
         Ok(question) => match office.breaks_text(&question) {
             Ok(Some(told)) => print_text(rt, &told.text, known_status(told.is_known)),
@@ -300,7 +300,7 @@ fn tell_change<K: Keeper>(rt: &HostRuntime, office: &mut Office<K>, words: &str)
     }
 }
 
-/// The exit status for what is told: 1 where what is asked for isn't known.
+/// The exit status for what is printed: 1 where what is asked for isn't known.
 fn known_status(is_known: bool) -> u8
     ensures { result ≡ (if is_known then 0 else 1) }
 {
@@ -312,7 +312,7 @@ fn known_status(is_known: bool) -> u8
 }
 
 /// Prints on standard error that the store isn't what its mail gives, and returns the exit status.
-fn tell_other_mail(rt: &HostRuntime) -> u8 {
+fn refuse_other_mail(rt: &HostRuntime) -> u8 {
     let _ = eprintln!(rt; "office: the store isn't what its mail gives: office check shows where");
     ExitStatus::Negative.code()
 }
@@ -340,14 +340,14 @@ fn asked_of(finished: u32, run: Option<u32>) -> WhichRun
 
 /// Prints what is asked of the last finished run, and gives the exit status. Nothing is printed for a run that isn't
 /// finished.
-fn tell_last<K: Keeper>(
+fn print_last<K: Keeper>(
     rt: &HostRuntime,
     office: &mut Office<K>,
     asked: Result<WhichRun, StoreFault>,
     ask: Ask<'_>,
 ) -> u8 {
     match asked {
-        Ok(WhichRun::Last { run }) => tell_each(rt, office, run, ask),
+        Ok(WhichRun::Last { run }) => print_each(rt, office, run, ask),
         Ok(_) => refuse_unfinished(rt),
         Err(fault) => refuse(rt, fault),
     }
@@ -355,7 +355,7 @@ fn tell_last<K: Keeper>(
 
 /// Prints what is asked of an earlier run of a store, over an office in memory that is as that run left it, and gives the exit
 /// status.
-fn tell_earlier<K: Keeper>(
+fn print_earlier<K: Keeper>(
     rt: &HostRuntime,
     setup: &Setup,
     keeper: &mut K,
@@ -365,16 +365,16 @@ fn tell_earlier<K: Keeper>(
     match office_after(rt.alloc(), setup, keeper, run) {
         Ok(Some(office)) => {
             let mut office = office;
-            tell_each(rt, &mut office, run, ask)
+            print_each(rt, &mut office, run, ask)
         }
-        Ok(None) => tell_other_mail(rt),
+        Ok(None) => refuse_other_mail(rt),
         Err(fault) => refuse(rt, fault),
     }
 }
 
 /// Prints why a source stands where a run left it, by an office of which that is the last finished run, and gives the
 /// exit status. Nothing is printed where no run is finished.
-fn tell_source<K: Keeper>(rt: &HostRuntime, office: &mut Office<K>, run: u32, source: &str) -> u8 {
+fn print_source<K: Keeper>(rt: &HostRuntime, office: &mut Office<K>, run: u32, source: &str) -> u8 {
     match why_of_run(office, run, source) {
         Ok(Some(why)) => print_text(rt, &why.text, known_status(why.is_known)),
         Ok(None) => ExitStatus::Negative.code(),

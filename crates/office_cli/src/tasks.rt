@@ -1,15 +1,15 @@
 //! What the program's words ask for: a comparison, the version, why sources stand where a run left them, what changes
 //! break, a trial of hints, a proposal of some, or a task over a store.
 
-use crate::asking::{Question, tell_answer};
-use crate::checking::tell_check;
+use crate::answers::{print_report, print_version, print_waiting};
+use crate::checks::print_check;
 use crate::noted::FaultKeepingReader;
+use crate::printer::Printer;
+use crate::questions::{Question, print_answer};
 use crate::reasons::{Ask, ask_for, hints_for, why_for};
 use crate::service::{serve, service_status};
 use crate::setups::{Detail, detail_of, role_words};
 use crate::status::ExitStatus;
-use crate::teller::Teller;
-use crate::telling::{tell_report, tell_version, tell_waiting};
 use crate::trials::{propose_for, refuse_day, try_for};
 use office_cli_words::{Report, Words, compare, refuse_report};
 use office_http::{Office, Replayed, WriteFault, replay_status, replay_watched};
@@ -34,7 +34,7 @@ enum Task<'a> {
         connections: u32,
         hosts: &'a [&'a str],
     },
-    /// What the first run that isn't ready waits for is told.
+    /// What the first run that isn't ready waits for is printed.
     Waiting,
     /// Delivers the bag on standard input, and then prints what the first run that isn't ready waits for.
     BagWaiting,
@@ -105,7 +105,7 @@ pub fn run_command(rt: &HostRuntime, words: Words) -> u8 {
             run,
             changes,
         } => ask_for(rt, conf, db, run, Ask::Changes(&changes)),
-        Words::Version => tell_version(rt),
+        Words::Version => print_version(rt),
     }
 }
 
@@ -151,7 +151,7 @@ fn run_for(rt: &HostRuntime, conf: &str, db: Option<&str>, task: Task<'_>) -> u8
             Some(path) => run_stored(rt, path, setup, task),
             None => run_in_memory(rt, setup, task),
         },
-        Err(fault) => tell_setup(rt, conf, &fault),
+        Err(fault) => refuse_setup(rt, conf, &fault),
     }
 }
 
@@ -159,12 +159,12 @@ fn run_for(rt: &HostRuntime, conf: &str, db: Option<&str>, task: Task<'_>) -> u8
 fn check_for(rt: &HostRuntime, conf: &str, db: &str) -> u8 {
     match read_setup(rt, conf) {
         Ok(setup) => check_stored(rt, db, &setup),
-        Err(fault) => tell_setup(rt, conf, &fault),
+        Err(fault) => refuse_setup(rt, conf, &fault),
     }
 }
 
 /// Prints on standard error why the setup in a file is refused, and returns the exit status.
-pub(crate) fn tell_setup(rt: &HostRuntime, conf: &str, fault: &ConfFault) -> u8 {
+pub(crate) fn refuse_setup(rt: &HostRuntime, conf: &str, fault: &ConfFault) -> u8 {
     let detail = match fault {
         ConfFault::Refused(fault) => detail_of(rt, conf, *fault),
         ConfFault::Unreadable(_) => None,
@@ -187,7 +187,7 @@ pub(crate) fn find_file(rt: &HostRuntime, path: &str) -> io::Result<()> {
     fs::open(rt, path).map(drop)
 }
 
-/// Looks whether the file is there that a task tells of. Only a replay and a service make one.
+/// Looks whether the file is there that a task reads. Only a replay and a service make one.
 fn find_store_file(rt: &HostRuntime, path: &str, task: Task<'_>) -> io::Result<()> {
     match task {
         Task::Waiting | Task::Report(_) | Task::Answer(_) => find_file(rt, path),
@@ -196,7 +196,7 @@ fn find_store_file(rt: &HostRuntime, path: &str, task: Task<'_>) -> io::Result<(
 }
 
 /// Prints on standard error why a store's file can't be read, and returns the exit status.
-pub(crate) fn tell_unfound(rt: &HostRuntime, path: &str, fault: io::Error) -> u8 {
+pub(crate) fn refuse_unfound(rt: &HostRuntime, path: &str, fault: io::Error) -> u8 {
     let _ = eprintln!(rt; "office: {path}: the file can't be read: {fault}");
     ExitStatus::Failed.code()
 }
@@ -204,7 +204,7 @@ pub(crate) fn tell_unfound(rt: &HostRuntime, path: &str, fault: io::Error) -> u8
 /// Does a task in an office whose store is in a file.
 fn run_stored(rt: &HostRuntime, path: &str, setup: Setup, task: Task<'_>) -> u8 {
     if let Err(fault) = find_store_file(rt, path, task) {
-        return tell_unfound(rt, path, fault);
+        return refuse_unfound(rt, path, fault);
     }
     match open_store(rt, path, Unknown, &setup) {
         Ok(tables) => {
@@ -212,22 +212,22 @@ fn run_stored(rt: &HostRuntime, path: &str, setup: Setup, task: Task<'_>) -> u8 
             let status = run_over(rt, &mut office, task);
             end_store(rt, path, office.into_keeper(), status)
         }
-        Err(fault) => tell_store(rt, path, &fault),
+        Err(fault) => refuse_store(rt, path, &fault),
     }
 }
 
 /// Checks the store in a file.
 fn check_stored(rt: &HostRuntime, path: &str, setup: &Setup) -> u8 {
     if let Err(fault) = find_file(rt, path) {
-        return tell_unfound(rt, path, fault);
+        return refuse_unfound(rt, path, fault);
     }
     match open_store(rt, path, Unknown, setup) {
         Ok(tables) => {
             let mut tables = tables;
-            let status = tell_check(rt, setup, &mut tables);
+            let status = print_check(rt, setup, &mut tables);
             end_store(rt, path, tables, status)
         }
-        Err(fault) => tell_store(rt, path, &fault),
+        Err(fault) => refuse_store(rt, path, &fault),
     }
 }
 
@@ -240,12 +240,12 @@ pub(crate) fn end_store(
 ) -> u8 {
     match close_store(tables) {
         Ok(()) => status,
-        Err(fault) => tell_store(rt, path, &fault),
+        Err(fault) => refuse_store(rt, path, &fault),
     }
 }
 
 /// Prints on standard error why a store in a file was refused, and returns the exit status.
-pub(crate) fn tell_store(rt: &HostRuntime, path: &str, fault: &FileFault) -> u8 {
+pub(crate) fn refuse_store(rt: &HostRuntime, path: &str, fault: &FileFault) -> u8 {
     let _ = eprintln!(rt; "office: {path}: {fault}");
     store_status(fault)
 }
@@ -273,10 +273,10 @@ fn run_over<K: Keeper>(rt: &HostRuntime, office: &mut Office<K>, task: Task<'_>)
             connections,
             hosts,
         } => serve_over(rt, office, port, connections, hosts),
-        Task::Waiting => tell_waiting(rt, office),
-        Task::BagWaiting => deliver_and_tell(rt, office),
-        Task::Report(report) => tell_report(rt, office, report),
-        Task::Answer(question) => tell_answer(rt, office, question),
+        Task::Waiting => print_waiting(rt, office),
+        Task::BagWaiting => deliver_and_print(rt, office),
+        Task::Report(report) => print_report(rt, office, report),
+        Task::Answer(question) => print_answer(rt, office, question),
         Task::Lint => lint_over(rt, office),
     }
 }
@@ -291,18 +291,18 @@ fn replay_over<K: Keeper>(rt: &HostRuntime, office: &mut Office<K>) -> u8 {
 
 /// Delivers the bag on standard input, and prints only its refused messages.
 fn lint_over<K: Keeper>(rt: &HostRuntime, office: &mut Office<K>) -> u8 {
-    let mut teller = Teller::new(rt);
-    match replay_told(rt, office, &mut io::sink(), &mut teller) {
-        0 if teller.has_refused() => ExitStatus::Negative.code(),
+    let mut printer = Printer::new(rt);
+    match replay_printed(rt, office, &mut io::sink(), &mut printer) {
+        0 if printer.has_refused() => ExitStatus::Negative.code(),
         status => status,
     }
 }
 
 /// Delivers the bag on standard input, and prints what the first run that isn't ready waits for. If the bag is refused
 /// or mail was lost, prints only that.
-fn deliver_and_tell<K: Keeper>(rt: &HostRuntime, office: &mut Office<K>) -> u8 {
+fn deliver_and_print<K: Keeper>(rt: &HostRuntime, office: &mut Office<K>) -> u8 {
     match replay_to(rt, office, &mut io::sink()) {
-        0 => tell_waiting(rt, office),
+        0 => print_waiting(rt, office),
         status => status,
     }
 }
@@ -313,25 +313,25 @@ pub(crate) fn replay_to<K: Keeper, W: Write>(
     office: &mut Office<K>,
     output: &mut W,
 ) -> u8 {
-    replay_told(rt, office, output, &mut Teller::new(rt))
+    replay_printed(rt, office, output, &mut Printer::new(rt))
 }
 
-/// Replays the bag on standard input in an office, with reports by a teller, and returns the exit status.
-fn replay_told<K: Keeper, W: Write>(
+/// Replays the bag on standard input in an office, with reports by this printer, and returns the exit status.
+fn replay_printed<K: Keeper, W: Write>(
     rt: &HostRuntime,
     office: &mut Office<K>,
     output: &mut W,
-    teller: &mut Teller<'_>,
+    printer: &mut Printer<'_>,
 ) -> u8 {
     let mut writer = ToWrite::new(&mut *output);
     let mut input = FaultKeepingReader::new(rt.stdin());
     let mut bag = Bag::new(rt.alloc(), FromRead::new(&mut input));
-    let mut replayed = replay_watched(office, &mut bag, &mut writer, teller);
+    let mut replayed = replay_watched(office, &mut bag, &mut writer, printer);
     drop(bag);
     if output.flush().is_err() {
         replayed = Err(WriteFault);
     }
-    tell_replay(rt, &replayed, input.fault());
+    print_replay_faults(rt, &replayed, input.fault());
     replay_status(&replayed)
 }
 
@@ -351,7 +351,7 @@ fn serve_over<K: Keeper>(
 }
 
 /// Prints on standard error what was refused, if something was.
-fn tell_replay(
+fn print_replay_faults(
     rt: &HostRuntime,
     replayed: &Result<Replayed, WriteFault>,
     unread: Option<io::Error>,
@@ -360,7 +360,7 @@ fn tell_replay(
         Err(_) => eprintln!(rt; "office: standard output: a write failed"),
         Ok(replayed) => {
             if let Some(fault) = replayed.bag {
-                tell_bag(rt, fault, unread);
+                print_bag_fault(rt, fault, unread);
             }
             if replayed.lost {
                 eprintln!(rt;
@@ -374,7 +374,7 @@ fn tell_replay(
 }
 
 /// Prints on standard error why a bag was refused, and why a read failed, if one did.
-fn tell_bag(rt: &HostRuntime, fault: BagFault, unread: Option<io::Error>) {
+fn print_bag_fault(rt: &HostRuntime, fault: BagFault, unread: Option<io::Error>) {
     let _ = match (fault, unread) {
         (BagFault::ReadFault, Some(unread)) => {
             eprintln!(rt; "office: standard input: the bag is refused: a read failed: {unread}")

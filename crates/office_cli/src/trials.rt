@@ -1,10 +1,10 @@
 //! Hints that are tried before they are mailed, and hints that are proposed.
 
+use crate::answers::{print_text, refuse};
 use crate::proposals::print_proposal;
 use crate::reasons::{Ask, ask_for};
 use crate::status::ExitStatus;
 use crate::tasks::out_of_memory;
-use crate::telling::{print_text, refuse};
 use deb_control::{NoMemory, Text, is_package_name};
 use office_core_orders::{DeliverFault, fault_words, name_at};
 use office_core_outcome::{
@@ -95,19 +95,19 @@ fn texts_of(alloc: Global, texts: &[&str]) -> Result<Vec<Text>, NoMemory> {
 }
 
 /// Prints what is asked about the next run of an office, and gives the exit status.
-pub(crate) fn tell_next<K: Keeper>(
+pub(crate) fn print_next<K: Keeper>(
     rt: &HostRuntime,
     office: &mut Office<K>,
     ask: NextAsk<'_>,
 ) -> u8 {
     match ask {
-        NextAsk::Try(hints, terms) => tell_trial(rt, office, hints, terms),
-        NextAsk::Propose(sources, terms) => tell_proposal(rt, office, sources, terms),
+        NextAsk::Try(hints, terms) => print_trial(rt, office, hints, terms),
+        NextAsk::Propose(sources, terms) => print_proposed(rt, office, sources, terms),
     }
 }
 
 /// Prints what hints would change in the next run of an office, and returns the exit status.
-fn tell_trial<K: Keeper>(
+fn print_trial<K: Keeper>(
     rt: &HostRuntime,
     office: &mut Office<K>,
     hints: &[Text],
@@ -151,7 +151,7 @@ fn refuse_hint(rt: &HostRuntime, hints: &[Text], refused: RefusedHint) -> u8 {
 }
 
 /// Prints the hints that are proposed for the next run of an office, and returns the exit status.
-fn tell_proposal<K: Keeper>(
+fn print_proposed<K: Keeper>(
     rt: &HostRuntime,
     office: &mut Office<K>,
     sources: &[Text],

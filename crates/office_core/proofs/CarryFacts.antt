@@ -1,9 +1,9 @@
 -- What calls on an office leave, one after another.
-use Rattle.std.proofs.Common.{inl, inr, Bool, false, is_ok, ◌≡◌, ℕ, length, Result, Ok, Err, ap, ◌∙◌, refl, arith}
+use Rattle.std.proofs.Common.{inl, inr, false, ◌≡◌, ℕ, length, Result, Ok, Err, ap, ◌∙◌, refl, arith}
 use Rattle.office_mail.specs.Lists.{Lists}
 use Rattle.office_store_keeper.specs.Content.{Content}
 use Rattle.office_mail.specs.Counts.{HasRisen}
-use Rattle.office_store_keeper.specs.declared.keeping.Keeper.{Ghosts}
+use Rattle.office_store_keeper.specs.declared.keeper.Keeper.{Ghosts}
 use Rattle.office_core_orders.specs.declared.faults.StoreFault.{StoreFault}
 use Rattle.office_core_orders.specs.declared.faults.StoreFault.TheVariants.{NoMemory, Store}
 use Rattle.office_core_orders.specs.declared.faults.DeliverFault.{DeliverFault}
@@ -13,14 +13,11 @@ use Rattle.office_core.specs.Preserves.{HasNotFallen, Holds, StoreRefused, Prese
 use Rattle.office_core_orders.specs.Counted.{Counted, CountedDelivery}
 use Rattle.office_core_orders.specs.StaysTrusted.{StaysTrusted}
 use Rattle.office_core_facts.specs.OfficeState.{OfficeState}
-use Rattle.office_core_facts.specs.State.{IsSound, state_of}
+use Rattle.office_core_facts.specs.State.{state_of}
 use Rattle.office_core_orders.proofs.LastFacts.{risen_after, risen_before, lasts_none}
 
 not_fallen_same : (a b : ℕ) → b ≡ a → HasNotFallen a b
 not_fallen_same a b e = omega (arith, e)
-
-not_fallen_risen : (a b : ℕ) → HasRisen a b → HasNotFallen a b
-not_fallen_risen a b h = omega (arith, h)
 
 not_fallen_twice : (a b c : ℕ) → HasNotFallen a b → HasNotFallen b c → HasNotFallen a c
 not_fallen_twice a b c h k = omega (arith, h, k)
@@ -31,22 +28,11 @@ risen_first a b c h k = omega (arith, h, k)
 risen_next : (a b c : ℕ) → HasNotFallen a b → HasRisen b c → HasRisen a c
 risen_next a b c h k = omega (arith, h, k)
 
--- what a call counts
-pub counted : {T : Type 0} (a b : ℕ) (r : Result T StoreFault) → Counted a b r → HasNotFallen a b
-counted a b (Ok x) h = not_fallen_same a b h
-counted a b (Err NoMemory) h = not_fallen_same a b h
-counted a b (Err Store) h = not_fallen_risen a b h
-
+-- a refusal of the store is counted
 pub risen : {T : Type 0} (a b : ℕ) (r : Result T StoreFault) → Counted a b r → r ≡ Err Store → HasRisen a b
 risen a b (Ok x) h e = absurd (cc (e))
 risen a b (Err NoMemory) h e = absurd (cc (e))
 risen a b (Err Store) h e = h
-
-pub counted_delivery : (a b : ℕ) (r : Result Held DeliverFault) → CountedDelivery a b r → HasNotFallen a b
-counted_delivery a b (Ok x) h = not_fallen_same a b h
-counted_delivery a b (Err (deliver.Mail f)) h = not_fallen_same a b h
-counted_delivery a b (Err deliver.OtherText) h = not_fallen_same a b h
-counted_delivery a b (Err deliver.Store) h = not_fallen_risen a b h
 
 pub risen_delivery : (a b : ℕ) (r : Result Held DeliverFault) → CountedDelivery a b r → r ≡ Err deliver.Store → HasRisen a b
 risen_delivery a b (Ok x) h e = absurd (cc (e))
@@ -54,11 +40,7 @@ risen_delivery a b (Err (deliver.Mail f)) h e = absurd (cc (e))
 risen_delivery a b (Err deliver.OtherText) h e = absurd (cc (e))
 risen_delivery a b (Err deliver.Store) h e = h
 
--- a call that may have gone ill
-lasts_less : {K : Type 0} (keeper : Ghosts K) (a b : K) (well : Bool) → StaysTrusted keeper a b well → StaysTrusted keeper a b false
-lasts_less keeper a b well h = record { clean = h.clean; faults = h.faults; stays = λ c t e. absurd (cc (e)); shut = h.shut }
-
--- two of them
+-- two calls that may have gone ill
 lasts_twice : {K : Type 0} (keeper : Ghosts K) (a b c : K) → StaysTrusted keeper a b false → StaysTrusted keeper b c false → StaysTrusted keeper a c false
 lasts_twice keeper a b c h k = record {
   clean = λ clean. h.clean (k.clean clean);
@@ -97,18 +79,6 @@ refused_first keeper a b c k h = risen_first (keeper.refusals a) (keeper.refusal
 
 pub refused_next : {K : Type 0} (keeper : Ghosts K) (a b c : K) → Preserves keeper a b → StoreRefused keeper b c → StoreRefused keeper a c
 refused_next keeper a b c h k = risen_next (keeper.refusals a) (keeper.refusals b) (keeper.refusals c) h.refusals k
-
--- a call, by its clauses
-pub carries_call : {K T : Type 0} (keeper : Ghosts K) (a b : K) (r : Result T StoreFault) → (keeper.is_trusted b → keeper.is_trusted a) → (keeper.is_trusted b → IsSound keeper a → IsSound keeper b) → keeper.setup b ≡ keeper.setup a → Counted (keeper.refusals a) (keeper.refusals b) r → StaysTrusted keeper a b (is_ok r) → Preserves keeper a b
-carries_call keeper a b r before sound setup count last = record { before = before; sound = sound; setup = setup; refusals = counted (keeper.refusals a) (keeper.refusals b) r count; lasts = lasts_less keeper a b (is_ok r) last }
-
--- a delivery
-pub carries_delivery : {K : Type 0} (keeper : Ghosts K) (a b : K) (r : Result Held DeliverFault) → (keeper.is_trusted b → keeper.is_trusted a) → (keeper.is_trusted b → IsSound keeper a → IsSound keeper b) → keeper.setup b ≡ keeper.setup a → CountedDelivery (keeper.refusals a) (keeper.refusals b) r → StaysTrusted keeper a b (is_ok r) → Preserves keeper a b
-carries_delivery keeper a b r before sound setup count last = record { before = before; sound = sound; setup = setup; refusals = counted_delivery (keeper.refusals a) (keeper.refusals b) r count; lasts = lasts_less keeper a b (is_ok r) last }
-
--- a call that asks
-pub asks_call : {K T : Type 0} (keeper : Ghosts K) (a b : K) (r : Result T StoreFault) → (keeper.is_trusted b → keeper.is_trusted a) → (keeper.is_trusted b → IsSound keeper a → IsSound keeper b) → (keeper.is_trusted b → keeper.content b ≡ keeper.content a) → keeper.setup b ≡ keeper.setup a → Counted (keeper.refusals a) (keeper.refusals b) r → StaysTrusted keeper a b (is_ok r) → Asks keeper a b
-asks_call keeper a b r before sound same setup count last = record { carries = carries_call keeper a b r before sound setup count last; same = same }
 
 pub asks_none : {K : Type 0} (keeper : Ghosts K) (s : K) → Asks keeper s s
 asks_none keeper s = record { carries = carries_none keeper s; same = λ t. refl }

@@ -2,12 +2,12 @@
 //! from there on, and needn't be looked for.
 #![tactic(auto, using(office_core_orders::proofs::LastFacts::lasting))]
 
-ghost use Rattle.std.specs.Prelude.{◌≡◌, ℕ, None, IfOk, OnOk, IsTrue};
+ghost use Rattle.std.specs.Prelude.{◌≡◌, ℕ, None, IfOk, IsTrue};
 ghost use Rattle.std.specs.FinMap.{get};
 ghost use Rattle.office_mail.specs.Kept.{Kept};
 ghost use Rattle.office_store_keeper.specs.Content.{IsNextNumber};
-ghost use Rattle.office_core_orders.specs.steps.ReadsStore.{ReadsStore};
 ghost use Rattle.office_core.specs.steps.Asked.{AreFreeFrom, IsFreeFrom};
+ghost use Rattle.office_core.specs.steps.AsksOnce.{AsksOnce};
 
 use office_core_orders::{StoreFault, stored};
 use office_store_keeper::{Keeper, MailText};
@@ -63,8 +63,7 @@ fn ask<K: Keeper>(
     sender: u32,
     number: u32,
 ) -> Result<(), StoreFault>
-    ensures asked { K.is_trusted keeper.new → AreFreeFrom (K.content keeper.old).kept asked.old.items → OnOk result (AreFreeFrom (K.content keeper.old).kept asked.new.items) }
-    ensures looks { ReadsStore K.Keeper keeper.old keeper.new result }
+    ensures asks { AsksOnce K.Keeper keeper.old keeper.new asked.old.items asked.new.items result }
 {
     if is_asked(asked, sender) {
         return Ok(());
@@ -85,8 +84,7 @@ pub fn find<K: Keeper>(
     number: u32,
 ) -> Result<Option<MailText>, StoreFault>
     ensures found { K.is_trusted keeper.new → AreFreeFrom (K.content keeper.old).kept asked.old.items → IfOk result (λ text. text ≡ get (K.content keeper.old).kept (sender, number)) }
-    ensures asked { K.is_trusted keeper.new → AreFreeFrom (K.content keeper.old).kept asked.old.items → OnOk result (AreFreeFrom (K.content keeper.old).kept asked.new.items) }
-    ensures looks { ReadsStore K.Keeper keeper.old keeper.new result }
+    ensures asks { AsksOnce K.Keeper keeper.old keeper.new asked.old.items asked.new.items result }
 {
     ask(keeper, asked, sender, number)?;
     if is_free(asked, sender, number) {

@@ -12,7 +12,7 @@ ghost use Rattle.office_mail_setup.specs.declared.setup.Role.TheVariants.{Releas
 ghost use Rattle.office_store_keeper.specs.Content.{Content, item_from_one, no_content};
 ghost use Rattle.office_store_keeper.specs.LastDelays.{GetsLast};
 ghost use Rattle.office_store_keeper.specs.Provenance.{AreOwnTexts};
-ghost use Rattle.office_core_orders.specs.declared.waiting_lines.Lack.{Lack};
+ghost use Rattle.office_core_orders.specs.declared.wait_lines.Lack.{Lack};
 ghost use Rattle.office_core.specs.Came.{AllCame, CameBeside};
 ghost use Rattle.office_core.specs.History.{Step, Looked, Settled, Follow, Leads, IsByRules, Agree, coming, is_settled, texts_in};
 ghost use Rattle.office_core.specs.Laws.{RunsStand, RunsStay, TookTexts};

@@ -2,17 +2,17 @@
 //! Developer's Reference 5.13) once their mail has come.
 #![tactic(auto)]
 
-mod answering;
+mod answers;
 mod asked;
-mod counting;
-mod gathering;
+mod batch;
+mod counts;
+mod delivery;
 pub mod laws;
-mod leaving;
 mod office;
-mod posting;
+mod results;
 pub mod runs;
 mod texts;
 mod unbroken;
 
-pub use gathering::Reply;
+pub use batch::Reply;
 pub use office::Office;

@@ -1,7 +1,7 @@
 //! The office: what it accepts, finishes and reports.
 #![tactic(auto, using(office_core_orders::proofs::LastFacts::lasting))]
 
-ghost use Rattle.std.specs.Prelude.{is_none, is_ok, ◌≡◌, ◌+◌, ◌-◌, ◌≤◌, ◌<◌, ◌∷◌, [], None, IfOk, IfSome, OnOk, OnErr, length, slice_index};
+ghost use Rattle.std.specs.Prelude.{is_none, is_ok, ◌≡◌, ◌+◌, ◌-◌, ◌≤◌, ◌<◌, ◌∷◌, [], None, IfOk, IfSome, OnOk, length, slice_index};
 ghost use Rattle.std.specs.FinMap.{get};
 ghost use Rattle.std.specs.Option.{option_map};
 ghost use Rattle.testing_rules_laws.specs.Watched.{AllWatchedWork};
@@ -12,7 +12,7 @@ ghost use Rattle.office_store_keeper.specs.Provenance.{AreOwnTexts};
 ghost use Rattle.office_core_orders.specs.Counted.{CountedDelivery};
 ghost use Rattle.office_core.specs.History.{Leads, deliveries, delivery, settling};
 ghost use Rattle.office_core.specs.Laws.{RunsStand};
-ghost use Rattle.office_core.specs.Preserves.{Asks, AsksOffice, ChangesOffice, Holds, Preserves};
+ghost use Rattle.office_core.specs.Preserves.{Asks, AsksOffice, ChangesOffice, Holds, LeavesRuns, Preserves};
 ghost use Rattle.office_core.specs.Together.{AreHeldHere, answers_to};
 ghost use Rattle.office_core.specs.Unbroken.{AreUnbroken};
 ghost use Rattle.office_core_orders.specs.StaysTrusted.{StaysTrusted};
@@ -27,10 +27,10 @@ ghost use Rattle.office_core_outcome.specs.Proposal.{IsProposed};
 ghost use Rattle.office_core_outcome.specs.HintTold.{IsHintTold};
 ghost use Rattle.office_core_outcome.specs.Trial.{IsTrial, trial_date};
 
-use crate::answering::answer;
-use crate::counting::{count_replies, count_reply};
-use crate::gathering::{Reply, keep_texts};
-use crate::posting::deliver;
+use crate::answers::answer;
+use crate::batch::{Reply, keep_texts};
+use crate::counts::{count_replies, count_reply};
+use crate::delivery::deliver_text;
 use crate::runs::settle;
 use crate::texts::kept_testing_text;
 use crate::unbroken::unbroken_counts;
@@ -38,7 +38,7 @@ use deb_control::Text;
 use office_core_breaks::{BreaksText, Question, breaks_text};
 use office_core_facts::covered::KnownFacts;
 use office_core_orders::ready::ready_count;
-use office_core_orders::waiting::waiting;
+use office_core_orders::waits::waiting;
 use office_core_orders::{DeliverFault, Held, Progress, StoreFault, Waiting, stored};
 use office_core_outcome::{HintText, Proposal, Trial, TrialOptions, hint_told, propose, try_hints};
 use office_core_why::{WhyText, hints_text, unstable_text, why_text};
@@ -138,17 +138,14 @@ impl<K: Keeper> Office<K> {
         ensures step { Holds K.Keeper self.old self.new → Leads (K.setup self.old) (K.content self.old) (delivery text.now result ∷ []) (K.content self.new) }
         ensures answer { Holds K.Keeper self.old self.new → AnswersDelivery result (answer_to (K.setup self.old) (K.content self.old).kept text.now) }
         ensures kept { Holds K.Keeper self.old self.new → OnOk result ((K.content self.new).kept ≡ kept_from (K.setup self.old) (K.content self.old).kept (text.now ∷ [])) }
-        ensures finished { Holds K.Keeper self.old self.new → (state_of K.Keeper self.new).finished ≡ (state_of K.Keeper self.old).finished }
         // No delivery changes testing or a report.
-        ensures testing { Holds K.Keeper self.old self.new → (K.content self.new).testing ≡ (K.content self.old).testing }
-        ensures reports { Holds K.Keeper self.old self.new → (K.content self.new).reports ≡ (K.content self.old).reports }
-        ensures err { Holds K.Keeper self.old self.new → OnErr result (K.content self.new ≡ K.content self.old) }
+        ensures runs { LeavesRuns K.Keeper self.old self.new result }
         ensures place { IfOk result (λ held. held.sender < length (K.setup self.old).senders) }
         ensures carries { Preserves K.Keeper self.old self.new }
         ensures lasts { StaysTrusted K.Keeper self.old self.new (is_ok result) }
         ensures counted { CountedDelivery (K.refusals self.old) (K.refusals self.new) result }
     {
-        let reply = deliver(self.alloc, &self.setup, &mut self.keeper, text);
+        let reply = deliver_text(self.alloc, &self.setup, &mut self.keeper, text);
         count_reply(&mut self.counts, &reply);
         reply
     }
@@ -176,10 +173,7 @@ impl<K: Keeper> Office<K> {
         ensures answers { Holds K.Keeper self.old self.new → IfOk result (λ replies. IfSome replies (λ rs. rs.items ≡ answers_to (K.setup self.old) (K.content self.old).kept texts.now)) }
         ensures kept { Holds K.Keeper self.old self.new → IfOk result (λ replies. IfSome replies (λ rs. (K.content self.new).kept ≡ kept_from (K.setup self.old) (K.content self.old).kept texts.now)) }
         ensures none { Holds K.Keeper self.old self.new → IfOk result (λ replies. replies ≡ None → K.content self.new ≡ K.content self.old) }
-        ensures err { Holds K.Keeper self.old self.new → OnErr result (K.content self.new ≡ K.content self.old) }
-        ensures finished { Holds K.Keeper self.old self.new → (state_of K.Keeper self.new).finished ≡ (state_of K.Keeper self.old).finished }
-        ensures testing { Holds K.Keeper self.old self.new → (K.content self.new).testing ≡ (K.content self.old).testing }
-        ensures reports { Holds K.Keeper self.old self.new → (K.content self.new).reports ≡ (K.content self.old).reports }
+        ensures runs { LeavesRuns K.Keeper self.old self.new result }
         ensures facts { Holds K.Keeper self.old self.new → (K.content self.new).facts ≡ (K.content self.old).facts }
         ensures each { IfOk result (λ replies. IfSome replies (λ rs. length rs.items ≡ length texts.now)) }
         ensures places { IfOk result (λ replies. IfSome replies (λ rs. AreHeldHere (K.setup self.old) rs.items)) }

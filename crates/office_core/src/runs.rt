@@ -10,9 +10,10 @@ ghost use Rattle.office_core_orders.specs.Counted.{Counted};
 ghost use Rattle.office_core_facts.specs.Known.{AreKnown};
 ghost use Rattle.office_core_orders.specs.StaysTrusted.{StaysTrusted};
 ghost use Rattle.office_core_orders.specs.steps.Ready.{IsCounted};
+ghost use Rattle.office_core.specs.steps.StaysOffice.{StaysOffice};
 ghost use Rattle.office_core_facts.specs.State.{IsOffice};
 
-use crate::leaving::next_outcome;
+use crate::results::next_outcome;
 use office_core_facts::covered::KnownFacts;
 use office_core_facts::release::release_place;
 use office_core_orders::ready::next_is_ready;
@@ -20,7 +21,7 @@ use office_core_orders::{StoreFault, stored};
 use office_mail::{RunOrder, Setup};
 use office_store_keeper::Keeper;
 use std::alloc::Global;
-use testing_rules_laws::DelaysIn;
+use testing_rules_model::DelaysIn;
 
 /// Whether these delays, if any, come from the release team, as they do if each text is kept under its own place.
 fn are_of_release(setup: &Setup, delays: Option<DelaysIn>) -> bool
@@ -86,7 +87,7 @@ fn finish_next<K: Keeper>(
     ensures kept { K.is_trusted keeper.new → (K.content keeper.new).kept ≡ (K.content keeper.old).kept }
     ensures reports { K.is_trusted keeper.new → IfOk result (λ ready. length (K.content keeper.new).reports ≡ (if ready then next.now.finished + 1 else next.now.finished)) }
     ensures err { K.is_trusted keeper.new → OnErr result (K.content keeper.new ≡ K.content keeper.old) }
-    ensures office { K.is_trusted keeper.new → K.is_legible keeper.old → IsOffice next.now.setup.now (K.content keeper.old) → IsOffice next.now.setup.now (K.content keeper.new) }
+    ensures office { StaysOffice K.Keeper next.now.setup.now keeper.old keeper.new }
     ensures setup { K.setup keeper.new ≡ K.setup keeper.old }
     ensures before { K.is_trusted keeper.new → K.is_trusted keeper.old }
     ensures legible { K.is_trusted keeper.new → K.is_legible keeper.old → IsOffice next.now.setup.now (K.content keeper.old) → K.is_legible keeper.new }
@@ -130,7 +131,7 @@ pub fn settle<K: Keeper>(
     ensures finished { K.is_trusted keeper.new → IfOk result (λ n. length (K.content keeper.new).reports ≡ n) }
     ensures grows { K.is_trusted keeper.new → length (K.content keeper.old).reports ≤ length (K.content keeper.new).reports }
     ensures kept { K.is_trusted keeper.new → (K.content keeper.new).kept ≡ (K.content keeper.old).kept }
-    ensures office { K.is_trusted keeper.new → K.is_legible keeper.old → IsOffice setup.now (K.content keeper.old) → IsOffice setup.now (K.content keeper.new) }
+    ensures office { StaysOffice K.Keeper setup.now keeper.old keeper.new }
     ensures setup { K.setup keeper.new ≡ K.setup keeper.old }
     ensures before { K.is_trusted keeper.new → K.is_trusted keeper.old }
     ensures legible { K.is_trusted keeper.new → K.is_legible keeper.old → IsOffice setup.now (K.content keeper.old) → K.is_legible keeper.new }

@@ -8,11 +8,11 @@ use office_core_orders::{StoreFault, stored};
 use office_mail::Setup;
 use office_store_keeper::Keeper;
 use std::alloc::Global;
-use testing_rules_laws::Testing;
+use testing_rules_suites::Testing;
 
 /// The text of testing after a number of runs. It fails only if memory runs out.
 #[tactic(auto, unfolding(office_core_facts::specs::Outcome::testing_text))]
-fn testing_text(
+fn finished_testing_text(
     alloc: Global,
     setup: &Setup,
     finished: u32,
@@ -21,7 +21,7 @@ fn testing_text(
     ensures text { IfOk result (λ text. text ≡ testing_text setup.now finished testing.now) }
     ensures no_store { IfErr result (λ fault. fault ≡ StoreFault.NoMemory) }
 {
-    let text = testing_rules_laws::testing_text(alloc, setup.archs(), finished, testing)?;
+    let text = testing_rules_reports::testing_text(alloc, setup.archs(), finished, testing)?;
     Ok(Text::from_string(text))
 }
 
@@ -36,7 +36,7 @@ pub fn kept_testing_text<K: Keeper>(
     ensures looks { ReadsStore K.Keeper keeper.old keeper.new result }
 {
     let testing = stored::next_testing(keeper)?;
-    let text = testing_text(alloc, setup, finished, &testing);
+    let text = finished_testing_text(alloc, setup, finished, &testing);
     keeper.give_back(testing);
     text
 }

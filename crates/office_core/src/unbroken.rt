@@ -1,7 +1,7 @@
 //! How far each sender's mail is kept without a gap.
 #![tactic(auto, using(office_core_orders::proofs::LastFacts::lasting))]
 
-ghost use Rattle.std.specs.Prelude.{◌≡◌, ◌≤◌, ℕ, IfOk, length, slice_index};
+ghost use Rattle.std.specs.Prelude.{IfOk, slice_index};
 ghost use Rattle.office_mail.specs.Lists.{Lists};
 ghost use Rattle.office_core_facts.specs.Seen.{IsUnbroken};
 ghost use Rattle.office_core_orders.specs.steps.ReadsStore.{ReadsStore};

@@ -7,7 +7,7 @@ use Rattle.office_store_keeper.specs.declared.faults.Cause.{Cause}
 use Rattle.office_store_keeper.specs.declared.faults.Cause.TheVariants.{BadRow}
 use Rattle.office_store_keeper.specs.declared.faults.KeepFault.{KeepFault}
 use Rattle.office_store_keeper.specs.declared.faults.KeepFault.TheVariants as keep
-use Rattle.office_store_keeper.specs.declared.keeping.Keeper.{Ghosts}
+use Rattle.office_store_keeper.specs.declared.keeper.Keeper.{Ghosts}
 use Rattle.office_core_orders.specs.Counted.{Counted}
 use Rattle.office_core_orders.specs.declared.faults.StoreFault.{StoreFault}
 use Rattle.office_core_orders.specs.declared.faults.StoreFault.TheVariants as store

@@ -9,7 +9,7 @@ use Rattle.office_store_keeper.specs.Provenance.{AreOwnTexts}
 use Rattle.office_store_keeper.specs.declared.faults.Cause.TheVariants.{BadRow}
 use Rattle.office_store_keeper.specs.declared.faults.KeepFault.{KeepFault}
 use Rattle.office_store_keeper.specs.declared.faults.KeepFault.TheVariants.{NoMemory, Store}
-use Rattle.office_store_keeper.specs.declared.keeping.Keeper.{Ghosts}
+use Rattle.office_store_keeper.specs.declared.keeper.Keeper.{Ghosts}
 use Rattle.office_core_orders.proofs.LastFacts.{risen_after, risen_before}
 use Rattle.office_core_check.specs.steps.Unread.{Asks, IsReadable}
 

@@ -18,8 +18,8 @@ ghost use Rattle.office_core_check.specs.steps.Reading.{IsFront};
 ghost use Rattle.office_core_check.specs.Whole.{AreOfSenders};
 ghost use Rattle.office_core_check.specs.declared.memory.Bounded.{Bounded};
 
-use crate::delivering::{make_anew, new_office};
 use crate::memory::Bounded;
+use crate::rebuilt::{make_anew, new_office};
 use office_core::Office;
 use office_core_orders::StoreFault;
 use office_core_why::WhyText;

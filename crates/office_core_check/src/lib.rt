@@ -3,19 +3,19 @@
 //! mail; and what an office tells of a source for a run.
 #![tactic(auto)]
 
-mod checking;
-mod comparing;
-mod delivering;
+mod comparison;
 mod earlier;
 mod letters;
 mod memory;
-mod telling;
+mod rebuilt;
+mod report;
+mod store_check;
 mod unread;
 
-pub use checking::check;
 pub use earlier::{office_after, office_before, told_after_run, why_of_run};
 pub use memory::Bounded;
-pub use telling::{check_status, checked_text};
+pub use report::{check_status, checked_text};
+pub use store_check::check;
 
 /// The first difference of a store from an office that took the same mail.
 #[derive(Clone, Copy, Debug, PartialEq, Eq)]

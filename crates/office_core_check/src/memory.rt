@@ -1,6 +1,6 @@
 //! A store in memory that has room for some runs.
 
-ghost use Rattle.std.specs.Prelude.{◌≡◌, [], IfOk, ⊤};
+ghost use Rattle.std.specs.Prelude.{◌≡◌, IfOk, ⊤};
 ghost use Rattle.std.specs.FinMap.{len};
 ghost use Rattle.office_store_keeper.specs.Content.{no_content};
 ghost use Rattle.office_store_keeper.specs.MemoryState.{content_of};

@@ -1,6 +1,6 @@
 -- Questions to an office, one after another, with what is written meanwhile.
 use Rattle.std.proofs.Common.{◌≡◌, ℕ, Bool, true, Result, Ok, is_ok, refl, subst}
-use Rattle.office_store_keeper.specs.declared.keeping.Keeper.{Ghosts}
+use Rattle.office_store_keeper.specs.declared.keeper.Keeper.{Ghosts}
 use Rattle.office_core_orders.specs.Counted.{Counted}
 use Rattle.office_core_orders.specs.declared.faults.StoreFault.{StoreFault}
 use Rattle.office_core.specs.Preserves.{Asks, AsksOffice, Holds}

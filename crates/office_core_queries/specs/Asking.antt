@@ -1,7 +1,7 @@
 -- What a question to an office whose answer is written leaves of its store, and what it counts.
 use Rattle.std.specs.Prelude.{◌≡◌, ℕ, Result, Err, is_ok}
 use Rattle.office_mail.specs.Counts.{HasRisen}
-use Rattle.office_store_keeper.specs.declared.keeping.Keeper.{Ghosts}
+use Rattle.office_store_keeper.specs.declared.keeper.Keeper.{Ghosts}
 use Rattle.office_core_orders.specs.declared.faults.StoreFault.{StoreFault}
 use Rattle.office_core.specs.Preserves.{Asks}
 use Rattle.office_core_orders.specs.StaysTrusted.{StaysTrusted}

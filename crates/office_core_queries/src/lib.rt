@@ -4,11 +4,11 @@
 
 pub mod backup_laws;
 mod covers;
-mod exporting;
 mod faults;
 mod hints;
-mod listing;
+mod list;
 mod mail;
+mod mail_export;
 mod message_line;
 mod next_order;
 mod numbers;
@@ -16,10 +16,10 @@ mod parts;
 mod run_lines;
 mod walk;
 
-pub use exporting::export;
 pub use faults::AskFault;
-pub use listing::write_list;
+pub use list::write_list;
 pub use mail::{MailCount, mail_counts, mail_text};
+pub use mail_export::export;
 pub use next_order::order_text;
 pub use parts::bag_part;
 pub use run_lines::runs_text;

@@ -1,6 +1,6 @@
 //! The line on a message.
 ghost use Rattle.std.specs.Prelude.{◌≡◌, ◌++◌, [], IfOk, OnOk, string_bytes};
-ghost use Rattle.office_core_queries.specs.Listing.{body_words, line_of, message_line, order_words, saying_words, text_line};
+ghost use Rattle.office_core_queries.specs.Listing.{body_words, message_line, order_words, saying_words, text_line};
 
 use crate::covers::{push_listed, stated_covers};
 use crate::hints::push_hint;

@@ -1,5 +1,5 @@
 //! The message of the next order to run.
-ghost use Rattle.std.specs.Prelude.{◌≡◌, ◌==◌, ◌+◌, ◌++◌, ◌∷◌, [], IfOk, OnOk, codes, decimal, if◌then◌else◌, length, slice_index, string_bytes};
+ghost use Rattle.std.specs.Prelude.{◌≡◌, ◌==◌, ◌+◌, ◌++◌, ◌∷◌, [], IfOk, OnOk, codes, decimal, length, slice_index, string_bytes};
 ghost use Rattle.jiff.specs.Words.{date_text};
 ghost use Rattle.office_mail.specs.Runs.{runs};
 ghost use Rattle.office_core_orders.specs.Replies.{name_at};

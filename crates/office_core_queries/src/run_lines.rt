@@ -1,10 +1,9 @@
 //! The lines on the finished runs.
 
 ghost use Rattle.std.specs.Prelude.{◌≡◌, ◌++◌, ◌≤◌, [], IfOk, OnOk, string_bytes, unwrap_or};
-ghost use Rattle.std.specs.Option.{option_map};
 ghost use Rattle.office_core_orders.specs.Counted.{Counted};
 ghost use Rattle.office_core.specs.Preserves.{Asks, Holds};
-ghost use Rattle.office_core_facts.specs.State.{reports_at, state_of};
+ghost use Rattle.office_core_facts.specs.State.{state_of};
 ghost use Rattle.office_core_queries.specs.RunLines.{word_at, has_word, is_line, count_of, date_of, excuse_counts, update_counts, run_line, line_on, runs_text};
 
 use deb_control::Text;
@@ -37,38 +36,10 @@ pub fn runs_text<K: Keeper>(office: &mut Office<K>) -> Result<Text, StoreFault>
     ensures asks { Asks K.Keeper office.old office.new }
     ensures counted { Counted (K.refusals office.old) (K.refusals office.new) result }
 {
-    let count = finished(office)?;
+    let count = office.finished()?;
     let mut text = String::new(office.alloc());
     push_runs(&mut text, office, count)?;
     Ok(Text::from_string(text))
-}
-
-/// How many runs are finished.
-fn finished<K: Keeper>(office: &mut Office<K>) -> Result<u32, StoreFault>
-    ensures finished { Holds K.Keeper office.old office.new → IfOk result (λ n. n ≡ (state_of K.Keeper office.old).finished) }
-    ensures asks { Asks K.Keeper office.old office.new }
-    ensures counted { Counted (K.refusals office.old) (K.refusals office.new) result }
-{
-    let progress = office.status()?;
-    Ok(progress.finished)
-}
-
-/// The excuses of a run.
-fn excuses_of<K: Keeper>(office: &mut Office<K>, run: u32) -> Result<Option<Text>, StoreFault>
-    ensures text { Holds K.Keeper office.old office.new → IfOk result (λ text. text ≡ option_map (λ reports. reports.excuses) (reports_at (state_of K.Keeper office.old) run)) }
-    ensures asks { Asks K.Keeper office.old office.new }
-    ensures counted { Counted (K.refusals office.old) (K.refusals office.new) result }
-{
-    office.excuses_text(run)
-}
-
-/// The update of a run.
-fn update_of<K: Keeper>(office: &mut Office<K>, run: u32) -> Result<Option<Text>, StoreFault>
-    ensures text { Holds K.Keeper office.old office.new → IfOk result (λ text. text ≡ option_map (λ reports. reports.updates) (reports_at (state_of K.Keeper office.old) run)) }
-    ensures asks { Asks K.Keeper office.old office.new }
-    ensures counted { Counted (K.refusals office.old) (K.refusals office.new) result }
-{
-    office.update_text(run)
 }
 
 /// The lines on the runs up to the last finished one.
@@ -99,8 +70,8 @@ fn push_run_line<K: Keeper>(
     ensures asks { Asks K.Keeper office.old office.new }
     ensures counted { Counted (K.refusals office.old) (K.refusals office.new) result }
 {
-    let excuses = excuses_of(office, run)?;
-    let update = update_of(office, run)?;
+    let excuses = office.excuses_text(run)?;
+    let update = office.update_text(run)?;
     push_run(text, run, text_in(&excuses), text_in(&update))?;
     Ok(())
 }

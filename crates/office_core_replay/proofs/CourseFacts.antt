@@ -14,7 +14,7 @@ use Rattle.office_core_orders.specs.Replies.{any_lost}
 use Rattle.office_core_orders.proofs.WrittenFacts.{front_before}
 use Rattle.office_core_facts.specs.OfficeState.{OfficeState}
 use Rattle.office_core_facts.specs.State.{state_of}
-use Rattle.office_store_keeper.specs.declared.keeping.Keeper.{Ghosts}
+use Rattle.office_store_keeper.specs.declared.keeper.Keeper.{Ghosts}
 use Rattle.office_core_replay.specs.declared.replays.Replayed.{Replayed}
 use Rattle.office_core_orders.specs.Written.{AppendsFront}
 use Rattle.office_core_replay.specs.Output.{Marks, output}

@@ -27,7 +27,7 @@ use Rattle.office_core_replay.specs.steps.DeliverySteps.{DeliversOne, DeliversOn
 use Rattle.office_core_facts.specs.OfficeState.{OfficeState}
 use Rattle.office_core_orders.specs.Written.{AppendsFront}
 use Rattle.office_store_keeper.specs.Content.{Content}
-use Rattle.office_store_keeper.specs.declared.keeping.Keeper.{Ghosts}
+use Rattle.office_store_keeper.specs.declared.keeper.Keeper.{Ghosts}
 use Rattle.std.proofs.lemmas.Result.{on_err_weaker}
 use Rattle.std.specs.Io.KnownBytes.{Appends}
 use Rattle.office_core.proofs.CarryFacts.{risen, risen_delivery}

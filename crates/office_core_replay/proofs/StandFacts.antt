@@ -4,7 +4,7 @@ use Rattle.office_mail.specs.Kept.{Within}
 use Rattle.office_mail.specs.Lists.{Lists}
 use Rattle.office_mail.specs.Reading.{Reading}
 use Rattle.office_mail.proofs.KeptFacts.{kept_from-Within}
-use Rattle.office_store_keeper.specs.declared.keeping.Keeper.{Ghosts}
+use Rattle.office_store_keeper.specs.declared.keeper.Keeper.{Ghosts}
 use Rattle.office_core_replay.specs.declared.replays.Replayed.{Replayed}
 use Rattle.office_core_orders.specs.declared.replies.Delivery.{Delivery}
 use Rattle.office_core_orders.specs.declared.replies.WriteFault.{WriteFault}

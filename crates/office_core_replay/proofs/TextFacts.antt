@@ -1,7 +1,7 @@
 -- The texts at the end of a replay, as calls on an office answer them one after another.
 use Rattle.std.proofs.Common.{◌≡◌, ℕ, ◌≤◌, List, Option, Result, IfOk, subst}
 use Rattle.std.specs.Option.{option_map}
-use Rattle.office_store_keeper.specs.declared.keeping.Keeper.{Ghosts}
+use Rattle.office_store_keeper.specs.declared.keeper.Keeper.{Ghosts}
 use Rattle.office_store_keeper.specs.declared.values.Reports.{Reports}
 use Rattle.office_core_orders.specs.declared.faults.StoreFault.{StoreFault}
 use Rattle.office_core.specs.Preserves.{Asks, Holds, StoreRefused}

@@ -1,14 +1,18 @@
 -- What a replay of a bag does and writes.
-use Rattle.std.specs.Prelude.{◌≡◌, ℕ, ◌⊎◌, List, [], Option, Some, None, Bool, true, not, ◌||◌, if◌then◌else◌, is_some, IsTrue, Result, Ok, Err}
+use Rattle.std.specs.Prelude.{◌≡◌, ℕ, ◌⊎◌, List, [], Option, Some, None, Bool, true, not, ◌||◌, if◌then◌else◌, is_some, IsTrue, Result, Ok, Err, IfOk, OnErr}
 use Rattle.std.specs.Io.KnownBytes.{Appends}
 use Rattle.office_mail.specs.declared.bag.BagFault.{BagFault}
+use Rattle.office_mail.specs.declared.feed.Sink.{Ghosts as Writer}
 use Rattle.office_mail.specs.Reading.{Reading}
 use Rattle.office_mail.specs.Runs.{IsReady, IsReadyCount}
+use Rattle.office_store_keeper.specs.declared.keeper.Keeper.{Ghosts}
 use Rattle.office_core_orders.specs.declared.faults.StoreFault.{StoreFault}
 use Rattle.office_core_orders.specs.declared.replies.Delivery.{Delivery}
 use Rattle.office_core_orders.specs.declared.replies.WriteFault.{WriteFault}
 use Rattle.office_core_replay.specs.declared.replays.Replayed.{Replayed}
 use Rattle.office_core_facts.specs.OfficeState.{OfficeState}
+use Rattle.office_core_facts.specs.State.{state_of}
+use Rattle.office_core.specs.Preserves.{Holds, StoreRefused}
 use Rattle.office_core_orders.specs.Written.{AppendsFront}
 use Rattle.office_core_orders.specs.Replies.{any_lost}
 use Rattle.office_core_replay.specs.Output.{Marks, output, or_refused}
@@ -72,6 +76,16 @@ pub record RefusesFront (before after : OfficeState) (start now : Reading) (old 
 abbrev pub StopsReplay : OfficeState → OfficeState → Reading → Reading → Option (List ℕ) → Option (List ℕ) → Type 0 → Type 0
 StopsReplay before after start now old new rose =
     StopsEarly before after start now old new rose ⊎ (ReplaysFront before after start now old new rose ⊎ RefusesFront before after start now old new rose)
+
+-- a call replays a bag, wherever the store is trusted and held what an office leaves
+abbrev pub ReplaysIn : {K W : Type 0} → Ghosts K → Writer W → K → K → Reading → Reading → W → W → Result Replayed WriteFault → Type 0
+ReplaysIn keeper sink old new start behind was now result =
+    Holds keeper old new → IfOk result (λ replayed. Replays (state_of keeper old) (state_of keeper new) start behind (sink.written was) (sink.written now) replayed (StoreRefused keeper old new))
+
+-- and what it leaves if its writer failed
+abbrev pub StopsIn : {K W : Type 0} → Ghosts K → Writer W → K → K → Reading → Reading → W → W → Result Replayed WriteFault → Type 0
+StopsIn keeper sink old new start behind was now result =
+    Holds keeper old new → OnErr result (StopsReplay (state_of keeper old) (state_of keeper new) start behind (sink.written was) (sink.written now) (StoreRefused keeper old new))
 
 -- the exit status of a replay
 abbrev pub status_of : Result Replayed WriteFault → ℕ

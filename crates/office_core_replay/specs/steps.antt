@@ -1,4 +1,5 @@
 -- What serves proofs alone: no contract of a call that users make rests on it.
 pub mod BlockSteps
+pub mod Calls
 pub mod DeliverySteps
 pub mod Ending

@@ -1,21 +1,21 @@
 //! A replay a block of messages at a time: the texts of a block are kept together, or else delivered one by one.
-ghost use Rattle.std.specs.Prelude.{◌≡◌, ◌+◌, ◌<◌, ◌≤◌, ◌⊎◌, [], None, Some, false, flat_map, length, vec_len, vec_capacity, IfErr, IfOk, IfSome, OnErr, OnOk};
+ghost use Rattle.std.specs.Prelude.{◌≡◌, ◌+◌, ◌<◌, ◌≤◌, ◌⊎◌, [], None, Some, false, flat_map, length, vec_len, vec_capacity, IfErr, IfSome, OnErr, OnOk};
 ghost use Rattle.office_mail.specs.BagSteps.{ReadFails, CountsEach};
 ghost use Rattle.office_mail.specs.Kept.{kept_from};
 ghost use Rattle.office_core_orders.specs.Counted.{CountsFailure};
 ghost use Rattle.office_core_orders.specs.Replies.{reply_line};
 ghost use Rattle.office_core_orders.specs.Written.{Writes};
 ghost use Rattle.office_core.specs.Together.{AreHeldHere, answers_to};
-ghost use Rattle.office_core_replay.specs.steps.BlockSteps.{DeliversLastFront, DeliversTextsFront, TakesLast, TakesTexts};
-ghost use Rattle.office_core_replay.specs.Blocks.{DeliversTexts};
-ghost use Rattle.office_core_replay.specs.Delivered.{DeliversFront, KeepsMail};
-ghost use Rattle.office_core_replay.specs.steps.DeliverySteps.{DeliversAll};
-ghost use Rattle.office_core.specs.Preserves.{Preserves, Holds, StoreRefused};
+ghost use Rattle.office_core_replay.specs.steps.BlockSteps.{TakesLast, TakesTexts};
+ghost use Rattle.office_core_replay.specs.Delivered.{KeepsMail};
+ghost use Rattle.office_core_replay.specs.ReadsBag.{ReadsBag};
+ghost use Rattle.office_core_replay.specs.steps.Calls.{DeliversBag, StopsBag, DeliversBlock, StopsBlock};
+ghost use Rattle.office_core.specs.Preserves.{Preserves, Holds};
 ghost use Rattle.office_core_facts.specs.State.{state_of};
 
-use crate::ending::either;
+use crate::end::either;
 use crate::replays::{Delivered, deliver_each, deliver_one};
-use crate::watching::Watcher;
+use crate::watcher::Watcher;
 use office_core::{Office, Reply};
 use office_core_orders::{WriteFault, write_reply};
 use office_mail::{Bag, BagFault, Feed, Setup, Sink};
@@ -33,8 +33,8 @@ fn deliver_texts<K: Keeper, W: Sink, V: Watcher>(
     watcher: &mut V,
 ) -> Result<bool, WriteFault>
     ensures carries { Preserves K.Keeper office.old office.new }
-    ensures ok { Holds K.Keeper office.old office.new → IfOk result (λ lost. DeliversTexts (state_of K.Keeper office.old) (state_of K.Keeper office.new) texts.now (W.written writer.old) (W.written writer.new) lost (StoreRefused K.Keeper office.old office.new)) }
-    ensures front { Holds K.Keeper office.old office.new → OnErr result (DeliversTextsFront (state_of K.Keeper office.old) (state_of K.Keeper office.new) texts.now (W.written writer.old) (W.written writer.new) (StoreRefused K.Keeper office.old office.new)) }
+    ensures ok { DeliversBlock K.Keeper W.Sink office.old office.new texts.now writer.old writer.new result }
+    ensures front { StopsBlock K.Keeper W.Sink office.old office.new texts.now writer.old writer.new result }
     ensures failures { CountsFailure (W.failures writer.old) (W.failures writer.new) result }
 {
     let mut lost = false;
@@ -129,8 +129,8 @@ fn deliver_block<K: Keeper, W: Sink, V: Watcher>(
     watcher: &mut V,
 ) -> Result<bool, WriteFault>
     ensures carries { Preserves K.Keeper office.old office.new }
-    ensures ok { Holds K.Keeper office.old office.new → IfOk result (λ lost. DeliversTexts (state_of K.Keeper office.old) (state_of K.Keeper office.new) texts.now (W.written writer.old) (W.written writer.new) lost (StoreRefused K.Keeper office.old office.new)) }
-    ensures front { Holds K.Keeper office.old office.new → OnErr result (DeliversTextsFront (state_of K.Keeper office.old) (state_of K.Keeper office.new) texts.now (W.written writer.old) (W.written writer.new) (StoreRefused K.Keeper office.old office.new)) }
+    ensures ok { DeliversBlock K.Keeper W.Sink office.old office.new texts.now writer.old writer.new result }
+    ensures front { StopsBlock K.Keeper W.Sink office.old office.new texts.now writer.old writer.new result }
     ensures failures { CountsFailure (W.failures writer.old) (W.failures writer.new) result }
 {
     match keep_together(office, texts) {
@@ -187,13 +187,10 @@ fn deliver_blocks<K: Keeper, R: Feed, W: Sink, V: Watcher>(
     requires open { bag.old.ended ≡ false }
     requires room { 0 < vec_capacity texts.old }
     ensures carries { Preserves K.Keeper office.old office.new }
-    ensures all { Holds K.Keeper office.old office.new → IfOk result (λ delivered. DeliversAll (state_of K.Keeper office.old) (state_of K.Keeper office.new) bag.old bag.new (W.written writer.old) (W.written writer.new) delivered.end delivered.lost (StoreRefused K.Keeper office.old office.new)) }
-    ensures front { Holds K.Keeper office.old office.new → OnErr result (DeliversFront (state_of K.Keeper office.old) (state_of K.Keeper office.new) bag.old bag.new (W.written writer.old) (W.written writer.new) (StoreRefused K.Keeper office.old office.new)
-        ⊎ DeliversLastFront (state_of K.Keeper office.old) (state_of K.Keeper office.new) bag.old bag.new (W.written writer.old) (W.written writer.new) (StoreRefused K.Keeper office.old office.new)) }
-    ensures read_cause { IfOk result (λ delivered. delivered.end ≡ Some BagFault.ReadFault → ReadFails bag.old bag.new) }
-    ensures read_clean { IfOk result (λ delivered. (delivered.end ≡ Some BagFault.ReadFault) ⊎ (bag.new.failures ≡ bag.old.failures)) }
+    ensures all { DeliversBag K.Keeper W.Sink office.old office.new bag.old bag.new writer.old writer.new result }
+    ensures front { StopsBag K.Keeper W.Sink office.old office.new bag.old bag.new writer.old writer.new result }
+    ensures read { ReadsBag bag.old bag.new result (λ delivered. delivered.end) }
     ensures reads { bag.new.reads ≤ 1_000_000 }
-    ensures calls { bag.new.calls + bag.old.reads ≤ bag.old.calls + bag.new.reads }
     ensures counts { CountsEach bag.old bag.new }
     ensures failures { CountsFailure (W.failures writer.old) (W.failures writer.new) result }
 {
@@ -229,16 +226,14 @@ pub(crate) fn deliver_all<K: Keeper, R: Feed, W: Sink, V: Watcher>(
 ) -> Result<Delivered, WriteFault>
     requires { bag.old.ended ≡ false }
     ensures carries { Preserves K.Keeper office.old office.new }
-    ensures all { Holds K.Keeper office.old office.new → IfOk result (λ delivered. DeliversAll (state_of K.Keeper office.old) (state_of K.Keeper office.new) bag.old bag.new (W.written writer.old) (W.written writer.new) delivered.end delivered.lost (StoreRefused K.Keeper office.old office.new)) }
+    ensures all { DeliversBag K.Keeper W.Sink office.old office.new bag.old bag.new writer.old writer.new result }
     // What a writer that fails leaves: the bag may have stopped already, after the last block.
-    ensures front { Holds K.Keeper office.old office.new → OnErr result (DeliversFront (state_of K.Keeper office.old) (state_of K.Keeper office.new) bag.old bag.new (W.written writer.old) (W.written writer.new) (StoreRefused K.Keeper office.old office.new)
-        ⊎ DeliversLastFront (state_of K.Keeper office.old) (state_of K.Keeper office.new) bag.old bag.new (W.written writer.old) (W.written writer.new) (StoreRefused K.Keeper office.old office.new)) }
+    ensures front { StopsBag K.Keeper W.Sink office.old office.new bag.old bag.new writer.old writer.new result }
 
-    // A read failed exactly if the bag is refused for it, except for the last of the reads.
-    ensures read_cause { IfOk result (λ delivered. delivered.end ≡ Some BagFault.ReadFault → ReadFails bag.old bag.new) }
-    ensures read_clean { IfOk result (λ delivered. (delivered.end ≡ Some BagFault.ReadFault) ⊎ (bag.new.failures ≡ bag.old.failures)) }
+    // A read failed exactly if the bag is refused for it, except for the last of the reads. Each counted read was a call
+    // of the reader.
+    ensures read { ReadsBag bag.old bag.new result (λ delivered. delivered.end) }
     ensures reads { bag.new.reads ≤ 1_000_000 }
-    ensures calls { bag.new.calls + bag.old.reads ≤ bag.old.calls + bag.new.reads }
     ensures counts { CountsEach bag.old bag.new }
 
     ensures failures { CountsFailure (W.failures writer.old) (W.failures writer.new) result }

@@ -2,10 +2,10 @@
 #![tactic(auto)]
 
 mod blocks;
-mod ending;
+mod end;
 pub mod replay_laws;
 mod replays;
-mod watching;
+mod watcher;
 
 pub use replays::{Replayed, replay, replay_status, replay_watched, settle_behind};
-pub use watching::{Unwatched, Watcher};
+pub use watcher::{Unwatched, Watcher};

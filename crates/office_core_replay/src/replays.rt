@@ -1,19 +1,21 @@
 //! Replays of bags of mail.
-ghost use Rattle.std.specs.Prelude.{◌≡◌, ◌≤◌, ◌+◌, ◌⊎◌, [], false, Some, IfOk, OnErr, is_ok};
-ghost use Rattle.office_mail.specs.BagSteps.{ReadFails, CountsEach};
+ghost use Rattle.std.specs.Prelude.{◌≡◌, ◌≤◌, ◌⊎◌, false, Some, IfOk, OnErr, is_ok};
+ghost use Rattle.office_mail.specs.BagSteps.{CountsEach};
+ghost use Rattle.office_core_replay.specs.ReadsBag.{ReadsBag};
+ghost use Rattle.office_core_replay.specs.steps.Calls.{DeliversBag};
 ghost use Rattle.office_core.specs.Preserves.{Preserves, Holds, StoreRefused};
 ghost use Rattle.office_core_replay.specs.Delivered.{DeliversFront};
-ghost use Rattle.office_core_replay.specs.steps.DeliverySteps.{DeliversAll, DeliversOne, DeliversOneFront, Settles};
+ghost use Rattle.office_core_replay.specs.steps.DeliverySteps.{DeliversOne, DeliversOneFront, Settles};
 ghost use Rattle.office_core.specs.Laws.{RunsStand};
 ghost use Rattle.office_core_replay.specs.Losses.{is_short};
-ghost use Rattle.office_core_replay.specs.Replay.{Replays, ReplaysAll, ReplaysFront, StopsEarly, StopsReplay, status_of};
+ghost use Rattle.office_core_replay.specs.Replay.{ReplaysIn, StopsIn, ReplaysAll, ReplaysFront, StopsEarly, status_of};
 ghost use Rattle.office_core_facts.specs.State.{state_of};
 ghost use Rattle.office_core_orders.specs.Counted.{CountsFailure};
 ghost use Rattle.office_core_orders.specs.Replies.{mark_of};
 
 use crate::blocks::deliver_all;
-use crate::ending::{either, write_bag, write_end, write_refusal};
-use crate::watching::{Unwatched, Watcher};
+use crate::end::{either, write_bag, write_end, write_refusal};
+use crate::watcher::{Unwatched, Watcher};
 use office_core::Office;
 use office_core_orders::{DeliverFault, Held, Mark, WriteFault, write_reply};
 use office_mail::{Bag, BagFault, Feed, MailFault, Sink};
@@ -89,14 +91,13 @@ pub(crate) fn deliver_each<K: Keeper, R: Feed, W: Sink, V: Watcher>(
 ) -> Result<Delivered, WriteFault>
     requires { bag.old.ended ≡ false }
     ensures carries { Preserves K.Keeper office.old office.new }
-    ensures all { Holds K.Keeper office.old office.new → IfOk result (λ delivered. DeliversAll (state_of K.Keeper office.old) (state_of K.Keeper office.new) bag.old bag.new (W.written writer.old) (W.written writer.new) delivered.end delivered.lost (StoreRefused K.Keeper office.old office.new)) }
+    ensures all { DeliversBag K.Keeper W.Sink office.old office.new bag.old bag.new writer.old writer.new result }
     ensures front { Holds K.Keeper office.old office.new → OnErr result (DeliversFront (state_of K.Keeper office.old) (state_of K.Keeper office.new) bag.old bag.new (W.written writer.old) (W.written writer.new) (StoreRefused K.Keeper office.old office.new)) }
 
-    // A read failed exactly if the bag is refused for it, except for the last of the reads.
-    ensures read_cause { IfOk result (λ delivered. delivered.end ≡ Some BagFault.ReadFault → ReadFails bag.old bag.new) }
-    ensures read_clean { IfOk result (λ delivered. (delivered.end ≡ Some BagFault.ReadFault) ⊎ (bag.new.failures ≡ bag.old.failures)) }
+    // A read failed exactly if the bag is refused for it, except for the last of the reads. Each counted read was a call
+    // of the reader.
+    ensures read { ReadsBag bag.old bag.new result (λ delivered. delivered.end) }
     ensures reads { bag.new.reads ≤ 1_000_000 }
-    ensures calls { bag.new.calls + bag.old.reads ≤ bag.old.calls + bag.new.reads }
     ensures counts { CountsEach bag.old bag.new }
 
     ensures failures { CountsFailure (W.failures writer.old) (W.failures writer.new) result }
@@ -137,19 +138,18 @@ pub fn replay<K: Keeper, R: Feed, W: Sink>(
     // A store trusted after the call was trusted before, and holds an office's state if it did. What the replay makes
     // of it is known while it is trusted; the store loses something only if it counted a refusal.
     ensures carries { Preserves K.Keeper office.old office.new }
-    ensures ok { Holds K.Keeper office.old office.new → IfOk result (λ replayed. Replays (state_of K.Keeper office.old) (state_of K.Keeper office.new) bag.old bag.new (W.written writer.old) (W.written writer.new) replayed (StoreRefused K.Keeper office.old office.new)) }
-    ensures err { Holds K.Keeper office.old office.new → OnErr result (StopsReplay (state_of K.Keeper office.old) (state_of K.Keeper office.new) bag.old bag.new (W.written writer.old) (W.written writer.new) (StoreRefused K.Keeper office.old office.new)) }
+    ensures ok { ReplaysIn K.Keeper W.Sink office.old office.new bag.old bag.new writer.old writer.new result }
+    ensures err { StopsIn K.Keeper W.Sink office.old office.new bag.old bag.new writer.old writer.new result }
 
     // Finished runs stay: their reports, and testing unless another run finished.
     ensures runs { Holds K.Keeper office.old office.new → RunsStand (K.content office.old) (K.content office.new) }
 
-    // A read failed exactly if the bag is refused for it, except for the last of the reads.
-    ensures read_cause { IfOk result (λ replayed. replayed.bag ≡ Some BagFault.ReadFault → ReadFails bag.old bag.new) }
-    ensures read_clean { IfOk result (λ replayed. (replayed.bag ≡ Some BagFault.ReadFault) ⊎ (bag.new.failures ≡ bag.old.failures)) }
+    // A read failed exactly if the bag is refused for it, except for the last of the reads. Each counted read was a call
+    // of the reader.
+    ensures read { ReadsBag bag.old bag.new result (λ replayed. replayed.bag) }
 
-    // At most 1,000,000 reads are made, of at most 8,192 bytes each. Each counted read was a call of the reader.
+    // At most 1,000,000 reads are made, of at most 8,192 bytes each.
     ensures reads { bag.old.reads ≤ 1_000_000 → bag.new.reads ≤ 1_000_000 }
-    ensures calls { bag.new.calls + bag.old.reads ≤ bag.old.calls + bag.new.reads }
     ensures counts { CountsEach bag.old bag.new }
 
     ensures failures { CountsFailure (W.failures writer.old) (W.failures writer.new) result }
@@ -167,13 +167,11 @@ pub fn replay_watched<K: Keeper, R: Feed, W: Sink, V: Watcher>(
 ) -> Result<Replayed, WriteFault>
     requires { bag.old.ended ≡ false }
     ensures carries { Preserves K.Keeper office.old office.new }
-    ensures ok { Holds K.Keeper office.old office.new → IfOk result (λ replayed. Replays (state_of K.Keeper office.old) (state_of K.Keeper office.new) bag.old bag.new (W.written writer.old) (W.written writer.new) replayed (StoreRefused K.Keeper office.old office.new)) }
-    ensures err { Holds K.Keeper office.old office.new → OnErr result (StopsReplay (state_of K.Keeper office.old) (state_of K.Keeper office.new) bag.old bag.new (W.written writer.old) (W.written writer.new) (StoreRefused K.Keeper office.old office.new)) }
+    ensures ok { ReplaysIn K.Keeper W.Sink office.old office.new bag.old bag.new writer.old writer.new result }
+    ensures err { StopsIn K.Keeper W.Sink office.old office.new bag.old bag.new writer.old writer.new result }
     ensures runs { Holds K.Keeper office.old office.new → RunsStand (K.content office.old) (K.content office.new) }
-    ensures read_cause { IfOk result (λ replayed. replayed.bag ≡ Some BagFault.ReadFault → ReadFails bag.old bag.new) }
-    ensures read_clean { IfOk result (λ replayed. (replayed.bag ≡ Some BagFault.ReadFault) ⊎ (bag.new.failures ≡ bag.old.failures)) }
+    ensures read { ReadsBag bag.old bag.new result (λ replayed. replayed.bag) }
     ensures reads { bag.old.reads ≤ 1_000_000 → bag.new.reads ≤ 1_000_000 }
-    ensures calls { bag.new.calls + bag.old.reads ≤ bag.old.calls + bag.new.reads }
     ensures counts { CountsEach bag.old bag.new }
     ensures failures { CountsFailure (W.failures writer.old) (W.failures writer.new) result }
 {
@@ -189,12 +187,10 @@ fn replay_bag<K: Keeper, R: Feed, W: Sink, V: Watcher>(
 ) -> Result<Replayed, WriteFault>
     requires { bag.old.ended ≡ false }
     ensures carries { Preserves K.Keeper office.old office.new }
-    ensures ok { Holds K.Keeper office.old office.new → IfOk result (λ replayed. Replays (state_of K.Keeper office.old) (state_of K.Keeper office.new) bag.old bag.new (W.written writer.old) (W.written writer.new) replayed (StoreRefused K.Keeper office.old office.new)) }
-    ensures err { Holds K.Keeper office.old office.new → OnErr result (StopsReplay (state_of K.Keeper office.old) (state_of K.Keeper office.new) bag.old bag.new (W.written writer.old) (W.written writer.new) (StoreRefused K.Keeper office.old office.new)) }
-    ensures read_cause { IfOk result (λ replayed. replayed.bag ≡ Some BagFault.ReadFault → ReadFails bag.old bag.new) }
-    ensures read_clean { IfOk result (λ replayed. (replayed.bag ≡ Some BagFault.ReadFault) ⊎ (bag.new.failures ≡ bag.old.failures)) }
+    ensures ok { ReplaysIn K.Keeper W.Sink office.old office.new bag.old bag.new writer.old writer.new result }
+    ensures err { StopsIn K.Keeper W.Sink office.old office.new bag.old bag.new writer.old writer.new result }
+    ensures read { ReadsBag bag.old bag.new result (λ replayed. replayed.bag) }
     ensures reads { bag.old.reads ≤ 1_000_000 → bag.new.reads ≤ 1_000_000 }
-    ensures calls { bag.new.calls + bag.old.reads ≤ bag.old.calls + bag.new.reads }
     ensures counts { CountsEach bag.old bag.new }
     ensures failures { CountsFailure (W.failures writer.old) (W.failures writer.new) result }
 {
@@ -223,10 +219,8 @@ fn replay_from<K: Keeper, R: Feed, W: Sink, V: Watcher>(
     ensures ok { Holds K.Keeper office.old office.new → before ≡ (state_of K.Keeper office.old).finished → IfOk result (λ replayed. ReplaysAll (state_of K.Keeper office.old) (state_of K.Keeper office.new) bag.old bag.new (W.written writer.old) (W.written writer.new) replayed (StoreRefused K.Keeper office.old office.new)) }
     ensures err { Holds K.Keeper office.old office.new → before ≡ (state_of K.Keeper office.old).finished → OnErr result (StopsEarly (state_of K.Keeper office.old) (state_of K.Keeper office.new) bag.old bag.new (W.written writer.old) (W.written writer.new) (StoreRefused K.Keeper office.old office.new)
         ⊎ ReplaysFront (state_of K.Keeper office.old) (state_of K.Keeper office.new) bag.old bag.new (W.written writer.old) (W.written writer.new) (StoreRefused K.Keeper office.old office.new)) }
-    ensures read_cause { IfOk result (λ replayed. replayed.bag ≡ Some BagFault.ReadFault → ReadFails bag.old bag.new) }
-    ensures read_clean { IfOk result (λ replayed. (replayed.bag ≡ Some BagFault.ReadFault) ⊎ (bag.new.failures ≡ bag.old.failures)) }
+    ensures read { ReadsBag bag.old bag.new result (λ replayed. replayed.bag) }
     ensures reads { bag.new.reads ≤ 1_000_000 }
-    ensures calls { bag.new.calls + bag.old.reads ≤ bag.old.calls + bag.new.reads }
     ensures counts { CountsEach bag.old bag.new }
     ensures failures { CountsFailure (W.failures writer.old) (W.failures writer.new) result }
 {

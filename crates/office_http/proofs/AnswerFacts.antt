@@ -8,9 +8,9 @@ use Rattle.office_mail.specs.declared.message.RunOrder.{RunOrder}
 use Rattle.office_core_orders.specs.Ready.{HasPlaces}
 use Rattle.office_core_orders.specs.Replies.{status_line}
 use Rattle.office_core_orders.specs.WaitingLines.{lack_line, awaited_lines, waiting_text}
-use Rattle.office_core_orders.specs.declared.waiting_lines.Awaited.{Awaited}
-use Rattle.office_core_orders.specs.declared.waiting_lines.Awaited.TheVariants.{Order, Mail}
-use Rattle.office_core_orders.specs.declared.waiting_lines.Lack.{Lack}
+use Rattle.office_core_orders.specs.declared.wait_lines.Awaited.{Awaited}
+use Rattle.office_core_orders.specs.declared.wait_lines.Awaited.TheVariants.{Order, Mail}
+use Rattle.office_core_orders.specs.declared.wait_lines.Lack.{Lack}
 use Rattle.office_http_requests.specs.declared.reply.Answer.{Answer}
 use Rattle.office_http_requests.specs.declared.reply.Answer.TheVariants.{Status, Told}
 use Rattle.office_http_requests.specs.declared.request.Action.{Action}

@@ -4,7 +4,7 @@ use Rattle.std.proofs.lemmas.Grind.{flat_map-append}
 use Rattle.office_mail.specs.Kept.{kept_from}
 use Rattle.office_mail.specs.Lists.{Lists}
 use Rattle.office_store_keeper.specs.Content.{Content, item_from_one, no_content}
-use Rattle.office_store_keeper.specs.declared.keeping.Keeper.{Ghosts}
+use Rattle.office_store_keeper.specs.declared.keeper.Keeper.{Ghosts}
 use Rattle.office_store_keeper.specs.declared.values.Reports.{Reports}
 use Rattle.office_core_orders.specs.Replies.{not_lost}
 use Rattle.office_core_facts.specs.State.{IsOffice, IsSound, reports_at, state_of}

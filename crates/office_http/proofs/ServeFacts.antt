@@ -26,7 +26,7 @@ use Rattle.office_core_orders.specs.declared.faults.StoreFault.{StoreFault}
 use Rattle.office_core_orders.specs.declared.faults.StoreFault.TheVariants as fault
 use Rattle.office_core_orders.specs.declared.replies.Mark.{Mark}
 use Rattle.office_core_orders.specs.declared.replies.Mark.TheVariants.{Taken, LostForMemory, LostForStore}
-use Rattle.office_core_orders.specs.declared.waiting_lines.Awaited.TheVariants.{Order}
+use Rattle.office_core_orders.specs.declared.wait_lines.Awaited.TheVariants.{Order}
 use Rattle.office_http_requests.specs.declared.reply.Refusal.{Refusal}
 use Rattle.office_http_requests.specs.declared.reply.Refusal.TheVariants as refusal
 use Rattle.office_http_requests.specs.declared.reply.Answer.{Answer}

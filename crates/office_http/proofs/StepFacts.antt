@@ -4,7 +4,7 @@ use Rattle.office_mail.specs.Lists.{Lists}
 use Rattle.office_mail.specs.Kept.{Kept, kept_from}
 use Rattle.office_mail.specs.Runs.{IsReadyCount}
 use Rattle.office_mail.proofs.KeptFacts.{kept_from-nil}
-use Rattle.office_store_keeper.specs.declared.keeping.Keeper.{Ghosts}
+use Rattle.office_store_keeper.specs.declared.keeper.Keeper.{Ghosts}
 use Rattle.office_core_facts.specs.OfficeState.{OfficeState}
 use Rattle.office_core_facts.specs.State.{IsOffice, IsSound, state_of}
 use Rattle.office_core_orders.specs.declared.faults.StoreFault.{StoreFault}

@@ -1,5 +1,5 @@
 -- The outcome of one connection: the reply as a function of the request, the office's state and the faults met.
-use Rattle.std.specs.Prelude.{◌≡◌, ⊤, ◌⊎◌, ◌≤◌, ◌<◌, ◌+◌, ℕ, Bool, true, false, not, List, [], ◌∷◌, ◌++◌, ◌==◌, length, map, take, nat_le, if◌then◌else◌, Option, Some, None, Result, Ok, Err, IfErr, IfSome, OnOk, is_ok}
+use Rattle.std.specs.Prelude.{◌≡◌, ⊤, ◌⊎◌, ◌≤◌, ◌<◌, ◌+◌, ℕ, Bool, true, false, not, List, [], ◌∷◌, ◌++◌, ◌==◌, length, map, take, nat_le, if◌then◌else◌, Option, Some, None, Result, Ok, Err, IfOk, IfErr, IfSome, OnOk, is_ok}
 use Rattle.std.specs.Option.{option_map, option_map_or}
 use Rattle.std.specs.FinMap.{get}
 use Rattle.jiff_core.specs.declared.civil.date.Date.{Date}
@@ -8,6 +8,8 @@ use Rattle.std.specs.Str.{is_utf8}
 use Rattle.std.specs.Io.KnownBytes.{Appends, Consumes, IsAtEnd}
 use Rattle.httparse.specs.Grammar.{RequestHead, HasNoRequest, NeverHasRequest}
 use Rattle.httparse.specs.Spans.{RequestExceeds, RequestOverflows}
+use Rattle.office_mail.specs.declared.feed.Feed.{Ghosts as Reader}
+use Rattle.office_mail.specs.declared.feed.Sink.{Ghosts as Writer}
 use Rattle.office_mail.specs.declared.message.MailFault.{MailFault}
 use Rattle.office_mail.specs.declared.message.MailFault.TheVariants as mail
 use Rattle.office_mail.specs.declared.message.Message.{Message}
@@ -16,13 +18,14 @@ use Rattle.office_mail.specs.Kept.{Kept, kept_from}
 use Rattle.office_mail.specs.Lists.{Lists}
 use Rattle.office_mail.specs.Read.{read}
 use Rattle.office_mail.specs.Runs.{IsReady, IsReadyCount, cover, greatest, latest_day, orders_to}
+use Rattle.office_store_keeper.specs.declared.keeper.Keeper.{Ghosts}
 use Rattle.office_store_keeper.specs.declared.values.Letter.{Letter as KeptLetter}
 use Rattle.office_core_orders.specs.declared.faults.DeliverFault.{DeliverFault}
 use Rattle.office_core_orders.specs.declared.faults.DeliverFault.TheVariants.{Mail, Store}
 use Rattle.office_core_orders.specs.declared.faults.Held.{Held}
 use Rattle.office_core_orders.specs.declared.faults.StoreFault.{StoreFault}
 use Rattle.office_core_orders.specs.declared.faults.StoreFault.TheVariants as fault
-use Rattle.office_core_orders.specs.declared.waiting_lines.Awaited.{Awaited}
+use Rattle.office_core_orders.specs.declared.wait_lines.Awaited.{Awaited}
 use Rattle.office_core_orders.specs.WaitingLines.{waiting_text}
 use Rattle.office_http_requests.specs.declared.reply.Refusal.{Refusal}
 use Rattle.office_http_requests.specs.declared.reply.Refusal.TheVariants as refusal
@@ -35,6 +38,7 @@ use Rattle.office_http_requests.specs.declared.request.Page.TheVariants as page
 use Rattle.office_http_requests.specs.declared.request.Posted.{Posted}
 use Rattle.office_http_requests.specs.declared.request.Asked.{Asked}
 use Rattle.office_http_requests.specs.declared.request.Asked.TheVariants as asks
+use Rattle.office_http.specs.declared.serve.Served.{Served}
 use Rattle.office_http.specs.declared.serve.ServeFault.{ServeFault}
 use Rattle.office_http.specs.declared.serve.ServeFault.TheVariants.{Read, Write}
 use Rattle.office_core_breaks.specs.declared.BreaksText.{BreaksText}
@@ -55,7 +59,8 @@ use Rattle.office_http_requests.specs.Reply.{refused, reply_in, reply_bytes, con
 use Rattle.office_http_requests.specs.Request.{BeginsWith, body_room, field_room, head_room}
 use Rattle.office_core_facts.specs.OfficeState.{OfficeState}
 use Rattle.office_core_facts.specs.Seen.{IsSeen}
-use Rattle.office_core_facts.specs.State.{answer_to, reports_at}
+use Rattle.office_core_facts.specs.State.{answer_to, reports_at, state_of}
+use Rattle.office_core.specs.Preserves.{Holds, StoreRefused}
 use Rattle.office_core_orders.specs.Waiting.{Awaits}
 use Rattle.office_core_orders.specs.Written.{AppendsFront}
 use Rattle.office_http.specs.Breaks.{IsBreaksBy, are_many, body_answer, breaks_answer, first_change}
@@ -379,7 +384,18 @@ abbrev pub StopsServe : OfficeState → OfficeState → Option (List ℕ) → Op
 StopsServe before after left left' written written' Read rose = StopsBefore before after left left' written written' (head_room + body_room) (IsAwaited before.setup)
 StopsServe before after left left' written written' Write rose = StopsBefore before after left left' written written' (head_room + body_room) (IsAwaited before.setup) ⊎ RepliedFront before after left left' written written' rose
 
--- A fault comes only if a failure of the reader or the writer was counted. These counts stay if there is no fault.
+-- a call serves one request, wherever the store is trusted and held what an office leaves
+abbrev pub ServesOne : {K R W : Type 0} → Ghosts K → Reader R → Writer W → K → K → R → R → W → W → Result Served ServeFault → Type 0
+ServesOne keeper feed sink old new reader reader' writer writer' result =
+    Holds keeper old new → IfOk result (λ served. Serves (state_of keeper old) (state_of keeper new) (feed.left reader) (feed.left reader') (sink.written writer) (sink.written writer') served.code (StoreRefused keeper old new))
+
+-- and what it leaves if its reader or its writer failed
+abbrev pub StopsOne : {K R W : Type 0} → Ghosts K → Reader R → Writer W → K → K → R → R → W → W → Result Served ServeFault → Type 0
+StopsOne keeper feed sink old new reader reader' writer writer' result =
+    Holds keeper old new → IfErr result (λ fault. StopsServe (state_of keeper old) (state_of keeper new) (feed.left reader) (feed.left reader') (sink.written writer) (sink.written writer') fault (StoreRefused keeper old new))
+
+-- `Read` comes only if a failure of the reader was counted, and `Write` only if one of the writer was. Both counts stay
+-- if there is no fault.
 pub record CountsFaults {T : Type 0} (reads reads' writes writes' : ℕ) (result : Result T ServeFault) : Type 0 where
   pub read : IfErr result (λ fault. fault ≡ Read → HasRisen reads reads')
   pub write : IfErr result (λ fault. fault ≡ Write → HasRisen writes writes')

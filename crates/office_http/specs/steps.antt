@@ -1,2 +1,3 @@
 -- What serves proofs alone: no contract of a call that users make rests on it.
+pub mod Calls
 pub mod ServeSteps

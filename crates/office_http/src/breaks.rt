@@ -1,11 +1,10 @@
 //! What a request asks that a change would break.
 ghost use Rattle.std.specs.Prelude.{◌≡◌, IfOk};
-ghost use Rattle.office_core.specs.Preserves.{Asks, Holds};
+ghost use Rattle.office_core.specs.Preserves.{Holds};
 ghost use Rattle.office_core_facts.specs.State.{state_of};
-ghost use Rattle.office_core_orders.specs.Counted.{Counted};
+ghost use Rattle.office_http.specs.steps.Calls.{AsksPlaced};
 ghost use Rattle.office_http.specs.steps.ServeSteps.{TellsBreaks, TellsChanges, TellsQuestion, told_answer};
 ghost use Rattle.office_http.specs.Trials.{hints_in};
-ghost use Rattle.office_http_requests.specs.steps.Reply.{HasPlace};
 
 use crate::short_texts::short_answer;
 use crate::trials::{hint_at, hints_in, refused_hint};
@@ -32,10 +31,8 @@ fn answer_question<K: Keeper>(
     office: &mut Office<K>,
     question: Question,
 ) -> Result<Answer, StoreFault>
-    ensures asks { Asks K.Keeper office.old office.new }
-    ensures place { IfOk result (λ answer. HasPlace (K.setup office.old) answer) }
+    ensures asks { AsksPlaced K.Keeper office.old office.new result }
     ensures tells { Holds K.Keeper office.old office.new → IfOk result (λ answer. TellsQuestion (state_of K.Keeper office.old) question answer) }
-    ensures counted { Counted (K.refusals office.old) (K.refusals office.new) result }
 {
     let told = office.breaks_text(&question);
     drop(question);
@@ -44,10 +41,8 @@ fn answer_question<K: Keeper>(
 
 /// The answer to words that ask what a change breaks.
 fn breaks_by<K: Keeper>(office: &mut Office<K>, words: &str) -> Result<Answer, StoreFault>
-    ensures asks { Asks K.Keeper office.old office.new }
-    ensures place { IfOk result (λ answer. HasPlace (K.setup office.old) answer) }
+    ensures asks { AsksPlaced K.Keeper office.old office.new result }
     ensures tells { Holds K.Keeper office.old office.new → IfOk result (λ answer. TellsBreaks (state_of K.Keeper office.old) words.now answer) }
-    ensures counted { Counted (K.refusals office.old) (K.refusals office.new) result }
 {
     match question_in(office.alloc(), office.setup(), words) {
         Ok(question) => answer_question(office, question),
@@ -61,10 +56,8 @@ pub(crate) fn breaks_of<K: Keeper>(
     office: &mut Office<K>,
     source: Text,
 ) -> Result<Answer, StoreFault>
-    ensures asks { Asks K.Keeper office.old office.new }
-    ensures place { IfOk result (λ answer. HasPlace (K.setup office.old) answer) }
+    ensures asks { AsksPlaced K.Keeper office.old office.new result }
     ensures tells { Holds K.Keeper office.old office.new → IfOk result (λ answer. TellsBreaks (state_of K.Keeper office.old) source answer) }
-    ensures counted { Counted (K.refusals office.old) (K.refusals office.new) result }
 {
     let answer = breaks_by(office, source.as_str());
     drop(source);
@@ -73,10 +66,8 @@ pub(crate) fn breaks_of<K: Keeper>(
 
 /// The answer to changes: one request asks about one.
 fn answer_changes<K: Keeper>(office: &mut Office<K>, changes: &[Text]) -> Result<Answer, StoreFault>
-    ensures asks { Asks K.Keeper office.old office.new }
-    ensures place { IfOk result (λ answer. HasPlace (K.setup office.old) answer) }
+    ensures asks { AsksPlaced K.Keeper office.old office.new result }
     ensures tells { Holds K.Keeper office.old office.new → IfOk result (λ answer. TellsChanges (state_of K.Keeper office.old) changes.now answer) }
-    ensures counted { Counted (K.refusals office.old) (K.refusals office.new) result }
 {
     if changes.len() > 1 {
         return Ok(Answer::Refused(Refusal::TooManyHints));
@@ -90,10 +81,8 @@ pub(crate) fn breaks_body<K: Keeper>(
     office: &mut Office<K>,
     body: &str,
 ) -> Result<Answer, StoreFault>
-    ensures asks { Asks K.Keeper office.old office.new }
-    ensures place { IfOk result (λ answer. HasPlace (K.setup office.old) answer) }
+    ensures asks { AsksPlaced K.Keeper office.old office.new result }
     ensures tells { Holds K.Keeper office.old office.new → IfOk result (λ answer. TellsChanges (state_of K.Keeper office.old) (hints_in body.now) answer) }
-    ensures counted { Counted (K.refusals office.old) (K.refusals office.new) result }
 {
     let changes = hints_in(office.alloc(), body)?;
     let answer = answer_changes(office, &changes);

@@ -1,13 +1,12 @@
 //! A service that is known by some hosts alone.
-ghost use Rattle.std.specs.Prelude.{◌≡◌, Some, IfErr, IfOk, map};
-ghost use Rattle.office_core.specs.Preserves.{Holds, Preserves, StoreRefused};
-ghost use Rattle.office_core_facts.specs.State.{state_of};
+ghost use Rattle.std.specs.Prelude.{◌≡◌, Some, IfOk, map};
+ghost use Rattle.office_core.specs.Preserves.{Preserves};
 ghost use Rattle.office_core_orders.specs.Written.{Writes};
 ghost use Rattle.office_http_requests.specs.Asked.{is_head_method};
 ghost use Rattle.office_http_requests.specs.Hosts.{IsForOther};
 ghost use Rattle.office_http_requests.specs.Reply.{refused, reply_bytes};
 ghost use Rattle.office_http_requests.specs.Routes.{office_routes};
-ghost use Rattle.office_http.specs.Serve.{Serves, StopsServe};
+ghost use Rattle.office_http.specs.Serve.{ServesOne, StopsOne};
 
 use crate::serve::{ServeFault, Served, serve_with_routes};
 use office_core::Office;
@@ -40,8 +39,8 @@ pub fn serve_as_hosts<K: Keeper, R: Feed, W: Sink>(
     ensures still { IsForOther (map (λ host. host.now) hosts.now) request.now → office.new ≡ office.old }
     ensures unread { IsForOther (map (λ host. host.now) hosts.now) request.now → reader.new ≡ reader.old }
     ensures refused { (other : IsForOther (map (λ host. host.now) hosts.now) request.now) → Writes W.Sink writer.old writer.new (reply_bytes (refused Refusal.OtherHost) (is_head_method other.head)) result }
-    ensures ok { ¬ (IsForOther (map (λ host. host.now) hosts.now) request.now) → Holds K.Keeper office.old office.new → IfOk result (λ served. Serves (state_of K.Keeper office.old) (state_of K.Keeper office.new) (R.left reader.old) (R.left reader.new) (W.written writer.old) (W.written writer.new) served.code (StoreRefused K.Keeper office.old office.new)) }
-    ensures err { ¬ (IsForOther (map (λ host. host.now) hosts.now) request.now) → Holds K.Keeper office.old office.new → IfErr result (λ fault. StopsServe (state_of K.Keeper office.old) (state_of K.Keeper office.new) (R.left reader.old) (R.left reader.new) (W.written writer.old) (W.written writer.new) fault (StoreRefused K.Keeper office.old office.new)) }
+    ensures ok { ¬ (IsForOther (map (λ host. host.now) hosts.now) request.now) → ServesOne K.Keeper R.Feed W.Sink office.old office.new reader.old reader.new writer.old writer.new result }
+    ensures err { ¬ (IsForOther (map (λ host. host.now) hosts.now) request.now) → StopsOne K.Keeper R.Feed W.Sink office.old office.new reader.old reader.new writer.old writer.new result }
 {
     match method_for_other(hosts, request) {
         Some(is_head) => refuse_host(office.setup(), is_head, writer),

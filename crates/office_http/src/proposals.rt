@@ -1,8 +1,8 @@
 //! Hints that a request asks the office to propose.
 ghost use Rattle.std.specs.Prelude.{◌≡◌, ◌∷◌, [], IfErr, IfOk};
-ghost use Rattle.office_core.specs.Preserves.{Asks, Holds};
+ghost use Rattle.office_core.specs.Preserves.{Holds};
 ghost use Rattle.office_core_facts.specs.State.{state_of};
-ghost use Rattle.office_core_orders.specs.Counted.{Counted};
+ghost use Rattle.office_http.specs.steps.Calls.{AsksPlaced};
 ghost use Rattle.office_http.specs.Serve.{proposal_answer};
 ghost use Rattle.office_http.specs.steps.ServeSteps.{TellsProposal};
 ghost use Rattle.office_http.specs.Trials.{request_terms, terms_on};
@@ -55,10 +55,8 @@ fn propose<K: Keeper>(
     terms: TrialOptions,
     sources: &[Text],
 ) -> Result<Answer, StoreFault>
-    ensures asks { Asks K.Keeper office.old office.new }
-    ensures place { IfOk result (λ answer. HasPlace (K.setup office.old) answer) }
+    ensures asks { AsksPlaced K.Keeper office.old office.new result }
     ensures tells { Holds K.Keeper office.old office.new → IfOk result (λ answer. TellsProposal (state_of K.Keeper office.old) terms sources.now answer) }
-    ensures counted { Counted (K.refusals office.old) (K.refusals office.new) result }
 {
     let proposal = office.propose(terms, sources)?;
     answer_proposed(office.alloc(), office.setup(), proposal)
@@ -66,20 +64,16 @@ fn propose<K: Keeper>(
 
 /// The answer to a request for hints that move groups.
 pub(crate) fn propose_groups<K: Keeper>(office: &mut Office<K>) -> Result<Answer, StoreFault>
-    ensures asks { Asks K.Keeper office.old office.new }
-    ensures place { IfOk result (λ answer. HasPlace (K.setup office.old) answer) }
+    ensures asks { AsksPlaced K.Keeper office.old office.new result }
     ensures tells { Holds K.Keeper office.old office.new → IfOk result (λ answer. TellsProposal (state_of K.Keeper office.old) request_terms [] answer) }
-    ensures counted { Counted (K.refusals office.old) (K.refusals office.new) result }
 {
     propose(office, request_terms(), &[])
 }
 
 /// The answer to a request for hints that move groups, in a run on this day or later.
 pub(crate) fn propose_on<K: Keeper>(office: &mut Office<K>, day: Date) -> Result<Answer, StoreFault>
-    ensures asks { Asks K.Keeper office.old office.new }
-    ensures place { IfOk result (λ answer. HasPlace (K.setup office.old) answer) }
+    ensures asks { AsksPlaced K.Keeper office.old office.new result }
     ensures tells { Holds K.Keeper office.old office.new → IfOk result (λ answer. TellsProposal (state_of K.Keeper office.old) (terms_on day) [] answer) }
-    ensures counted { Counted (K.refusals office.old) (K.refusals office.new) result }
 {
     propose(office, terms_on(day), &[])
 }
@@ -89,10 +83,8 @@ pub(crate) fn propose_for<K: Keeper>(
     office: &mut Office<K>,
     source: Text,
 ) -> Result<Answer, StoreFault>
-    ensures asks { Asks K.Keeper office.old office.new }
-    ensures place { IfOk result (λ answer. HasPlace (K.setup office.old) answer) }
+    ensures asks { AsksPlaced K.Keeper office.old office.new result }
     ensures tells { Holds K.Keeper office.old office.new → IfOk result (λ answer. TellsProposal (state_of K.Keeper office.old) request_terms (source ∷ []) answer) }
-    ensures counted { Counted (K.refusals office.old) (K.refusals office.new) result }
 {
     let sources = [source];
     let answer = propose(office, request_terms(), &sources);

@@ -1,5 +1,5 @@
 //! One connection of the service: a request, and its reply (RFC 9110, RFC 9112).
-ghost use Rattle.std.specs.Prelude.{◌≡◌, true, false, ◌⊎◌, ◌≤◌, ◌<◌, ◌+◌, ◌++◌, ◌∷◌, ℕ, List, [], Option, Some, None, IfOk, IfErr, IfSome, OnOk, OnErr, length, drop, if◌then◌else◌, slice_index};
+ghost use Rattle.std.specs.Prelude.{◌≡◌, true, false, ◌≤◌, ◌<◌, ◌+◌, Option, Some, None, IfOk, IfErr, IfSome, OnOk, OnErr, length, drop, if◌then◌else◌, slice_index};
 ghost use Rattle.std.specs.Io.KnownBytes.{Appends};
 ghost use Rattle.httparse.specs.Grammar.{RequestHead};
 ghost use Rattle.httparse.specs.Spans.{IsRequestAt};
@@ -10,18 +10,19 @@ ghost use Rattle.office_core_queries.specs.Mail.{mail_text};
 ghost use Rattle.office_core_queries.specs.NextOrder.{order_text};
 ghost use Rattle.office_core.specs.Preserves.{Asks, Preserves, Holds, StoreRefused};
 ghost use Rattle.office_core.specs.Laws.{RunsStand};
-ghost use Rattle.office_http_requests.specs.Reply.{continue_bytes, refused, reply_bytes};
+ghost use Rattle.office_http_requests.specs.Reply.{refused, reply_bytes};
 ghost use Rattle.office_http_requests.specs.steps.Reply.{HasPlace};
 ghost use Rattle.office_http_requests.specs.Request.{body_room, head_room};
 ghost use Rattle.office_http_requests.specs.steps.RequestSteps.{IsHeadAt};
 ghost use Rattle.office_http_requests.specs.Routes.{office_routes};
-ghost use Rattle.office_http.specs.Serve.{mail_counts, unbroken_of, refusal_for, delivery_answer, is_of_other, waits_of, Does, StopsBefore, CountsFaults, Serves, StopsServe};
+ghost use Rattle.office_http.specs.steps.Calls.{AsksCounted, RunsAction};
+ghost use Rattle.office_http.specs.Serve.{mail_counts, unbroken_of, refusal_for, delivery_answer, is_of_other, waits_of, Does, StopsBefore, CountsFaults, ServesOne, StopsOne};
 ghost use Rattle.office_http.specs.steps.ServeSteps.{if_known, report_answer, why_answer, letter_answer};
 ghost use Rattle.office_core_why.specs.Why.{IsWhy};
 ghost use Rattle.office_http.specs.steps.ServeSteps.{answer_or, part_answer, status_answer, text_answer, Tells, TellsAwaited, TellsShort, Runs, Answers, StopsRequest, ServesHead};
 ghost use Rattle.office_http.specs.Trials.{has_many_hints, terms_of};
 ghost use Rattle.office_core_facts.specs.State.{state_of};
-ghost use Rattle.office_core_orders.specs.Counted.{Counted, CountsFailure};
+ghost use Rattle.office_core_orders.specs.Counted.{CountsFailure};
 ghost use Rattle.office_core_orders.specs.Written.{AppendsFront};
 
 use crate::breaks::{breaks_body, breaks_of};
@@ -185,9 +186,8 @@ fn answer_or(answer: Result<Answer, StoreFault>) -> Answer
 
 /// The text on what the first run that isn't ready waits for.
 fn awaited_text<K: Keeper>(office: &mut Office<K>) -> Result<Text, StoreFault>
-    ensures asks { Asks K.Keeper office.old office.new }
+    ensures asks { AsksCounted K.Keeper office.old office.new result }
     ensures tells { Holds K.Keeper office.old office.new → IfOk result (λ text. TellsAwaited (state_of K.Keeper office.old) text) }
-    ensures counted { Counted (K.refusals office.old) (K.refusals office.new) result }
 {
     let waiting = office.waiting()?;
     Ok(waiting_text(office.alloc(), office.setup(), &waiting)?)
@@ -195,18 +195,16 @@ fn awaited_text<K: Keeper>(office: &mut Office<K>) -> Result<Text, StoreFault>
 
 /// How much mail is kept of each sender.
 fn counted_mail<K: Keeper>(office: &mut Office<K>) -> Result<Vec<MailCount>, StoreFault>
-    ensures asks { Asks K.Keeper office.old office.new }
+    ensures asks { AsksCounted K.Keeper office.old office.new result }
     ensures counts { Holds K.Keeper office.old office.new → IfOk result (λ counts. counts.items ≡ mail_counts (K.setup office.old) (K.content office.old).kept) }
-    ensures counted { Counted (K.refusals office.old) (K.refusals office.new) result }
 {
     mail_counts(office)
 }
 
 /// The text on how much mail is kept of each sender.
 fn counted_text<K: Keeper>(office: &mut Office<K>) -> Result<Text, StoreFault>
-    ensures asks { Asks K.Keeper office.old office.new }
+    ensures asks { AsksCounted K.Keeper office.old office.new result }
     ensures text { Holds K.Keeper office.old office.new → IfOk result (λ text. text ≡ mail_text (K.setup office.old) (mail_counts (K.setup office.old) (K.content office.old).kept)) }
-    ensures counted { Counted (K.refusals office.old) (K.refusals office.new) result }
 {
     let counts = counted_mail(office)?;
     Ok(mail_text(office.alloc(), office.setup(), &counts)?)
@@ -214,18 +212,16 @@ fn counted_text<K: Keeper>(office: &mut Office<K>) -> Result<Text, StoreFault>
 
 /// The number up to which each sender's mail is kept without a gap.
 fn unbroken_mail<K: Keeper>(office: &mut Office<K>) -> Result<Vec<u32>, StoreFault>
-    ensures asks { Asks K.Keeper office.old office.new }
+    ensures asks { AsksCounted K.Keeper office.old office.new result }
     ensures unbroken { Holds K.Keeper office.old office.new → IfOk result (λ unbroken. slice_index unbroken.items ≡ unbroken_of (K.content office.old).kept) }
-    ensures counted { Counted (K.refusals office.old) (K.refusals office.new) result }
 {
     office.unbroken()
 }
 
 /// The text of the next order, on a day, over all mail without a gap.
 fn order_on<K: Keeper>(office: &mut Office<K>, day: Date) -> Result<Text, StoreFault>
-    ensures asks { Asks K.Keeper office.old office.new }
+    ensures asks { AsksCounted K.Keeper office.old office.new result }
     ensures text { Holds K.Keeper office.old office.new → IfOk result (λ text. text ≡ order_text (K.setup office.old) (unbroken_of (K.content office.old).kept) day) }
-    ensures counted { Counted (K.refusals office.old) (K.refusals office.new) result }
 {
     let unbroken = unbroken_mail(office)?;
     Ok(order_text(office.alloc(), office.setup(), &unbroken, day)?)
@@ -236,9 +232,8 @@ fn source_text<K: Keeper>(
     office: &mut Office<K>,
     source: Text,
 ) -> Result<Option<WhyText>, StoreFault>
-    ensures asks { Asks K.Keeper office.old office.new }
+    ensures asks { AsksCounted K.Keeper office.old office.new result }
     ensures tells { Holds K.Keeper office.old office.new → IfOk result (IsWhy (K.setup office.old) (K.content office.old).kept (state_of K.Keeper office.old).finished source) }
-    ensures counted { Counted (K.refusals office.old) (K.refusals office.new) result }
 {
     let text = office.why_text(source.as_str());
     drop(source);
@@ -290,7 +285,7 @@ fn tell<K: Keeper>(office: &mut Office<K>, page: Page) -> Answer
 fn deliver_and_settle<K: Keeper>(office: &mut Office<K>, text: &[u8]) -> Result<Held, DeliverFault>
     ensures carries { Preserves K.Keeper office.old office.new }
     ensures place { HasPlace (K.setup office.old) (delivery_answer result) }
-    ensures runs { Holds K.Keeper office.old office.new → Runs (state_of K.Keeper office.old) (state_of K.Keeper office.new) Action.Deliver text.now (delivery_answer result) (StoreRefused K.Keeper office.old office.new) }
+    ensures runs { RunsAction K.Keeper office.old office.new Action.Deliver text.now (delivery_answer result) }
 {
     let reply = office.deliver(text);
     settle_behind(office, &reply);
@@ -298,10 +293,10 @@ fn deliver_and_settle<K: Keeper>(office: &mut Office<K>, text: &[u8]) -> Result<
 }
 
 /// Delivers a text, settles if it is held, and answers.
-fn deliver<K: Keeper>(office: &mut Office<K>, text: &[u8]) -> Answer
+fn answer_delivery<K: Keeper>(office: &mut Office<K>, text: &[u8]) -> Answer
     ensures carries { Preserves K.Keeper office.old office.new }
     ensures place { HasPlace (K.setup office.old) result }
-    ensures runs { Holds K.Keeper office.old office.new → Runs (state_of K.Keeper office.old) (state_of K.Keeper office.new) Action.Deliver text.now result (StoreRefused K.Keeper office.old office.new) }
+    ensures runs { RunsAction K.Keeper office.old office.new Action.Deliver text.now result }
 {
     delivery_answer(deliver_and_settle(office, text))
 }
@@ -318,31 +313,32 @@ fn is_of_other(alloc: Global, setup: &Setup, sender: u32, text: &[u8]) -> Result
 }
 
 /// Delivers a text that is no message of another sender, settles if it is held, and answers.
-fn deliver_of<K: Keeper>(office: &mut Office<K>, sender: u32, text: &[u8]) -> Answer
+fn answer_delivery_of<K: Keeper>(office: &mut Office<K>, sender: u32, text: &[u8]) -> Answer
     ensures carries { Preserves K.Keeper office.old office.new }
     ensures place { HasPlace (K.setup office.old) result }
-    ensures runs { Holds K.Keeper office.old office.new → Runs (state_of K.Keeper office.old) (state_of K.Keeper office.new) (Action.DeliverOf sender) text.now result (StoreRefused K.Keeper office.old office.new) }
+    ensures runs { RunsAction K.Keeper office.old office.new (Action.DeliverOf sender) text.now result }
 {
     match is_of_other(office.alloc(), office.setup(), sender, text) {
-        Ok(false) => deliver(office, text),
+        Ok(false) => answer_delivery(office, text),
         Ok(true) => Answer::Refused(Refusal::OtherSender),
         Err(_) => Answer::Refused(Refusal::NoMemory),
     }
 }
 
 /// Answers as a delivery of the text would be answered, and keeps nothing.
-fn look<K: Keeper>(office: &mut Office<K>, text: &[u8]) -> Answer
+fn answer_look<K: Keeper>(office: &mut Office<K>, text: &[u8]) -> Answer
     ensures carries { Preserves K.Keeper office.old office.new }
     ensures place { HasPlace (K.setup office.old) result }
-    ensures runs { Holds K.Keeper office.old office.new → Runs (state_of K.Keeper office.old) (state_of K.Keeper office.new) Action.Look text.now result (StoreRefused K.Keeper office.old office.new) }
+    ensures runs { RunsAction K.Keeper office.old office.new Action.Look text.now result }
 {
     delivery_answer(office.answer(text))
 }
 
-fn settle<K: Keeper>(office: &mut Office<K>, text: &[u8]) -> Answer
+/// Settles, and answers by how many runs are ready and finished.
+fn answer_settlement<K: Keeper>(office: &mut Office<K>, text: &[u8]) -> Answer
     ensures carries { Preserves K.Keeper office.old office.new }
     ensures place { HasPlace (K.setup office.old) result }
-    ensures runs { Holds K.Keeper office.old office.new → Runs (state_of K.Keeper office.old) (state_of K.Keeper office.new) Action.Settle text.now result (StoreRefused K.Keeper office.old office.new) }
+    ensures runs { RunsAction K.Keeper office.old office.new Action.Settle text.now result }
 {
     status_answer(office.settle())
 }
@@ -376,7 +372,7 @@ fn try_bytes<K: Keeper>(office: &mut Office<K>, terms: TrialOptions, body: &[u8]
 fn break_bytes<K: Keeper>(office: &mut Office<K>, body: &[u8]) -> Answer
     ensures carries { Preserves K.Keeper office.old office.new }
     ensures place { HasPlace (K.setup office.old) result }
-    ensures runs { Holds K.Keeper office.old office.new → Runs (state_of K.Keeper office.old) (state_of K.Keeper office.new) Action.Breaks body.now result (StoreRefused K.Keeper office.old office.new) }
+    ensures runs { RunsAction K.Keeper office.old office.new Action.Breaks body.now result }
 {
     match str::from_utf8(body) {
         Ok(text) => answer_or(breaks_body(office, text)),
@@ -388,13 +384,13 @@ fn break_bytes<K: Keeper>(office: &mut Office<K>, body: &[u8]) -> Answer
 fn run<K: Keeper>(office: &mut Office<K>, action: Action, body: &[u8]) -> Answer
     ensures carries { Preserves K.Keeper office.old office.new }
     ensures place { HasPlace (K.setup office.old) result }
-    ensures runs { Holds K.Keeper office.old office.new → Runs (state_of K.Keeper office.old) (state_of K.Keeper office.new) action body.now result (StoreRefused K.Keeper office.old office.new) }
+    ensures runs { RunsAction K.Keeper office.old office.new action body.now result }
 {
     match action {
-        Action::Deliver => deliver(office, body),
-        Action::DeliverOf(sender) => deliver_of(office, sender, body),
-        Action::Look => look(office, body),
-        Action::Settle => settle(office, body),
+        Action::Deliver => answer_delivery(office, body),
+        Action::DeliverOf(sender) => answer_delivery_of(office, sender, body),
+        Action::Look => answer_look(office, body),
+        Action::Settle => answer_settlement(office, body),
         Action::Try => try_bytes(office, request_terms(), body),
         Action::TryOn(day) => try_bytes(office, terms_on(day), body),
         Action::Breaks => break_bytes(office, body),
@@ -531,8 +527,8 @@ fn serve_connection<K: Keeper, R: Feed, W: Sink>(
 ) -> Result<Served, ServeFault>
     requires { table.now ≡ office_routes }
     ensures carries { Preserves K.Keeper office.old office.new }
-    ensures ok { Holds K.Keeper office.old office.new → IfOk result (λ served. Serves (state_of K.Keeper office.old) (state_of K.Keeper office.new) (R.left reader.old) (R.left reader.new) (W.written writer.old) (W.written writer.new) served.code (StoreRefused K.Keeper office.old office.new)) }
-    ensures err { Holds K.Keeper office.old office.new → IfErr result (λ fault. StopsServe (state_of K.Keeper office.old) (state_of K.Keeper office.new) (R.left reader.old) (R.left reader.new) (W.written writer.old) (W.written writer.new) fault (StoreRefused K.Keeper office.old office.new)) }
+    ensures ok { ServesOne K.Keeper R.Feed W.Sink office.old office.new reader.old reader.new writer.old writer.new result }
+    ensures err { StopsOne K.Keeper R.Feed W.Sink office.old office.new reader.old reader.new writer.old writer.new result }
     ensures calls { R.calls reader.new ≤ R.calls reader.old + (head_room + body_room) }
     ensures counts { CountsFaults (R.failures reader.old) (R.failures reader.new) (W.failures writer.old) (W.failures writer.new) result }
 {
@@ -572,8 +568,8 @@ pub fn serve_with_routes<K: Keeper, R: Feed, W: Sink>(
     ensures carries { Preserves K.Keeper office.old office.new }
     // The reply is a function of the request, of the office's state and of the faults that were met. A fault of the
     // store is reported only if the store counted a refusal.
-    ensures ok { Holds K.Keeper office.old office.new → IfOk result (λ served. Serves (state_of K.Keeper office.old) (state_of K.Keeper office.new) (R.left reader.old) (R.left reader.new) (W.written writer.old) (W.written writer.new) served.code (StoreRefused K.Keeper office.old office.new)) }
-    ensures err { Holds K.Keeper office.old office.new → IfErr result (λ fault. StopsServe (state_of K.Keeper office.old) (state_of K.Keeper office.new) (R.left reader.old) (R.left reader.new) (W.written writer.old) (W.written writer.new) fault (StoreRefused K.Keeper office.old office.new)) }
+    ensures ok { ServesOne K.Keeper R.Feed W.Sink office.old office.new reader.old reader.new writer.old writer.new result }
+    ensures err { StopsOne K.Keeper R.Feed W.Sink office.old office.new reader.old reader.new writer.old writer.new result }
     // Finished runs stay: their reports, and testing unless another run finished.
     ensures runs { Holds K.Keeper office.old office.new → RunsStand (K.content office.old) (K.content office.new) }
     // The reader is asked at most once for each byte that a head and a body may have.
@@ -590,8 +586,8 @@ pub fn serve_one<K: Keeper, R: Feed, W: Sink>(
     writer: &mut W,
 ) -> Result<Served, ServeFault>
     ensures carries { Preserves K.Keeper office.old office.new }
-    ensures ok { Holds K.Keeper office.old office.new → IfOk result (λ served. Serves (state_of K.Keeper office.old) (state_of K.Keeper office.new) (R.left reader.old) (R.left reader.new) (W.written writer.old) (W.written writer.new) served.code (StoreRefused K.Keeper office.old office.new)) }
-    ensures err { Holds K.Keeper office.old office.new → IfErr result (λ fault. StopsServe (state_of K.Keeper office.old) (state_of K.Keeper office.new) (R.left reader.old) (R.left reader.new) (W.written writer.old) (W.written writer.new) fault (StoreRefused K.Keeper office.old office.new)) }
+    ensures ok { ServesOne K.Keeper R.Feed W.Sink office.old office.new reader.old reader.new writer.old writer.new result }
+    ensures err { StopsOne K.Keeper R.Feed W.Sink office.old office.new reader.old reader.new writer.old writer.new result }
     ensures runs { Holds K.Keeper office.old office.new → RunsStand (K.content office.old) (K.content office.new) }
     ensures calls { R.calls reader.new ≤ R.calls reader.old + (head_room + body_room) }
     ensures counts { CountsFaults (R.failures reader.old) (R.failures reader.new) (W.failures writer.old) (W.failures writer.new) result }

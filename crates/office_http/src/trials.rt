@@ -2,12 +2,12 @@
 ghost use Rattle.std.specs.Prelude.{◌≡◌, ◌∷◌, [], IfErr, IfOk, slice_index_or};
 ghost use Rattle.std.specs.List.{count_by};
 ghost use Rattle.office_core_facts.specs.State.{state_of};
+ghost use Rattle.office_http.specs.steps.Calls.{AsksPlaced};
 ghost use Rattle.office_http.specs.steps.ServeSteps.{TellsTrial};
 ghost use Rattle.office_http.specs.Trials.{begins_easy, has_many_hints, hints_in, is_mark, is_one_group, refused_hint, refused_line, request_terms, terms_on, trial_answer};
-ghost use Rattle.office_core_orders.specs.Counted.{Counted};
 ghost use Rattle.office_core_orders.specs.Replies.{name_at};
 ghost use Rattle.office_http_requests.specs.steps.Reply.{HasPlace};
-ghost use Rattle.office_core.specs.Preserves.{Asks, Holds};
+ghost use Rattle.office_core.specs.Preserves.{Holds};
 ghost use Rattle.office_core_facts.specs.Seen.{release};
 ghost use Rattle.testing_rules_reports.specs.steps.LentLines.{lent_lines};
 ghost use Rattle.office_core_outcome.specs.Trial.{trial_text};
@@ -210,10 +210,8 @@ fn try_hints<K: Keeper>(
     terms: TrialOptions,
     hints: &[Text],
 ) -> Result<Answer, StoreFault>
-    ensures asks { Asks K.Keeper office.old office.new }
-    ensures place { IfOk result (λ answer. HasPlace (K.setup office.old) answer) }
+    ensures asks { AsksPlaced K.Keeper office.old office.new result }
     ensures tells { Holds K.Keeper office.old office.new → IfOk result (λ answer. TellsTrial (state_of K.Keeper office.old) terms hints.now answer) }
-    ensures counted { Counted (K.refusals office.old) (K.refusals office.new) result }
 {
     let trial = office.try_hints(hints, terms)?;
     answer_told(office.alloc(), office.setup(), hints, trial)
@@ -225,10 +223,8 @@ pub(crate) fn try_body<K: Keeper>(
     terms: TrialOptions,
     body: &str,
 ) -> Result<Answer, StoreFault>
-    ensures asks { Asks K.Keeper office.old office.new }
-    ensures place { IfOk result (λ answer. HasPlace (K.setup office.old) answer) }
+    ensures asks { AsksPlaced K.Keeper office.old office.new result }
     ensures tells { Holds K.Keeper office.old office.new → IfOk result (λ answer. TellsTrial (state_of K.Keeper office.old) terms (hints_in body.now) answer) }
-    ensures counted { Counted (K.refusals office.old) (K.refusals office.new) result }
 {
     let hints = hints_in(office.alloc(), body)?;
     let answer = try_hints(office, terms, &hints);

@@ -1,5 +1,5 @@
 -- What a request asks for, given its head.
-use Rattle.std.specs.Prelude.{ℕ, ◌^◌, Bool, true, false, not, ◌&&◌, ◌||◌, ◌==◌, nat_le, nat_lt, if◌then◌else◌, List, [], ◌∷◌, drop, take, length, ◌+◌, map, codes, Option, Some, None, Result, Ok, Err, unwrap_or}
+use Rattle.std.specs.Prelude.{◌≡◌, ℕ, ◌^◌, Bool, true, false, not, ◌&&◌, ◌||◌, ◌==◌, nat_le, nat_lt, if◌then◌else◌, List, [], ◌∷◌, drop, take, length, ◌+◌, map, codes, Option, Some, None, Result, Ok, Err, unwrap_or}
 use Rattle.std.specs.List.{list_all, list_any, before_first, position}
 use Rattle.std.specs.Option.{option_map, option_map_or}
 use Rattle.std.specs.Char.{is_ascii_digit}
@@ -246,3 +246,14 @@ is_head_method head = bytes_eq head.method (codes "HEAD")
 abbrev pub body_size : Asked → ℕ
 body_size (Post p) = p.length
 body_size _ = 0
+
+-- of a head that names its host as it should, this path asks for this page, and other methods than GET are refused
+abbrev pub TellsAt : List ℕ → Page → Type 0
+TellsAt path page =
+    (setup : Lists) (head : RequestHead) → is_hosted head ≡ true → path_of head.target ≡ path → asked_of setup head ≡ tell_asked page head.method
+
+-- and this path asks for this action by a POST
+abbrev pub PostsAt : List ℕ → Action → Type 0
+PostsAt path action =
+    (setup : Lists) (head : RequestHead) → is_hosted head ≡ true → path_of head.target ≡ path
+    → asked_of setup head ≡ post_asked action head.method head.minor (framing_of (map name_and_value head.fields))

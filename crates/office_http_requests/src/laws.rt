@@ -4,7 +4,7 @@ ghost use Rattle.std.specs.Str.{bytes_eq};
 ghost use Rattle.httparse.specs.Grammar.{RequestHead};
 ghost use Rattle.httparse.specs.Spans.{name_and_value};
 ghost use Rattle.office_mail.specs.Lists.{Lists};
-ghost use Rattle.office_http_requests.specs.Asked.{asked_by_table, asked_of, framing_of, is_hosted, path_of, post_asked, post_framed, tell_asked};
+ghost use Rattle.office_http_requests.specs.Asked.{PostsAt, TellsAt, asked_by_table, asked_of, framing_of, is_hosted, path_of, post_asked, post_framed};
 ghost use Rattle.office_http_requests.specs.Routes.{IsBeside, new_fronts, new_paths, six_routes, ten_routes, twelve_routes};
 ghost use Rattle.office_http_requests.specs.declared.reply.Refusal.TheVariants.{BadRequest, OnlyPost};
 ghost use Rattle.office_http_requests.specs.declared.request.Action.{Action};
@@ -27,16 +27,16 @@ pub fn old_requests_stay()
         → path_of head.target ≢ codes "/try" → ((rest : List ℕ) → path_of head.target ≢ codes "/why/" ++ rest) → asked_of setup head ≡ asked_by_table six_routes setup head }
     // There a GET asks what a run waits for, for the finished runs, how much mail is kept, for the hints in force, for
     // unstable, or for hints that move groups, and other methods are refused.
-    ensures waiting { (setup : Lists) (head : RequestHead) → is_hosted head ≡ true → path_of head.target ≡ codes "/waiting" → asked_of setup head ≡ tell_asked Waiting head.method }
-    ensures runs { (setup : Lists) (head : RequestHead) → is_hosted head ≡ true → path_of head.target ≡ codes "/runs" → asked_of setup head ≡ tell_asked Runs head.method }
-    ensures kept { (setup : Lists) (head : RequestHead) → is_hosted head ≡ true → path_of head.target ≡ codes "/kept" → asked_of setup head ≡ tell_asked Kept head.method }
-    ensures in_force { (setup : Lists) (head : RequestHead) → is_hosted head ≡ true → path_of head.target ≡ codes "/hints" → asked_of setup head ≡ tell_asked Hints head.method }
-    ensures unstable { (setup : Lists) (head : RequestHead) → is_hosted head ≡ true → path_of head.target ≡ codes "/unstable" → asked_of setup head ≡ tell_asked Unstable head.method }
-    ensures proposals { (setup : Lists) (head : RequestHead) → is_hosted head ≡ true → path_of head.target ≡ codes "/propose" → asked_of setup head ≡ tell_asked Propose head.method }
+    ensures waiting { TellsAt (codes "/waiting") Waiting }
+    ensures runs { TellsAt (codes "/runs") Runs }
+    ensures kept { TellsAt (codes "/kept") Kept }
+    ensures in_force { TellsAt (codes "/hints") Hints }
+    ensures unstable { TellsAt (codes "/unstable") Unstable }
+    ensures proposals { TellsAt (codes "/propose") Propose }
     // There a POST asks for a trial of hints, how a delivery would be answered, or what a change breaks.
-    ensures hints { (setup : Lists) (head : RequestHead) → is_hosted head ≡ true → path_of head.target ≡ codes "/try" → asked_of setup head ≡ post_asked Try head.method head.minor (framing_of (map name_and_value head.fields)) }
-    ensures looks { (setup : Lists) (head : RequestHead) → is_hosted head ≡ true → path_of head.target ≡ codes "/lint" → asked_of setup head ≡ post_asked Look head.method head.minor (framing_of (map name_and_value head.fields)) }
-    ensures breaks { (setup : Lists) (head : RequestHead) → is_hosted head ≡ true → path_of head.target ≡ codes "/breaks" → asked_of setup head ≡ post_asked Breaks head.method head.minor (framing_of (map name_and_value head.fields)) }
+    ensures hints { PostsAt (codes "/try") Try }
+    ensures looks { PostsAt (codes "/lint") Look }
+    ensures breaks { PostsAt (codes "/breaks") Breaks }
     // A head that names no host by HTTP/1.1, or several, is refused.
     ensures hostless { (setup : Lists) (head : RequestHead) → is_hosted head ≡ false → asked_of setup head ≡ Refused BadRequest }
     // And so does the refusal of what a page in a browser posts: without its fields a POST asks for what its body's do.

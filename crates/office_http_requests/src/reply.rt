@@ -1,9 +1,9 @@
 //! Replies: what they say, and how they are written (RFC 9112, section 4). They allocate nothing.
-ghost use Rattle.std.specs.Prelude.{◌≡◌, Ok, Err, ◌≤◌, ◌<◌, ◌+◌, ◌++◌, ◌∷◌, ℕ, List, [], OnOk, OnErr, IfOk, length, decimal, codes, unwrap_or, if◌then◌else◌, true};
+ghost use Rattle.std.specs.Prelude.{◌≡◌, Ok, Err, ◌<◌, ◌+◌, [], OnOk, OnErr, length, unwrap_or, if◌then◌else◌, true};
 ghost use Rattle.std.specs.Io.KnownBytes.{Appends};
 ghost use Rattle.http.specs.StatusCode.{reason_phrase};
-ghost use Rattle.office_http_requests.specs.Reply.{Reply, delivery_code, refusal_status, refusal_allow, refused, reply_in, reply_with, reply_bytes, front_bytes, continue_bytes};
-ghost use Rattle.office_http_requests.specs.steps.Reply.{HasPlace};
+ghost use Rattle.office_http_requests.specs.Reply.{delivery_code, refusal_status, refusal_allow, refused, reply_in, reply_with, front_bytes, continue_bytes};
+ghost use Rattle.office_http_requests.specs.steps.Reply.{WritesReply, HasPlace};
 ghost use Rattle.office_core_orders.specs.Counted.{CountsFailure};
 ghost use Rattle.office_core_orders.specs.Replies.{status_line};
 ghost use Rattle.office_core_orders.specs.Written.{AppendsFront, Writes};
@@ -182,8 +182,7 @@ fn write_whole<W: Sink>(
     writer: &mut W,
 ) -> Result<u16, WriteFault>
     requires { size ≡ length (joined body.now) }
-    ensures writes { Writes W.Sink writer.old writer.new (reply_bytes (record { code = status; allow = allow.now; body = joined body.now }) is_head) result }
-    ensures code { IfOk result (λ code. code ≡ status) }
+    ensures { WritesReply W.Sink writer.old writer.new (record { code = status; allow = allow.now; body = joined body.now }) is_head result }
 {
     write_front(status, allow, size, writer)?;
     write_parts(writer, shown(body, is_head))?;
@@ -202,8 +201,7 @@ fn write_refused<W: Sink>(
     is_head: bool,
     writer: &mut W,
 ) -> Result<u16, WriteFault>
-    ensures writes { Writes W.Sink writer.old writer.new (reply_bytes (refused refusal) is_head) result }
-    ensures code { IfOk result (λ code. code ≡ (refusal_status refusal).0) }
+    ensures { WritesReply W.Sink writer.old writer.new (refused refusal) is_head result }
 {
     let name = refusal.name();
     let body = [b"refused ".as_slice(), name.as_bytes(), b"\n".as_slice()];
@@ -226,8 +224,7 @@ fn write_held<W: Sink>(
     writer: &mut W,
 ) -> Result<u16, WriteFault>
     requires { held.sender < length setup.now.senders }
-    ensures writes { Writes W.Sink writer.old writer.new (reply_bytes (reply_in setup.now (Answer.Delivered (Ok held))) is_head) result }
-    ensures code { IfOk result (λ code. code ≡ 200) }
+    ensures { WritesReply W.Sink writer.old writer.new (reply_in setup.now (Answer.Delivered (Ok held))) is_head result }
 {
     let digits = Digits::of(u64::from(held.number));
     let name = setup.senders()[held.sender as usize].name.as_str();
@@ -249,8 +246,7 @@ fn write_fault<W: Sink>(
     is_head: bool,
     writer: &mut W,
 ) -> Result<u16, WriteFault>
-    ensures writes { Writes W.Sink writer.old writer.new (reply_bytes (reply_in setup.now (Answer.Delivered (Err fault))) is_head) result }
-    ensures code { IfOk result (λ code. code ≡ delivery_code (Err fault)) }
+    ensures { WritesReply W.Sink writer.old writer.new (reply_in setup.now (Answer.Delivered (Err fault))) is_head result }
 {
     let (word, field) = fault_words(fault);
     let body = [
@@ -268,8 +264,7 @@ fn write_progress<W: Sink>(
     is_head: bool,
     writer: &mut W,
 ) -> Result<u16, WriteFault>
-    ensures writes { Writes W.Sink writer.old writer.new (reply_bytes (reply_with 200 (status_line progress.ready progress.finished)) is_head) result }
-    ensures code { IfOk result (λ code. code ≡ 200) }
+    ensures { WritesReply W.Sink writer.old writer.new (reply_with 200 (status_line progress.ready progress.finished)) is_head result }
 {
     let ready = Digits::of(u64::from(progress.ready));
     let finished = Digits::of(u64::from(progress.finished));
@@ -285,16 +280,14 @@ fn write_progress<W: Sink>(
 }
 
 fn write_text<W: Sink>(text: &[u8], is_head: bool, writer: &mut W) -> Result<u16, WriteFault>
-    ensures writes { Writes W.Sink writer.old writer.new (reply_bytes (reply_with 200 text.now) is_head) result }
-    ensures code { IfOk result (λ code. code ≡ 200) }
+    ensures { WritesReply W.Sink writer.old writer.new (reply_with 200 text.now) is_head result }
 {
     let body = [text];
     write_whole(StatusCode::OK, "", &body, text.len(), is_head, writer)
 }
 
 fn write_bad_hint<W: Sink>(text: &[u8], is_head: bool, writer: &mut W) -> Result<u16, WriteFault>
-    ensures writes { Writes W.Sink writer.old writer.new (reply_bytes (reply_with 400 text.now) is_head) result }
-    ensures code { IfOk result (λ code. code ≡ 400) }
+    ensures { WritesReply W.Sink writer.old writer.new (reply_with 400 text.now) is_head result }
 {
     let body = [text];
     write_whole(
@@ -315,8 +308,7 @@ pub fn write_answer<W: Sink>(
     writer: &mut W,
 ) -> Result<u16, WriteFault>
     requires { HasPlace setup.now answer.now }
-    ensures writes { Writes W.Sink writer.old writer.new (reply_bytes (reply_in setup.now answer.now) is_head) result }
-    ensures code { IfOk result (λ code. code ≡ (reply_in setup.now answer.now).code) }
+    ensures { WritesReply W.Sink writer.old writer.new (reply_in setup.now answer.now) is_head result }
 {
     match answer {
         Answer::Refused(refusal) => write_refused(*refusal, is_head, writer),

@@ -1,14 +1,13 @@
 //! What a request asks for, given its head.
-ghost use Rattle.std.specs.Prelude.{◌≡◌, true, if◌then◌else◌, ◌+◌, ◌<◌, ◌≤◌, ◌∷◌, ◌++◌, [], ℕ, List, length, drop, map, All, IfOk, Option, Some, None, codes, IsUtf8, unwrap_or};
+ghost use Rattle.std.specs.Prelude.{◌≡◌, true, if◌then◌else◌, ◌<◌, ◌≤◌, [], List, length, drop, map, All, IfOk, Option, Some, None, codes, unwrap_or};
 ghost use Rattle.std.specs.Char.{is_ascii_digit};
-ghost use Rattle.std.specs.List.{list_all, position, before_first};
-ghost use Rattle.std.specs.Str.{str_eq_ignore_ascii_case, bytes_eq};
+ghost use Rattle.std.specs.List.{list_all, position};
+ghost use Rattle.std.specs.Str.{str_eq_ignore_ascii_case};
 ghost use Rattle.httparse.specs.Grammar.{RequestHead};
 ghost use Rattle.httparse.specs.Spans.{IsHeaderWithin, IsRequestWithin, IsRequestAt, header_bytes};
 ghost use Rattle.office_http_requests.specs.Asked.{are_digits, number_under, number_stated, is_foreign_site, framing_of, is_query, path_of, has_leading_zero, plain_number, absent_length, posted_length, post_asked, tell_asked, asked_at, names_host, asked_by, asked_of, is_head_method};
 ghost use Rattle.office_http_requests.specs.steps.Asked.{with_value, length_with, waits_with, foreign_with, with_host, with_field};
-ghost use Rattle.office_http_requests.specs.Routes.{office_routes, route_of};
-ghost use Rattle.office_http_requests.specs.Request.{field_room};
+ghost use Rattle.office_http_requests.specs.Routes.{office_routes};
 
 use crate::days::{order_asked, try_on_asked};
 use crate::letters::{bag_asked, letter_asked, mail_of_asked};

@@ -1,8 +1,8 @@
 -- Steps beside `specs/Told.antt`.
 use Rattle.std.specs.Prelude.{◌≡◌, ◌⊎◌, ◌<◌, ◌==◌, ℕ, Option, Some, None, if◌then◌else◌, length}
 use Rattle.office_core_outcome.specs.declared.proposal.Proposal.{Proposal}
-use Rattle.office_core_orders.specs.declared.waiting_lines.Awaited.{Awaited}
-use Rattle.office_core_orders.specs.declared.waiting_lines.Awaited.TheVariants.{Order, Mail}
+use Rattle.office_core_orders.specs.declared.wait_lines.Awaited.{Awaited}
+use Rattle.office_core_orders.specs.declared.wait_lines.Awaited.TheVariants.{Order, Mail}
 use Rattle.office_cli.specs.declared.reasons.WhichRun.{WhichRun}
 use Rattle.office_cli.specs.declared.reasons.WhichRun.TheVariants.{Last, Earlier, Unfinished}
 

@@ -1,11 +1,11 @@
 -- Calls that only look which row of a store doesn't read.
-use Rattle.std.specs.Prelude.{◌≡◌, ◌≢◌, ◌⊎◌, ◌≤◌, ℕ, ⊤, Result, Ok, Err}
+use Rattle.std.specs.Prelude.{◌≡◌, ◌≢◌, ◌⊎◌, ◌≤◌, ℕ, ⊤, Option, None, Result, Ok, Err}
 use Rattle.office_mail.specs.Counts.{HasRisen}
 use Rattle.office_store_keeper.specs.Provenance.{AreOwnTexts}
 use Rattle.office_store_keeper.specs.declared.faults.Cause.TheVariants.{BadRow}
 use Rattle.office_store_keeper.specs.declared.faults.KeepFault.{KeepFault}
 use Rattle.office_store_keeper.specs.declared.faults.KeepFault.TheVariants.{NoMemory, Store}
-use Rattle.office_store_keeper.specs.declared.keeping.Keeper.{Ghosts}
+use Rattle.office_store_keeper.specs.declared.keeper.Keeper.{Ghosts}
 use Rattle.office_core_orders.specs.declared.faults.StoreFault.{StoreFault}
 use Rattle.office_core_orders.specs.declared.faults.StoreFault.TheVariants as fault
 use Rattle.office_core_check.specs.declared.Checked.{Checked}
@@ -41,3 +41,8 @@ pub record Asks {K : Type 0} (keeper : Ghosts K) (old new : K) : Type 0 where
   pub faults : keeper.disk_faults old ≤ keeper.disk_faults new
   pub shut : keeper.is_clean new → keeper.is_trusted old → keeper.is_trusted new ⊎ HasRisen (keeper.disk_faults old) (keeper.disk_faults new)
   pub counts : (n : ℕ) → HasRisen n (keeper.refusals old) → HasRisen n (keeper.refusals new)
+
+-- a call looks for a part of which a row doesn't read: it only asks, and names none if every row reads
+pub record LooksForPart {K A : Type 0} (keeper : Ghosts K) (old new : K) (result : Option A) : Type 0 where
+  pub none : keeper.is_trusted new → IsReadable keeper old → result ≡ None
+  pub asks : Asks keeper old new

@@ -14,10 +14,10 @@ pub returns-clause-text : goal.returns-clause-text
 returns-clause-text g c = λ trusted legible.
     let a = c.args in
     let earlier = c.give_back.ensures.before trusted in
-    subst (λ (t : Suite). IfOk c.testing_text-text.result (λ text. text ≡ testing_text a.setup.now a.finished t))
-    (c.in_ok-testing.ensures.value earlier (c.in_ok-testing.ensures.looks.legible earlier legible)) c.testing_text-text.ensures.text
+    subst (λ (t : Suite). IfOk c.finished_testing_text-text.result (λ text. text ≡ testing_text a.setup.now a.finished t))
+    (c.in_ok-testing.ensures.value earlier (c.in_ok-testing.ensures.looks.legible earlier legible)) c.finished_testing_text-text.ensures.text
 
 pub returns-clause-looks : goal.returns-clause-looks
 returns-clause-looks g c =
     let b = c.give_back.ensures in
-    given_back g.K.Keeper _ _ _ _ c.testing_text-text.result c.in_ok-testing.ensures.looks b.same b.setup b.clean b.faults b.before b.stays b.legible b.counted c.testing_text-text.ensures.no_store
+    given_back g.K.Keeper _ _ _ _ c.finished_testing_text-text.result c.in_ok-testing.ensures.looks b.same b.setup b.clean b.faults b.before b.stays b.legible b.counted c.finished_testing_text-text.ensures.no_store

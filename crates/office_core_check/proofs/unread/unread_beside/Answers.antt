@@ -1,13 +1,16 @@
 use Rattle.office_core_check.proofs.UnreadFacts.{asks_then, named, readable_then}
 use Rattle.office_core_check.proofs.unread.unread_beside.Goals as goal
 
-pub returns-then-is_some-clause-none : goal.returns-then-is_some-clause-none
-returns-then-is_some-clause-none g c = λ trusted so. named c.unread_finished-part.result c.is_some.result c.is_some.ensures c.if-is_some.true (c.unread_finished-part.ensures.none trusted so)
+pub returns-then-is_some : goal.returns-then-is_some
+returns-then-is_some g c = record {
+  none = λ trusted so. named c.unread_finished-part.result c.is_some.result c.is_some.ensures c.if-is_some.true (c.unread_finished-part.ensures.none trusted so);
+  asks = c.unread_finished-part.ensures.asks;
+}
 
-pub returns-clause-none : goal.returns-clause-none
-returns-clause-none g c = λ trusted so.
-    let second = c.unread_left.ensures in
-    second.none trusted (readable_then g.K.Keeper c.args.keeper.now c.unread_finished-part.new.keeper c.unread_finished-part.ensures.asks (second.asks.before trusted) so)
-
-pub returns-clause-asks : goal.returns-clause-asks
-returns-clause-asks g c = asks_then g.K.Keeper c.args.keeper.now c.unread_finished-part.new.keeper c.unread_left.new.keeper c.unread_finished-part.ensures.asks c.unread_left.ensures.asks
+pub returns : goal.returns
+returns g c = record {
+  none = λ trusted so.
+      let second = c.unread_left.ensures in
+      second.none trusted (readable_then g.K.Keeper c.args.keeper.now c.unread_finished-part.new.keeper c.unread_finished-part.ensures.asks (second.asks.before trusted) so);
+  asks = asks_then g.K.Keeper c.args.keeper.now c.unread_finished-part.new.keeper c.unread_left.new.keeper c.unread_finished-part.ensures.asks c.unread_left.ensures.asks;
+}

@@ -5,13 +5,13 @@ use Rattle.office_core_queries.proofs.ReportFacts.{line_answered}
 use Rattle.office_core_queries.proofs.run_lines.push_run_line.Goals as goal
 
 pub returns-in_err-update-clause-asks : goal.returns-in_err-update-clause-asks
-returns-in_err-update-clause-asks g c = asks_twice g.K.Keeper c.args.office.now c.excuses_of.new.office c.update_of.new.office c.in_ok-excuses.ensures.asks c.in_err-update.ensures.asks
+returns-in_err-update-clause-asks g c = asks_twice g.K.Keeper c.args.office.now c.excuses_text.new.self c.update_text.new.self c.in_ok-excuses.ensures.asks.asks c.in_err-update.ensures.asks.asks
 
 pub returns-in_err-push_run-clause-asks : goal.returns-in_err-push_run-clause-asks
-returns-in_err-push_run-clause-asks g c = asks_twice g.K.Keeper c.args.office.now c.excuses_of.new.office c.update_of.new.office c.in_ok-excuses.ensures.asks c.in_ok-update.ensures.asks
+returns-in_err-push_run-clause-asks g c = asks_twice g.K.Keeper c.args.office.now c.excuses_text.new.self c.update_text.new.self c.in_ok-excuses.ensures.asks.asks c.in_ok-update.ensures.asks.asks
 
 pub returns-clause-asks : goal.returns-clause-asks
-returns-clause-asks g c = asks_twice g.K.Keeper c.args.office.now c.excuses_of.new.office c.update_of.new.office c.in_ok-excuses.ensures.asks c.in_ok-update.ensures.asks
+returns-clause-asks g c = asks_twice g.K.Keeper c.args.office.now c.excuses_text.new.self c.update_text.new.self c.in_ok-excuses.ensures.asks.asks c.in_ok-update.ensures.asks.asks
 
 pub returns-clause-text : goal.returns-clause-text
 returns-clause-text g c =
@@ -23,4 +23,4 @@ returns-clause-text g c =
     c.in_ok-push_run.ensures
     ∙ ap (λ t. string_bytes c.args.text.now ++ t)
     (ap (λ x. run_line run x c.text_in-2.result.now) c.text_in.ensures ∙ ap (run_line run (unwrap_or c.in_ok-excuses.excuses [])) c.text_in-2.ensures
-    ∙ line_answered keeper c.args.office.now c.excuses_of.new.office c.update_of.new.office run c.in_ok-excuses.excuses c.in_ok-update.update e.asks u.asks e.text u.text h first last)
+    ∙ line_answered keeper c.args.office.now c.excuses_text.new.self c.update_text.new.self run c.in_ok-excuses.excuses c.in_ok-update.update e.asks.asks u.asks.asks e.text u.text h first last)

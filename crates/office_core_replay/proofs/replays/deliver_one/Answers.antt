@@ -23,7 +23,7 @@ returns-in_err-write_reply-clause-front g c =
     let w1 = g.W.Sink.written c.write_reply.new.writer in
     let p = err_from_is_err_and c.from_residual.result c.from_residual.ensures.1 in
     λ h. rw p.1 (delivers_one_front (StoreRefused keeper s0 s1) (state_of keeper s0) (state_of keeper s1) c.args.text.now r w0 w1
-    (leaves_call keeper s0 s1 c.args.text.now r (e.answer h) (e.kept h) (e.finished h) (e.err h) e.carries.setup e.counted)
+    (leaves_call keeper s0 s1 c.args.text.now r (e.answer h) (e.kept h) (e.runs.finished h) (e.runs.err h) e.carries.setup e.counted)
     (e.carries.sound h.0 h.1).1.ready (subst (λ (l : Lists). AppendsFront w0 w1 (reply_line l r)) c.setup.ensures.setup c.in_err-write_reply.ensures.err))
 
 pub returns-clause-ok : goal.returns-clause-ok
@@ -44,6 +44,6 @@ returns-clause-ok g c =
     let h2 = holds_next keeper s0 s1 s2 one two h in
     subst (λ (m : Mark). DeliversOne (state_of keeper s0) (state_of keeper s2) text m w0 w1 (StoreRefused keeper s0 s2)) (sym c.mark_of.ensures)
     (delivers_one (StoreRefused keeper s0 s1) (StoreRefused keeper s1 s2) (StoreRefused keeper s0 s2) (state_of keeper s0) (state_of keeper s1) (state_of keeper s2) text r w0 w1
-    (leaves_call keeper s0 s1 text r (e.answer h1) (e.kept h1) (e.finished h1) (e.err h1) e.carries.setup e.counted) (refused_first keeper s0 s1 s2 two)
+    (leaves_call keeper s0 s1 text r (e.answer h1) (e.kept h1) (e.runs.finished h1) (e.runs.err h1) e.carries.setup e.counted) (refused_first keeper s0 s1 s2 two)
     (c.settle_watched.ensures.settles h2) (refused_next keeper s0 s1 s2 one)
     (subst (λ (l : Lists). Appends w0 w1 (reply_line l r)) c.setup.ensures.setup c.in_ok-write_reply.ensures.ok))

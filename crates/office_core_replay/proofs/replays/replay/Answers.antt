@@ -6,8 +6,5 @@ returns-clause-ok g c = c.replay_watched.ensures.ok
 pub returns-clause-err : goal.returns-clause-err
 returns-clause-err g c = c.replay_watched.ensures.err
 
-pub returns-clause-read_cause : goal.returns-clause-read_cause
-returns-clause-read_cause g c = c.replay_watched.ensures.read_cause
-
-pub returns-clause-read_clean : goal.returns-clause-read_clean
-returns-clause-read_clean g c = c.replay_watched.ensures.read_clean
+pub returns-clause-read : goal.returns-clause-read
+returns-clause-read g c = c.replay_watched.ensures.read

@@ -1,6 +1,6 @@
 use Rattle.std.proofs.Common.{ℕ, ap, ◌∙◌}
 use Rattle.office_mail.specs.Lists.{Lists}
-use Rattle.office_core_orders.specs.declared.waiting_lines.Waiting.{Waiting}
+use Rattle.office_core_orders.specs.declared.wait_lines.Waiting.{Waiting}
 use Rattle.office_core_orders.specs.WaitingLines.{waiting_text}
 use Rattle.office_http.proofs.serve.awaited_text.Goals as goal
 

@@ -12,10 +12,10 @@ use Rattle.office_http.proofs.BreakFacts.{asked, asked_bad}
 use Rattle.office_http.proofs.serve.break_bytes.Goals as goal
 
 pub returns-in-Ok-clause-carries : goal.returns-in-Ok-clause-carries
-returns-in-Ok-clause-carries g c = c.breaks_body.ensures.asks.carries
+returns-in-Ok-clause-carries g c = c.breaks_body.ensures.asks.asks.carries
 
 pub returns-in-Ok-clause-place : goal.returns-in-Ok-clause-place
-returns-in-Ok-clause-place g c = rw c.answer_or.ensures (place_or (g.K.Keeper.setup c.args.office.now) c.breaks_body.result c.breaks_body.ensures.place)
+returns-in-Ok-clause-place g c = rw c.answer_or.ensures (place_or (g.K.Keeper.setup c.args.office.now) c.breaks_body.result c.breaks_body.ensures.asks.place)
 
 pub returns-in-Ok-clause-runs : goal.returns-in-Ok-clause-runs
 returns-in-Ok-clause-runs g c =
@@ -27,7 +27,7 @@ returns-in-Ok-clause-runs g c =
     let e = c.breaks_body.ensures in
     λ h. rw c.answer_or.ensures (asked (StoreRefused keeper s0 s1) (state_of keeper s0) (state_of keeper s1) body r (is_utf8-from_IsUtf8 body c.in-Ok.ensures.cases.1)
     (subst (λ (t : List ℕ). IfOk r (λ a. TellsChanges (state_of keeper s0) (hints_in t) a)) c.in-Ok.ensures.cases.0 (e.tells h))
-    (state_asked keeper s0 s1 e.asks h.0) (risen (keeper.refusals s0) (keeper.refusals s1) r e.counted))
+    (state_asked keeper s0 s1 e.asks.asks h.0) (risen (keeper.refusals s0) (keeper.refusals s1) r e.asks.counted))
 
 pub returns-in-Err-clause-runs : goal.returns-in-Err-clause-runs
 returns-in-Err-clause-runs g c =

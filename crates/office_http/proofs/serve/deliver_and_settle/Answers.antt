@@ -22,5 +22,5 @@ returns-clause-runs g c =
     let h1 = holds_first keeper s0 s1 s2 two h in
     let h2 = holds_next keeper s0 s1 s2 one two h in
     delivered (StoreRefused keeper s0 s1) (StoreRefused keeper s1 s2) (StoreRefused keeper s0 s2) (state_of keeper s0) (state_of keeper s1) (state_of keeper s2) c.args.text.now r
-    (leaves_call keeper s0 s1 c.args.text.now r (e.answer h1) (e.kept h1) (e.finished h1) (e.err h1) one.setup e.counted) (refused_first keeper s0 s1 s2 two)
+    (leaves_call keeper s0 s1 c.args.text.now r (e.answer h1) (e.kept h1) (e.runs.finished h1) (e.runs.err h1) one.setup e.counted) (refused_first keeper s0 s1 s2 two)
     (c.settle_behind.ensures.settles h2) (refused_next keeper s0 s1 s2 one)

@@ -62,7 +62,7 @@ returns-in-Waiting-clause-tells g c =
     let s1 = c.awaited_text.new.office in
     let r = c.awaited_text.result in
     let e = c.awaited_text.ensures in
-    λ h. rw (c.in-Waiting.is, c.text_answer-in-Waiting.ensures) (told_waiting (StoreRefused keeper s0 s1) (state_of keeper s0) r (e.tells h) (risen (keeper.refusals s0) (keeper.refusals s1) r e.counted))
+    λ h. rw (c.in-Waiting.is, c.text_answer-in-Waiting.ensures) (told_waiting (StoreRefused keeper s0 s1) (state_of keeper s0) r (e.tells h) (risen (keeper.refusals s0) (keeper.refusals s1) r e.asks.counted))
 
 pub returns-in-Runs-clause-place : goal.returns-in-Runs-clause-place
 returns-in-Runs-clause-place g c = rw c.text_answer-in-Runs.ensures (place_text (g.K.Keeper.setup c.args.office.now) c.runs_text.result)
@@ -86,7 +86,7 @@ returns-in-Kept-clause-tells g c =
     let s1 = c.counted_text.new.office in
     let r = c.counted_text.result in
     let e = c.counted_text.ensures in
-    λ h. rw (c.in-Kept.is, c.text_answer-in-Kept.ensures) (told_kept (StoreRefused keeper s0 s1) (state_of keeper s0) r (e.text h) (risen (keeper.refusals s0) (keeper.refusals s1) r e.counted))
+    λ h. rw (c.in-Kept.is, c.text_answer-in-Kept.ensures) (told_kept (StoreRefused keeper s0 s1) (state_of keeper s0) r (e.text h) (risen (keeper.refusals s0) (keeper.refusals s1) r e.asks.counted))
 
 pub returns-in-Letter-clause-place : goal.returns-in-Letter-clause-place
 returns-in-Letter-clause-place g c = rw c.letter_answer.ensures (place_letter (g.K.Keeper.setup c.args.office.now) c.kept_text.result)
@@ -122,7 +122,7 @@ returns-in-Why-clause-tells g c =
     let s1 = c.source_text.new.office in
     let r = c.source_text.result in
     let e = c.source_text.ensures in
-    λ h. rw (c.in-Why.is, c.why_answer.ensures) (told_why (StoreRefused keeper s0 s1) (state_of keeper s0) c.in-Why.source r (e.tells h) (risen (keeper.refusals s0) (keeper.refusals s1) r e.counted))
+    λ h. rw (c.in-Why.is, c.why_answer.ensures) (told_why (StoreRefused keeper s0 s1) (state_of keeper s0) c.in-Why.source r (e.tells h) (risen (keeper.refusals s0) (keeper.refusals s1) r e.asks.counted))
 
 pub returns-in-Order-clause-place : goal.returns-in-Order-clause-place
 returns-in-Order-clause-place g c = rw c.text_answer-in-Order.ensures (place_text (g.K.Keeper.setup c.args.office.now) c.order_on.result)
@@ -134,7 +134,7 @@ returns-in-Order-clause-tells g c =
     let s1 = c.order_on.new.office in
     let r = c.order_on.result in
     let e = c.order_on.ensures in
-    λ h. rw (c.in-Order.is, c.text_answer-in-Order.ensures) (told_order (StoreRefused keeper s0 s1) (state_of keeper s0) c.in-Order.day r (e.text h) (risen (keeper.refusals s0) (keeper.refusals s1) r e.counted))
+    λ h. rw (c.in-Order.is, c.text_answer-in-Order.ensures) (told_order (StoreRefused keeper s0 s1) (state_of keeper s0) c.in-Order.day r (e.text h) (risen (keeper.refusals s0) (keeper.refusals s1) r e.asks.counted))
 
 pub returns-in-Hints-clause-place : goal.returns-in-Hints-clause-place
 returns-in-Hints-clause-place g c = rw c.text_answer-in-Hints.ensures (place_text (g.K.Keeper.setup c.args.office.now) c.hints_text.result)
@@ -161,7 +161,7 @@ returns-in-Unstable-clause-tells g c =
     λ h. rw (c.in-Unstable.is, c.text_answer-in-Unstable.ensures) (told_unstable (StoreRefused keeper s0 s1) (state_of keeper s0) r (e.text h) (risen (keeper.refusals s0) (keeper.refusals s1) r e.asks.counted))
 
 pub returns-in-Propose-clause-place : goal.returns-in-Propose-clause-place
-returns-in-Propose-clause-place g c = rw c.answer_or.ensures (place_or (g.K.Keeper.setup c.args.office.now) c.propose_groups.result c.propose_groups.ensures.place)
+returns-in-Propose-clause-place g c = rw c.answer_or.ensures (place_or (g.K.Keeper.setup c.args.office.now) c.propose_groups.result c.propose_groups.ensures.asks.place)
 
 pub returns-in-Propose-clause-tells : goal.returns-in-Propose-clause-tells
 returns-in-Propose-clause-tells g c =
@@ -170,10 +170,10 @@ returns-in-Propose-clause-tells g c =
     let s1 = c.propose_groups.new.office in
     let r = c.propose_groups.result in
     let e = c.propose_groups.ensures in
-    λ h. rw (c.in-Propose.is, c.answer_or.ensures) (told_propose (StoreRefused keeper s0 s1) (state_of keeper s0) r (e.tells h) (risen (keeper.refusals s0) (keeper.refusals s1) r e.counted))
+    λ h. rw (c.in-Propose.is, c.answer_or.ensures) (told_propose (StoreRefused keeper s0 s1) (state_of keeper s0) r (e.tells h) (risen (keeper.refusals s0) (keeper.refusals s1) r e.asks.counted))
 
 pub returns-in-ProposeFor-clause-place : goal.returns-in-ProposeFor-clause-place
-returns-in-ProposeFor-clause-place g c = rw c.answer_or-in-ProposeFor.ensures (place_or (g.K.Keeper.setup c.args.office.now) c.propose_for.result c.propose_for.ensures.place)
+returns-in-ProposeFor-clause-place g c = rw c.answer_or-in-ProposeFor.ensures (place_or (g.K.Keeper.setup c.args.office.now) c.propose_for.result c.propose_for.ensures.asks.place)
 
 pub returns-in-ProposeFor-clause-tells : goal.returns-in-ProposeFor-clause-tells
 returns-in-ProposeFor-clause-tells g c =
@@ -182,10 +182,10 @@ returns-in-ProposeFor-clause-tells g c =
     let s1 = c.propose_for.new.office in
     let r = c.propose_for.result in
     let e = c.propose_for.ensures in
-    λ h. rw (c.in-ProposeFor.is, c.answer_or-in-ProposeFor.ensures) (told_propose_for (StoreRefused keeper s0 s1) (state_of keeper s0) c.in-ProposeFor.source r (e.tells h) (risen (keeper.refusals s0) (keeper.refusals s1) r e.counted))
+    λ h. rw (c.in-ProposeFor.is, c.answer_or-in-ProposeFor.ensures) (told_propose_for (StoreRefused keeper s0 s1) (state_of keeper s0) c.in-ProposeFor.source r (e.tells h) (risen (keeper.refusals s0) (keeper.refusals s1) r e.asks.counted))
 
 pub returns-in-ProposeOn-clause-place : goal.returns-in-ProposeOn-clause-place
-returns-in-ProposeOn-clause-place g c = rw c.answer_or-in-ProposeOn.ensures (place_or (g.K.Keeper.setup c.args.office.now) c.propose_on.result c.propose_on.ensures.place)
+returns-in-ProposeOn-clause-place g c = rw c.answer_or-in-ProposeOn.ensures (place_or (g.K.Keeper.setup c.args.office.now) c.propose_on.result c.propose_on.ensures.asks.place)
 
 pub returns-in-ProposeOn-clause-tells : goal.returns-in-ProposeOn-clause-tells
 returns-in-ProposeOn-clause-tells g c =
@@ -194,10 +194,10 @@ returns-in-ProposeOn-clause-tells g c =
     let s1 = c.propose_on.new.office in
     let r = c.propose_on.result in
     let e = c.propose_on.ensures in
-    λ h. rw (c.in-ProposeOn.is, c.answer_or-in-ProposeOn.ensures) (told_propose_on (StoreRefused keeper s0 s1) (state_of keeper s0) c.in-ProposeOn.day r (e.tells h) (risen (keeper.refusals s0) (keeper.refusals s1) r e.counted))
+    λ h. rw (c.in-ProposeOn.is, c.answer_or-in-ProposeOn.ensures) (told_propose_on (StoreRefused keeper s0 s1) (state_of keeper s0) c.in-ProposeOn.day r (e.tells h) (risen (keeper.refusals s0) (keeper.refusals s1) r e.asks.counted))
 
 pub returns-in-Breaks-clause-place : goal.returns-in-Breaks-clause-place
-returns-in-Breaks-clause-place g c = rw c.answer_or-in-Breaks.ensures (place_or (g.K.Keeper.setup c.args.office.now) c.breaks_of.result c.breaks_of.ensures.place)
+returns-in-Breaks-clause-place g c = rw c.answer_or-in-Breaks.ensures (place_or (g.K.Keeper.setup c.args.office.now) c.breaks_of.result c.breaks_of.ensures.asks.place)
 
 pub returns-in-Breaks-clause-tells : goal.returns-in-Breaks-clause-tells
 returns-in-Breaks-clause-tells g c =
@@ -206,4 +206,4 @@ returns-in-Breaks-clause-tells g c =
     let s1 = c.breaks_of.new.office in
     let r = c.breaks_of.result in
     let e = c.breaks_of.ensures in
-    λ h. rw (c.in-Breaks.is, c.answer_or-in-Breaks.ensures) (told_breaks (StoreRefused keeper s0 s1) (state_of keeper s0) c.in-Breaks.source r (e.tells h) (risen (keeper.refusals s0) (keeper.refusals s1) r e.counted))
+    λ h. rw (c.in-Breaks.is, c.answer_or-in-Breaks.ensures) (told_breaks (StoreRefused keeper s0 s1) (state_of keeper s0) c.in-Breaks.source r (e.tells h) (risen (keeper.refusals s0) (keeper.refusals s1) r e.asks.counted))

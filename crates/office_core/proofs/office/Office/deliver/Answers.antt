@@ -12,24 +12,24 @@ use Rattle.office_core.proofs.office.Office.deliver.Goals as goal
 pub invariant_of-self : goal.invariant_of-self
 invariant_of-self g c =
     let old : Content = g.K.Keeper.content c.self.inside.keeper in
-    let new : Content = g.K.Keeper.content c.deliver-reply.new.keeper in
-    let done = c.deliver-reply.ensures in (
-      done.carries.setup ∙ c.self.invariant.0,
+    let new : Content = g.K.Keeper.content c.deliver_text-reply.new.keeper in
+    let done = c.deliver_text-reply.ensures in (
+      done.runs.changes.setup ∙ c.self.invariant.0,
       λ trusted. (
-          let later = IsCounted-later c.self.inside.setup old new c.self.inside.counts.items c.self.inside.orders.items (done.within trusted) (omega (arith, ap length (done.reports trusted))) (c.self.invariant.1 (done.carries.before trusted)) in
-          let held = delivery_kept c.self.inside.setup old.kept new.kept c.args.text.now c.deliver-reply.result (done.answer trusted) (done.kept trusted) in
+          let later = IsCounted-later c.self.inside.setup old new c.self.inside.counts.items c.self.inside.orders.items (done.within trusted) (omega (arith, ap length (done.runs.reports trusted))) (c.self.invariant.1 (done.runs.changes.before trusted)) in
+          let held = delivery_kept c.self.inside.setup old.kept new.kept c.args.text.now c.deliver_text-reply.result (done.answer trusted) (done.kept trusted) in
           record { numbers = c.count_reply.ensures new.kept held later.numbers; first = later.first; next = later.next }),
-      λ trusted. if_known-later c.self.inside.setup old new c.self.inside.known (done.within trusted) (done.reports trusted) (done.facts trusted) (c.self.invariant.2 (done.carries.before trusted)),
+      λ trusted. if_known-later c.self.inside.setup old new c.self.inside.known (done.within trusted) (done.runs.reports trusted) (done.runs.facts trusted) (c.self.invariant.2 (done.runs.changes.before trusted)),
     )
 
 pub returns-clause-step : goal.returns-clause-step
 returns-clause-step g c = λ holds.
     let trusted = holds.0 in
     let keeper = g.K.Keeper in
-    let new : Content = keeper.content c.deliver-reply.new.keeper in
-    let done = c.deliver-reply.ensures in
-    let steps = delivery c.args.text.now c.deliver-reply.result ∷ [] in
+    let new : Content = keeper.content c.deliver_text-reply.new.keeper in
+    let done = c.deliver_text-reply.ensures in
+    let steps = delivery c.args.text.now c.deliver_text-reply.result ∷ [] in
     subst (λ v. IsSound keeper v → Leads (keeper.setup v) (keeper.content v) steps new) c.self.view_is (λ sound.
     let old : Content = keeper.content c.self.inside.keeper in
     subst (λ (s : Lists). Leads s old steps new) (sym c.self.invariant.0)
-    (delivered c.self.inside.setup c.args.text.now c.deliver-reply.result old new (done.answer trusted) (done.kept trusted) (done.testing trusted sound.0) (done.reports trusted) (done.err trusted))) holds.1
+    (delivered c.self.inside.setup c.args.text.now c.deliver_text-reply.result old new (done.answer trusted) (done.kept trusted) (done.runs.testing trusted sound.0) (done.runs.reports trusted) (done.runs.err trusted))) holds.1
