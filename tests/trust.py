@@ -149,8 +149,8 @@ def run_bits():
 def versions():
     """A fault if the newest version in CHANGELOG.md isn't the program's."""
     newest = re.search(r'(?m)^## (\d+\.\d+\.\d+)$', (TOP / 'CHANGELOG.md').read_text())[1]
-    if f'const VERSION: &str = "{newest}";' not in (TOP / 'crates/office_cli/src/telling.rt').read_text():
-        yield f'CHANGELOG.md: {newest} isn\'t the version that office_cli/src/telling.rt states'
+    if f'const VERSION: &str = "{newest}";' not in (TOP / 'crates/office_cli/src/answers.rt').read_text():
+        yield f'CHANGELOG.md: {newest} isn\'t the version that office_cli/src/answers.rt states'
 
 def main():
     faults, cited = [*versions(), *run_bits()], 0

@@ -163,7 +163,7 @@ fn satisfies(package: &Package, alternative: &Alternative) -> bool {
 
 struct Work<'a> {
     packages: &'a [Package],
-    bearers: HashMap<&'a str, Vec<usize>>,
+    providers: HashMap<&'a str, Vec<usize>>,
     claims: Vec<(usize, &'a [Alternative])>,
     marks: Vec<bool>,
     resting: Vec<Vec<usize>>,
@@ -174,12 +174,12 @@ struct Work<'a> {
 
 impl<'a> Work<'a> {
     fn new(packages: &'a [Package]) -> Self {
-        let mut bearers: HashMap<&str, Vec<usize>> = HashMap::new();
+        let mut providers: HashMap<&str, Vec<usize>> = HashMap::new();
         let mut claims = Vec::new();
         for (place, package) in packages.iter().enumerate() {
-            bearers.entry(&package.name).or_default().push(place);
+            providers.entry(&package.name).or_default().push(place);
             for provision in &package.provides {
-                bearers.entry(&provision.name).or_default().push(place);
+                providers.entry(&provision.name).or_default().push(place);
             }
             claims.extend(
                 package
@@ -190,7 +190,7 @@ impl<'a> Work<'a> {
         }
         Work {
             packages,
-            bearers,
+            providers,
             claims,
             marks: vec![true; packages.len()],
             resting: vec![Vec::new(); packages.len()],
@@ -202,7 +202,7 @@ impl<'a> Work<'a> {
 
     fn find(&self, clause: &[Alternative]) -> Option<usize> {
         clause.iter().find_map(|alternative| {
-            let places = self.bearers.get(alternative.name.as_str())?;
+            let places = self.providers.get(alternative.name.as_str())?;
             let does = |place: &usize| {
                 self.marks[*place] && satisfies(&self.packages[*place], alternative)
             };

@@ -16,8 +16,8 @@ elif ! (apt-cache dumpavail 2> /dev/null | fields > "$work/archive" && is_archiv
     rm "$work/archive"
 fi
 awk -f "$here/random_rows.awk" > "$work/drawn"
-awk -f "$here/bearers.awk" > "$work/bearers"
-runs="drawn bearers"
+awk -f "$here/providers.awk" > "$work/providers"
+runs="drawn providers"
 if [ -f "$work/archive" ]; then
     awk -v RS= -v ORS='\n\n' '!/^Package: libc6\n/' "$work/archive" > "$work/without_libc6"
     awk -v RS= -v ORS='\n\n' 'NR % 100 != 7' "$work/archive" > "$work/with_gaps"

@@ -187,11 +187,11 @@ def groundless_fault(needs, rows):
     """What is wrong with the numbers of lines: each line names the first of those whose rows meet its clause, and
     counts the others; None if nothing is."""
     for number, (_, clause, numbers, more) in enumerate(needs, 1):
-        bearers = sorted(id(r) for r in rows if meets(r, clause))
-        due = [n for n, need in enumerate(needs, 1) if id(need[0]) in bearers]
+        providers = sorted(id(r) for r in rows if meets(r, clause))
+        due = [n for n, need in enumerate(needs, 1) if id(need[0]) in providers]
         if any(n <= number for n in due) or (numbers, more) != (due[:TOLD], max(len(due) - TOLD, 0)):
             return "line %d names another number" % number
-        if sorted(id(needs[n - 1][0]) for n in due) != bearers:
+        if sorted(id(needs[n - 1][0]) for n in due) != providers:
             return "line %d isn't groundless" % number
     return None
 

@@ -28,7 +28,7 @@ pub struct Excuse<'a> {
 }
 
 /// What the excuses of a run are made from.
-struct Ground<'r, 'a> {
+struct ExcuseInput<'r, 'a> {
     setup: &'r Setup<'a>,
     facts: &'r Facts<'a>,
     hints: &'r StandingHints<'r, 'a>,
@@ -49,7 +49,7 @@ pub fn excuses<'a>(
     for (&number, bug) in facts.bugs.iter().filter(|(_, bug)| bug.is_release_critical) {
         bugs_of.entry(bug.source).or_default().push((number, bug));
     }
-    let ground = Ground { setup, facts, hints, bugs_of, day };
+    let input = ExcuseInput { setup, facts, hints, bugs_of, day };
     let mut news: Vec<_> = facts
         .uploads
         .iter()
@@ -58,11 +58,11 @@ pub fn excuses<'a>(
         .collect();
     news.sort_unstable_by_key(|news| names.text(news.0));
     news.into_iter()
-        .map(|(source, uploads, unstable, testing)| ground.excuse(source, uploads, unstable, testing))
+        .map(|(source, uploads, unstable, testing)| input.excuse(source, uploads, unstable, testing))
         .collect()
 }
 
-impl<'a> Ground<'_, 'a> {
+impl<'a> ExcuseInput<'_, 'a> {
     fn excuse(
         &self,
         source: NameId,

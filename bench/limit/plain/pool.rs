@@ -24,7 +24,7 @@ pub struct PoolRow {
 pub struct Clause<'a> {
     alternatives: Vec<Alternative<'a>>,
     /// The rows that satisfy the clause.
-    pub bearers: Vec<RowId>,
+    pub providers: Vec<RowId>,
     /// The rows that have it.
     pub users: Vec<RowId>,
 }
@@ -90,7 +90,7 @@ impl<'a> Pool<'a> {
         satisfies.sort_unstable();
         satisfies.dedup();
         for &clause in &satisfies {
-            self.clauses[clause as usize].bearers.push(id);
+            self.clauses[clause as usize].providers.push(id);
         }
         self.rows[id as usize].satisfies = satisfies;
     }
@@ -104,18 +104,18 @@ impl<'a> Pool<'a> {
         let alternatives: Vec<_> =
             text.split(|&byte| byte == b'|').map(|text| Alternative::read(text, names)).collect();
         self.names.resize_with(names.len(), Name::default);
-        let mut bearers = Vec::new();
+        let mut providers = Vec::new();
         for alternative in &alternatives {
             let name = &mut self.names[alternative.name as usize];
-            bearers.extend(name.offers.iter().filter(|offer| alternative.accepts(offer.1)).map(|offer| offer.0));
+            providers.extend(name.offers.iter().filter(|offer| alternative.accepts(offer.1)).map(|offer| offer.0));
             name.asked_by.push(id);
         }
-        bearers.sort_unstable();
-        bearers.dedup();
-        for &row in &bearers {
+        providers.sort_unstable();
+        providers.dedup();
+        for &row in &providers {
             self.rows[row as usize].satisfies.push(id);
         }
-        self.clauses.push(Clause { alternatives, bearers, users: Vec::new() });
+        self.clauses.push(Clause { alternatives, providers, users: Vec::new() });
         self.clause_of_text.insert(text, id);
         id
     }

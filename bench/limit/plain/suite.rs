@@ -17,8 +17,8 @@ enum State {
 /// What a trial changed, to be taken back.
 enum Step {
     State(RowId, State),
-    BearerCame(ClauseId),
-    BearerLeft(ClauseId),
+    ProviderCame(ClauseId),
+    ProviderLeft(ClauseId),
 }
 
 /// Whether a trial that fails is to tell the first row that fails, or any.
@@ -33,7 +33,7 @@ pub struct ArchSuite {
     states: Vec<State>,
     broken: usize,
     /// How many installable rows satisfy each clause.
-    bearers: Vec<u32>,
+    providers: Vec<u32>,
     /// How many rows that are here satisfy it, installable or not.
     rows_for: Vec<u32>,
     steps: Vec<Step>,
@@ -41,17 +41,17 @@ pub struct ArchSuite {
 
 impl ArchSuite {
     pub fn new(arch: Arch) -> Self {
-        ArchSuite { arch, states: vec![], broken: 0, bearers: vec![], rows_for: vec![], steps: vec![] }
+        ArchSuite { arch, states: vec![], broken: 0, providers: vec![], rows_for: vec![], steps: vec![] }
     }
 
     /// Makes room for what came into the pool.
     pub fn grow(&mut self, pool: &Pool) {
         self.states.resize(pool.rows.len(), State::Away);
-        for clause in &pool.clauses[self.bearers.len()..] {
-            let states = || clause.bearers.iter().map(|&row| self.states[row as usize]);
+        for clause in &pool.clauses[self.providers.len()..] {
+            let states = || clause.providers.iter().map(|&row| self.states[row as usize]);
             let installable = states().filter(|&state| state == State::Installable).count();
             let here = states().filter(|&state| state != State::Away).count();
-            self.bearers.push(installable as u32);
+            self.providers.push(installable as u32);
             self.rows_for.push(here as u32);
         }
     }
@@ -65,9 +65,9 @@ impl ArchSuite {
     /// that is here nor one that comes.
     pub fn hopeless(&self, pool: &Pool, coming: &[RowId]) -> Option<RowId> {
         let is_met = |clause: ClauseId| {
-            let bearers = &pool.clauses[clause as usize].bearers;
+            let providers = &pool.clauses[clause as usize].providers;
             self.rows_for[clause as usize] > 0
-                || bearers.iter().any(|row| pool.rows[*row as usize].arch.is_on(self.arch) && coming.contains(row))
+                || providers.iter().any(|row| pool.rows[*row as usize].arch.is_on(self.arch) && coming.contains(row))
         };
         coming.iter().copied().find(|&id| {
             let row = &pool.rows[id as usize];
@@ -105,7 +105,7 @@ impl ArchSuite {
                 State::Broken => self.set(row, State::Away),
                 State::Installable => {
                     self.set(row, State::Away);
-                    self.lose_bearer(pool, row, &mut unmet);
+                    self.lose_provider(pool, row, &mut unmet);
                 }
             }
         }
@@ -118,7 +118,7 @@ impl ArchSuite {
         let came: Vec<RowId> = coming.iter().copied().filter(on_arch).collect();
         for &row in &came {
             self.set(row, State::Installable);
-            self.gain_bearer(pool, row);
+            self.gain_provider(pool, row);
         }
         came
     }
@@ -131,7 +131,7 @@ impl ArchSuite {
                 for &user in &pool.clauses[clause as usize].users {
                     if self.states[user as usize] == State::Broken {
                         self.set(user, State::Installable);
-                        self.gain_bearer(pool, user);
+                        self.gain_provider(pool, user);
                         hoped_for.push(user);
                     }
                 }
@@ -155,7 +155,7 @@ impl ArchSuite {
                 }
                 offender = offender.into_iter().chain([row]).min_by_key(|&row| name_of(row));
             }
-            self.lose_bearer(pool, row, &mut unmet);
+            self.lose_provider(pool, row, &mut unmet);
             for clause in unmet.drain(..) {
                 self.find_falling(pool, clause, &mut falling);
             }
@@ -164,12 +164,12 @@ impl ArchSuite {
     }
 
     fn is_met(&self, pool: &Pool, row: RowId) -> bool {
-        pool.rows[row as usize].clauses.iter().all(|&clause| self.bearers[clause as usize] > 0)
+        pool.rows[row as usize].clauses.iter().all(|&clause| self.providers[clause as usize] > 0)
     }
 
     /// The installable rows that have a clause which isn't met.
     fn find_falling(&self, pool: &Pool, clause: ClauseId, falling: &mut Vec<RowId>) {
-        if self.bearers[clause as usize] == 0 {
+        if self.providers[clause as usize] == 0 {
             let users = pool.clauses[clause as usize].users.iter().copied();
             falling.extend(users.filter(|&user| self.states[user as usize] == State::Installable));
         }
@@ -181,21 +181,21 @@ impl ArchSuite {
         self.steps.push(Step::State(row, before));
     }
 
-    fn gain_bearer(&mut self, pool: &Pool, row: RowId) {
+    fn gain_provider(&mut self, pool: &Pool, row: RowId) {
         for &clause in &pool.rows[row as usize].satisfies {
-            self.bearers[clause as usize] += 1;
-            self.steps.push(Step::BearerCame(clause));
+            self.providers[clause as usize] += 1;
+            self.steps.push(Step::ProviderCame(clause));
         }
     }
 
-    fn lose_bearer(&mut self, pool: &Pool, row: RowId, unmet: &mut Vec<ClauseId>) {
+    fn lose_provider(&mut self, pool: &Pool, row: RowId, unmet: &mut Vec<ClauseId>) {
         for &clause in &pool.rows[row as usize].satisfies {
-            let bearers = &mut self.bearers[clause as usize];
-            *bearers -= 1;
-            if *bearers == 0 {
+            let providers = &mut self.providers[clause as usize];
+            *providers -= 1;
+            if *providers == 0 {
                 unmet.push(clause);
             }
-            self.steps.push(Step::BearerLeft(clause));
+            self.steps.push(Step::ProviderLeft(clause));
         }
     }
 
@@ -203,8 +203,8 @@ impl ArchSuite {
     pub fn undo(&mut self) {
         for step in self.steps.drain(..).rev() {
             match step {
-                Step::BearerCame(clause) => self.bearers[clause as usize] -= 1,
-                Step::BearerLeft(clause) => self.bearers[clause as usize] += 1,
+                Step::ProviderCame(clause) => self.providers[clause as usize] -= 1,
+                Step::ProviderLeft(clause) => self.providers[clause as usize] += 1,
                 Step::State(row, before) => {
                     let state = std::mem::replace(&mut self.states[row as usize], before);
                     self.broken =

@@ -31,12 +31,12 @@ class Suite:
 
     def places_by_clause(self) -> Mapping[Clause, Sequence[int]]:
         """For each clause the places of the packages that meet it, by its alternatives in turn."""
-        bearers: dict[str, list[tuple[int, Optional[str]]]] = defaultdict(list)
+        providers: dict[str, list[tuple[int, Optional[str]]]] = defaultdict(list)
         for place, binary in enumerate(self.binaries):
-            bearers[binary.name].append((place, binary.version))
+            providers[binary.name].append((place, binary.version))
             for provision in binary.provisions:
-                bearers[provision.name].append((place, provision.version))
-        return {clause: [place for part in clause for place, version in bearers.get(part.name, ())
+                providers[provision.name].append((place, provision.version))
+        return {clause: [place for part in clause for place, version in providers.get(part.name, ())
                          if part.is_met_by(version)]
                 for clause in self.having}
 
