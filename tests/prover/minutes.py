@@ -128,13 +128,11 @@ class Run:
         )
 
 
-def crates_by_layer():
-    """The crates of crates.txt in its order, and the headings between them."""
+def crates_in_order():
+    """The crates of crates.txt, lowest first."""
     for line in (TOP / "crates.txt").read_text().splitlines():
-        if re.match(r"# \d", line):
-            yield None, line[2:]
-        elif line and not line.startswith("#"):
-            yield line.split(":")[0].split()[0], None
+        if line and not line.startswith("#"):
+            yield line.split(":")[0].split()[0]
 
 
 def cell(value):
@@ -142,12 +140,9 @@ def cell(value):
 
 
 def table_of(run):
-    """The table of a run, with a row for each crate, by layers."""
+    """The table of a run, with a row for each crate, lowest first."""
     rows = [HEAD, RULE]
-    for crate, heading in crates_by_layer():
-        if heading:
-            rows.append(f"| **{heading}** | | | | | | |\n")
-            continue
+    for crate in crates_in_order():
         edits = len([*(TOP / "crates" / crate / "must-fail").glob("*.edit")])
         proof, tried = run.minutes[crate, False], run.minutes[crate, True]
         rows.append(
