@@ -118,16 +118,16 @@ in_places map row name k e c = elim (or_cases (bytes_eq row.name name) (list_any
       Contains-append_right (places_at map row.name) (flat_map (λ p. places_at map p.name) row.provides) k (contains_part (λ p. places_at map p.name) row.provides f.0 d k f.1 (subst (λ q. Contains (places_at map q) k) (sym same) c)))
 ]
 
-pub needer_found : (rows : List Binary) (map : PlacesByName) (row : Binary) → IsDependents rows map → (k : ℕ) (needer : Binary) → slice_get rows k ≡ Some needer → may_need needer row ≡ true → Contains (places_for map row) k
-needer_found rows map row index k needer at need =
-    let c = any_at (λ clause. meets row clause) needer.clauses need in
-    let clause : Clause = get_or needer.clauses c.0 [] in
+pub dependent_found : (rows : List Binary) (map : PlacesByName) (row : Binary) → IsDependents rows map → (k : ℕ) (dependent : Binary) → slice_get rows k ≡ Some dependent → may_need dependent row ≡ true → Contains (places_for map row) k
+dependent_found rows map row index k dependent at need =
+    let c = any_at (λ clause. meets row clause) dependent.clauses need in
+    let clause : Clause = get_or dependent.clauses c.0 [] in
     let f = any_at (λ a. satisfies row a) clause (c.2 []) in
     let d : Alternative = record { name = []; relation = None } in
     let a : Alternative = get_or clause f.0 d in
     let within : f.0 < length clause = f.1 in
     let e : get_or clause f.0 a ≡ a = get_or_default clause f.0 a d within in
-    in_places map row a.name k (satisfies_provides row a (f.2 d)) (index.complete a.name k needer at (needs_alternative needer c.0 f.0 a c.1 within e))
+    in_places map row a.name k (satisfies_provides row a (f.2 d)) (index.complete a.name k dependent at (needs_alternative dependent c.0 f.0 a c.1 within e))
 
 -- and those places are places of rows
 places_for_within : (rows : List Binary) (map : PlacesByName) (row : Binary) → IsDependents rows map → (k : ℕ) → Contains (places_for map row) k → k < length rows

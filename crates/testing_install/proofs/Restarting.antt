@@ -26,7 +26,7 @@ joined_cases a b c h = elim (or_cases a (b && not c) h) [
   | inr new ↦ inr ((and_parts b (not c) new).0, not_true c (and_parts b (not c) new).1)
 ]
 
-module _ (rows : List Binary) (old_there old_set there start other : ℕ → Bool) (g : IsGreatestAmong rows old_there old_set) (kept : (k : ℕ) → old_set k ≡ true → there k ≡ true → start k ≡ true) (came : (k : ℕ) → there k ≡ true → old_there k ≡ false → start k ≡ true) (revived : (k : ℕ) (row : Binary) (o : ℕ) (needer : Binary) → slice_get rows k ≡ Some row → start k ≡ true → old_set k ≡ false → slice_get rows o ≡ Some needer → there o ≡ true → may_need needer row ≡ true → start o ≡ true) (closed : IsClosed rows other) (within : IsInside rows other there) where
+module _ (rows : List Binary) (old_there old_set there start other : ℕ → Bool) (g : IsGreatestAmong rows old_there old_set) (kept : (k : ℕ) → old_set k ≡ true → there k ≡ true → start k ≡ true) (came : (k : ℕ) → there k ≡ true → old_there k ≡ false → start k ≡ true) (revived : (k : ℕ) (row : Binary) (o : ℕ) (dependent : Binary) → slice_get rows k ≡ Some row → start k ≡ true → old_set k ≡ false → slice_get rows o ≡ Some dependent → there o ≡ true → may_need dependent row ≡ true → start o ≡ true) (closed : IsClosed rows other) (within : IsInside rows other there) where
   -- the old set, and what of the other set the start leaves out
   abbrev joined : ℕ → Bool
   joined k = old_set k || (other k && not (start k))

@@ -139,7 +139,7 @@ revived_both there first mid last first_fresh mid_fresh last_fresh places others
 }
 
 -- going over the dependents of the next fresh row
-pub reviving_more : (rows : List Binary) (there old : ℕ → Bool) (start marks new : List Bool) (fresh new_fresh places : List ℕ) (next : ℕ) (row : Binary) (n : ℕ) → IsReviving rows there old start marks fresh next → IsRevived there marks new fresh new_fresh places n → length places ≤ n → next < length fresh → ((d : ℕ) → slice_get rows (get_or fresh next d) ≡ Some row) → ((o : ℕ) (needer : Binary) → slice_get rows o ≡ Some needer → may_need needer row ≡ true → Contains places o) → IsReviving rows there old start new new_fresh (next + 1)
+pub reviving_more : (rows : List Binary) (there old : ℕ → Bool) (start marks new : List Bool) (fresh new_fresh places : List ℕ) (next : ℕ) (row : Binary) (n : ℕ) → IsReviving rows there old start marks fresh next → IsRevived there marks new fresh new_fresh places n → length places ≤ n → next < length fresh → ((d : ℕ) → slice_get rows (get_or fresh next d) ≡ Some row) → ((o : ℕ) (dependent : Binary) → slice_get rows o ≡ Some dependent → may_need dependent row ≡ true → Contains places o) → IsReviving rows there old start new new_fresh (next + 1)
 reviving_more rows there old start marks new fresh new_fresh places next row n s r long h at complete = record {
   inside = λ k on. elim (r.inside k on) [ inl before ↦ s.inside k before | inr here ↦ here ];
   grown = λ k on. r.grown k (s.grown k on);
@@ -150,16 +150,16 @@ reviving_more rows there old start marks new fresh new_fresh places next row n s
     ]
     | inr f ↦ inr f
   ];
-  done = λ j d own k needer below l stands needs on need. elim (cases_lt j next) [
+  done = λ j d own k dependent below l stands needs on need. elim (cases_lt j next) [
     | inl less ↦ (
         let was : j < length fresh = omega (arith, less, h) in
         let same = (r.stays j d was).1 in
-        r.grown k (s.done j d own k needer less was (sym (ap (λ p. slice_get rows p) same) ∙ stands) needs on need))
+        r.grown k (s.done j d own k dependent less was (sym (ap (λ p. slice_get rows p) same) ∙ stands) needs on need))
     | inr not_less ↦ (
         let same : j ≡ next = omega arith in
         let place : get_or new_fresh j d ≡ get_or fresh next d = ap (λ i. get_or new_fresh i d) same ∙ (r.stays next d h).1 in
         let alike : own ≡ row = same_Some own row (sym stands ∙ ap (λ p. slice_get rows p) place ∙ at d) in
-        let found = complete k needer needs (ap (λ x. may_need needer x) (sym alike) ∙ need) in
+        let found = complete k dependent needs (ap (λ x. may_need dependent x) (sym alike) ∙ need) in
         let here : get_or places found.0 k ≡ k = found.2 in
         ap (λ q. marked new q) (sym here) ∙ r.done found.0 k (omega (arith, found.1, long)) found.1 (ap there here ∙ on))
   ];
@@ -262,10 +262,10 @@ module _ (rows : List Binary) (t m : List Bool) (leaving coming : List ℕ) (rig
       | inr comes ↦ start_comes k comes
     ]
 
-    start_revived : (k : ℕ) (row : Binary) (o : ℕ) (needer : Binary) → slice_get rows k ≡ Some row → marked start k ≡ true → marked m k ≡ false → slice_get rows o ≡ Some needer → marked t_come o ≡ true → may_need needer row ≡ true → marked start o ≡ true
-    start_revived k row o needer at on off needs there need = elim (s.known k on) [
+    start_revived : (k : ℕ) (row : Binary) (o : ℕ) (dependent : Binary) → slice_get rows k ≡ Some row → marked start k ≡ true → marked m k ≡ false → slice_get rows o ≡ Some dependent → marked t_come o ≡ true → may_need dependent row ≡ true → marked start o ≡ true
+    start_revived k row o dependent at on off needs there need = elim (s.known k on) [
       | inl was ↦ absurd (false≢true (sym off ∙ was))
-      | inr f ↦ s.done f.0 k row o needer f.1 f.1 (ap (λ p. slice_get rows p) f.2 ∙ at) needs there need
+      | inr f ↦ s.done f.0 k row o dependent f.1 f.1 (ap (λ p. slice_get rows p) f.2 ∙ at) needs there need
     ]
 
     -- the search begins: the leaving rows wait for their turn, and the fresh ones are to be looked at

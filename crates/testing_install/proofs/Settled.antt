@@ -106,11 +106,11 @@ module _ (rows : List Binary) (there : ℕ → Bool) (first marks : List Bool) (
   }
 
 -- a row's turn: the rows that may need it are to be looked at
-pub settling_turn : (rows : List Binary) (there : ℕ → Bool) (first marks : List Bool) (waiting front fallen places : List ℕ) (k : ℕ) (row : Binary) (lost : Option Binary) → IsSettling rows there first marks waiting fallen [] lost → waiting ≡ front ++ k ∷ [] → slice_get rows k ≡ Some row → ((o : ℕ) (needer : Binary) → slice_get rows o ≡ Some needer → may_need needer row ≡ true → Contains places o) → IsSettling rows there first marks front fallen places (Some row)
+pub settling_turn : (rows : List Binary) (there : ℕ → Bool) (first marks : List Bool) (waiting front fallen places : List ℕ) (k : ℕ) (row : Binary) (lost : Option Binary) → IsSettling rows there first marks waiting fallen [] lost → waiting ≡ front ++ k ∷ [] → slice_get rows k ≡ Some row → ((o : ℕ) (dependent : Binary) → slice_get rows o ≡ Some dependent → may_need dependent row ≡ true → Contains places o) → IsSettling rows there first marks front fallen places (Some row)
 settling_turn rows there first marks waiting front fallen places k row lost s last at complete = record {
   inside = s.inside;
   keeps = s.keeps;
-  held = λ o needer i d stands on l. elim (s.held o needer i d stands on l) [
+  held = λ o dependent i d stands on l. elim (s.held o dependent i d stands on l) [
     | inl t ↦ absurd (contains_none o t.0)
     | inr r ↦ elim r.here [
       | inl m ↦ inr (record { place = r.place; row = r.row; stands = r.stands; here = inl m; does = r.does })
@@ -118,8 +118,8 @@ settling_turn rows there first marks waiting front fallen places k row lost s la
         | inl f ↦ inr (record { place = r.place; row = r.row; stands = r.stands; here = inr f; does = r.does })
         | inr e ↦ (
             let alike : row ≡ r.row = same_Some row r.row (sym at ∙ ap (λ q. slice_get rows q) e ∙ r.stands) in
-            let does : meets row (get_or needer.clauses i d) ≡ true = ap (λ x. meets x (get_or needer.clauses i d)) alike ∙ r.does in
-            inl (complete o needer stands (any_true (λ clause. meets row clause) needer.clauses i d l does), does))
+            let does : meets row (get_or dependent.clauses i d) ≡ true = ap (λ x. meets x (get_or dependent.clauses i d)) alike ∙ r.does in
+            inl (complete o dependent stands (any_true (λ clause. meets row clause) dependent.clauses i d l does), does))
       ]
     ]
   ];
@@ -133,7 +133,7 @@ pub settling_calm : (rows : List Binary) (there : ℕ → Bool) (first marks : L
 settling_calm rows there first marks waiting fallen lost other s = record {
   inside = s.inside;
   keeps = s.keeps;
-  held = λ o needer i d stands on l. elim (s.held o needer i d stands on l) [
+  held = λ o dependent i d stands on l. elim (s.held o dependent i d stands on l) [
     | inl t ↦ absurd (contains_none o t.0)
     | inr r ↦ inr r
   ];

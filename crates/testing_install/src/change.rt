@@ -1,9 +1,8 @@
 //! A change of the present rows.
 
-ghost use Rattle.std.specs.Prelude.{◌≡◌, ℕ, ◌+◌, ◌<◌, Bool, true, false, not, ◌⊎◌, List, [], ◌∷◌, ◌++◌, length, slice_set, OnOk, IfOk, Contains, ◌||◌, ◌↔◌, filter};
+ghost use Rattle.std.specs.Prelude.{◌≡◌, ℕ, ◌+◌, ◌<◌, Bool, true, false, not, List, [], ◌∷◌, ◌++◌, length, slice_set, OnOk, IfOk, Contains, ◌||◌, ◌↔◌, filter};
 ghost use Rattle.std.specs.List.{All, count_by};
 ghost use Rattle.testing_install.specs.Among.{IsLost, after_change};
-ghost use Rattle.testing_install.specs.steps.Among.{IsGreatestAmong};
 ghost use Rattle.testing_install.specs.Closed.{marked};
 ghost use Rattle.testing_install.specs.Index.{places_at};
 ghost use Rattle.testing_install.specs.steps.Dependents.{IsGraph, places_for};

@@ -1,6 +1,6 @@
 //! Shared rows, by what they provide and by what they need.
 
-ghost use Rattle.std.specs.Prelude.{◌≡◌, ℕ, ◌≤◌, ◌<◌, true, false, List, [], ◌++◌, length, OnOk, IfOk};
+ghost use Rattle.std.specs.Prelude.{◌≡◌, ℕ, ◌<◌, true, false, List, [], ◌++◌, length, OnOk, IfOk};
 ghost use Rattle.std.specs.List.{All};
 ghost use Rattle.deb_control.specs.declared.binary.Binary.{Binary};
 ghost use Rattle.testing_install.specs.Closed.{IsMet, marked};

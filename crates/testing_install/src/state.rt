@@ -1,4 +1,4 @@
-ghost use Rattle.std.specs.Prelude.{map, ◌≡◌, ℕ, ◌+◌, ◌-◌, ◌^◌, ◌<◌, true, false, [], ◌∷◌, ◌++◌, length, replicate, min, OnOk, IfOk, IfSome, IfNone, slice_set, slice_index_or};
+ghost use Rattle.std.specs.Prelude.{map, ◌≡◌, ◌+◌, ◌-◌, ◌^◌, ◌<◌, true, false, [], ◌∷◌, ◌++◌, length, replicate, min, OnOk, IfOk, IfSome, IfNone, slice_set, slice_index_or};
 ghost use Rattle.std.specs.List.{All};
 ghost use Rattle.testing_install.specs.steps.Work.{Turn};
 

@@ -1,4 +1,4 @@
-ghost use Rattle.std.specs.Prelude.{◌≡◌, ℕ, ◌<◌, ◌↔◌, Bool, true, false, List, [], ◌++◌, length, replicate, Some, IfOk, OnOk, OnErr, Contains};
+ghost use Rattle.std.specs.Prelude.{◌≡◌, ℕ, ◌<◌, ◌↔◌, true, false, [], ◌++◌, length, replicate, Some, IfOk, OnOk, OnErr, Contains};
 ghost use Rattle.std.specs.List.{All, slice_get};
 ghost use Rattle.deb_control.specs.declared.binary.Binary.{Binary as TheBinary};
 ghost use Rattle.testing_install.specs.Among.{IsInstallableAmong, IsLost, after_change};

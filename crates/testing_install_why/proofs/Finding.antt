@@ -116,7 +116,7 @@ each_order rows there k e h on off =
       | inr is ↦ absurd (off is)
     ]
 
--- where the places reach all that bears on them and no more of their rows fall, none of those that aren't installable is left
+-- where the places reach all that affects them and no more of their rows fall, none of those that aren't installable is left
 
 contains_read : (P : ℕ → Type 0) (places : List ℕ) (k : ℕ) → Contains places k → All P places → P k
 contains_read P places k c all = subst P c.2 (all c.0 k c.1)

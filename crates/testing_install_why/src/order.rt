@@ -154,7 +154,7 @@ fn take_out(
 }
 
 /// A groundless list of rows at the places. Rows with a clause that no remaining row meets are removed, one after
-/// another. If each row that bears on them is at one of the places or installable, the list has each present row at
+/// another. If each row that affects them is at one of the places or installable, the list has each present row at
 /// them that isn't installable. A row is checked once, and again after each removed row that provides a name in its
 /// clauses. The only error is running out of memory.
 pub fn order_over(alloc: Global, suite: &Suite, places: &[usize]) -> Result<Vec<Step>, NoMemory>

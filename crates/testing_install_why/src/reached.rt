@@ -1,4 +1,4 @@
-//! The rows that bear on one row: those that its clauses reach, through rows that aren't installable.
+//! The rows that affect one row: those that its clauses reach, through rows that aren't installable.
 
 ghost use Rattle.std.specs.Prelude.{◌≡◌, ℕ, ◌<◌, ◌⊎◌, true, length, IfOk, OnOk, Contains};
 ghost use Rattle.std.specs.List.{All};

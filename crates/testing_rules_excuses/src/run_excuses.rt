@@ -80,13 +80,6 @@ fn excuse_on(
     })
 }
 
-/// A source, with testing's version of it.
-fn told<'a>(upload: &'a UploadIn, testing: Option<&'a Version>) -> News<'a>
-    ensures { told_of result ≡ (upload.now, option_copied testing.entry) }
-{
-    News { upload, testing }
-}
-
 /// The sources that are above testing's version or aren't in testing.
 fn news_of<'a>(
     alloc: Global,
@@ -101,7 +94,10 @@ fn news_of<'a>(
         let (version, after) = testing_version_near(testing, upload.source.as_str(), next);
         next = after;
         if is_news(version, &upload.version) {
-            news.push(told(upload, version))?;
+            news.push(News {
+                upload,
+                testing: version,
+            })?;
         }
     }
     Ok(news)

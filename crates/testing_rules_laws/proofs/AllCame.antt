@@ -20,7 +20,7 @@ use Rattle.testing_rules_model.specs.FactRows.{upload_row, rows_of, is_kind, is_
 use Rattle.testing_rules_model.specs.steps.FactRows.{source_row, build_row, drop_row, bug_row, hint_row, unhint_row, delays_row}
 use Rattle.testing_rules_model.specs.Unstable.{upload_order, build_order, pair_order, pair_of, drop_order, drop_pair, bug_order, hint_order, unhint_order, delays_order}
 use Rattle.testing_rules_model.specs.WithMessage.{put_first, with_upload, with_build, with_greatest, with_bug, with_hint, with_unhint}
-use Rattle.testing_rules_model.proofs.SameFacts.{upload_provides, drop_provides, bug_provides, hint_provides, unhint_provides, delays_provides, builds_bear}
+use Rattle.testing_rules_model.proofs.SameFacts.{upload_numbered, drop_numbered, bug_numbered, hint_numbered, unhint_numbered, delays_numbered, builds_numbered}
 use Rattle.testing_rules_facts.specs.Restored.{Given, said, given_of, build_given, put_given, last_given, restored}
 use Rattle.testing_rules_facts.specs.steps.Shifts.{way_given, come_in, put_over}
 use Rattle.testing_rules_facts.specs.Uploads.{message_order, first_stays, with_kept}
@@ -109,8 +109,8 @@ module _ {A K : Type 0} (row : A → FactRow) (key : A → K) (cmp : K → K →
 -- where something is given it is put in
 given_gains : {A : Type 0} (put : A → List A → List A) (row : A → FactRow) (r : FactRow) → ((y : A) (ys : List A) → Gains (map row (put y ys)) (map row ys) (row y))
     → (v : Option A) → ((y : A) → v ≡ Some y → row y ≡ r) → (ys : List A) → Gains (map row (put_given put v ys)) (map row ys) r
-given_gains put row r gains None provides_name ys = unchanged (map row ys) r
-given_gains put row r gains (Some y) provides_name ys = subst (Gains (map row (put y ys)) (map row ys)) (provides_name y refl) (gains y ys)
+given_gains put row r gains None numbered ys = unchanged (map row ys) r
+given_gains put row r gains (Some y) numbered ys = subst (Gains (map row (put y ys)) (map row ys)) (numbered y refl) (gains y ys)
 
 last_one : (b : Bool) (d l : DelaysIn) → Gains (delays_row (cond b l d) ∷ []) (delays_row l ∷ []) (delays_row d)
 last_one true d l = unchanged (delays_row l ∷ []) (delays_row d)
@@ -118,10 +118,10 @@ last_one false d l = record { lost = delays_row l ∷ []; balance = λ w. omega 
 
 last_gains : (r : FactRow) (v last : Option DelaysIn) → ((d : DelaysIn) → v ≡ Some d → delays_row d ≡ r)
     → Gains (map delays_row (option_to_list (last_given v last))) (map delays_row (option_to_list last)) r
-last_gains r None last provides_name = unchanged (map delays_row (option_to_list last)) r
-last_gains r (Some d) None provides_name =
-    subst (Gains (delays_row d ∷ []) []) (provides_name d refl) (record { lost = []; balance = λ w. omega (arith, sum_by-cons w (delays_row d) []) })
-last_gains r (Some d) (Some l) provides_name = subst (Gains (delays_row (cond (is_lt (delays_order l d)) l d) ∷ []) (delays_row l ∷ [])) (provides_name d refl) (last_one (is_lt (delays_order l d)) d l)
+last_gains r None last numbered = unchanged (map delays_row (option_to_list last)) r
+last_gains r (Some d) None numbered =
+    subst (Gains (delays_row d ∷ []) []) (numbered d refl) (record { lost = []; balance = λ w. omega (arith, sum_by-cons w (delays_row d) []) })
+last_gains r (Some d) (Some l) numbered = subst (Gains (delays_row (cond (is_lt (delays_order l d)) l d) ∷ []) (delays_row l ∷ [])) (numbered d refl) (last_one (is_lt (delays_order l d)) d l)
 
 abbrev row_at : FactKind → ℕ → ℕ → ℕ → FactRow
 row_at kind sender number place = record { kind = kind; sender = sender; number = number; place = place }
@@ -129,17 +129,17 @@ row_at kind sender number place = record { kind = kind; sender = sender; number 
 -- a fact that a row gives has this row
 given_row : {B : Type 0} (says : CoveredItem → Option B) (sender number : B → ℕ) → ((n k : ℕ) (i : Item) (y : B) → says (said n k i) ≡ Some y → (sender y ≡ n) × (number y ≡ k))
     → (kind : FactKind) (n k p : ℕ) (i : Item) (y : B) → given_of kind says (row_at kind n k p, i) ≡ Some y → row_at kind (sender y) (number y) 0 ≡ row_at kind n k p
-given_row says sender number provides_name kind n k p i y e =
+given_row says sender number numbered kind n k p i y e =
     let a = passed (is_kind kind kind && (p == 0)) (says (said n k i)) y e in
-    let b = provides_name n k i y a.1 in
+    let b = numbered n k i y a.1 in
     let at : p ≡ 0 = same_nat p 0 (both_are (is_kind kind kind) (p == 0) a.0).1 in
     rw (b.0, b.1, at) refl
 
 build_row_is : (n k p : ℕ) (i : Item) (b : BuildIn) → find (λ y. y.place == p) (builds_of (said n k i)) ≡ Some b → build_row b ≡ row_at Build n k p
 build_row_is n k p i b e =
     let is = found p (builds_of (said n k i)) b e in
-    let provides_name = builds_bear n k i b is.0 in
-    rw (provides_name.0, provides_name.1, is.1) refl
+    let numbered = builds_numbered n k i b is.0 in
+    rw (numbered.0, numbered.1, is.1) refl
 
 -- one row
 step : (kind : FactKind) (n k p : ℕ) (i : Item) (f : FactLists) → Gains (rows_of (restored (row_at kind n k p, i) f)) (rows_of f) (row_at kind n k p)
@@ -147,12 +147,12 @@ step Source n k p i f =
     let r = row_at Source n k p in
     front _ _ _ r
     (given_gains with_upload source_row r (first_gains source_row (λ u. u.source) byte_cmp upload_order) (given_of Source upload_of (r, i))
-    (given_row upload_of (λ u. u.sender) (λ u. u.number) (λ n k. upload_provides n k) Source n k p i) f.sources)
+    (given_row upload_of (λ u. u.sender) (λ u. u.number) (λ n k. upload_numbered n k) Source n k p i) f.sources)
 step Upload n k p i f =
     let r = row_at Upload n k p in
     behind (map source_row f.sources) _ _ r (front _ _ _ r
     (given_gains with_kept upload_row r (first_gains upload_row (λ u. u) message_order first_stays) (given_of Upload upload_of (r, i))
-    (given_row upload_of (λ u. u.sender) (λ u. u.number) (λ n k. upload_provides n k) Upload n k p i) f.uploads))
+    (given_row upload_of (λ u. u.sender) (λ u. u.number) (λ n k. upload_numbered n k) Upload n k p i) f.uploads))
 step Build n k p i f =
     let r = row_at Build n k p in
     behind (map source_row f.sources) _ _ r (behind (map upload_row f.uploads) _ _ r (front _ _ _ r
@@ -161,26 +161,26 @@ step Drop n k p i f =
     let r = row_at Drop n k p in
     behind (map source_row f.sources) _ _ r (behind (map upload_row f.uploads) _ _ r (behind (map build_row f.rows) _ _ r (front _ _ _ r
     (given_gains with_greatest drop_row r (first_gains drop_row drop_pair pair_order drop_order) (given_of Drop drop_of (r, i))
-    (given_row drop_of (λ d. d.sender) (λ d. d.number) (λ n k. drop_provides n k) Drop n k p i) f.drops))))
+    (given_row drop_of (λ d. d.sender) (λ d. d.number) (λ n k. drop_numbered n k) Drop n k p i) f.drops))))
 step Bug n k p i f =
     let r = row_at Bug n k p in
     behind (map source_row f.sources) _ _ r (behind (map upload_row f.uploads) _ _ r (behind (map build_row f.rows) _ _ r (behind (map drop_row f.drops) _ _ r (front _ _ _ r
     (given_gains with_bug bug_row r (first_gains bug_row (λ b. b.bug) nat_cmp bug_order) (given_of Bug bug_of (r, i))
-    (given_row bug_of (λ b. b.sender) (λ b. b.number) (λ n k. bug_provides n k) Bug n k p i) f.bugs)))))
+    (given_row bug_of (λ b. b.sender) (λ b. b.number) (λ n k. bug_numbered n k) Bug n k p i) f.bugs)))))
 step Hint n k p i f =
     let r = row_at Hint n k p in
     behind (map source_row f.sources) _ _ r (behind (map upload_row f.uploads) _ _ r (behind (map build_row f.rows) _ _ r (behind (map drop_row f.drops) _ _ r (behind (map bug_row f.bugs) _ _ r (front _ _ _ r
     (given_gains with_hint hint_row r (over_gains hint_row (λ h. h) hint_order) (given_of Hint hint_of (r, i))
-    (given_row hint_of (λ h. h.sender) (λ h. h.number) (λ n k. hint_provides n k) Hint n k p i) f.hints))))))
+    (given_row hint_of (λ h. h.sender) (λ h. h.number) (λ n k. hint_numbered n k) Hint n k p i) f.hints))))))
 step Unhint n k p i f =
     let r = row_at Unhint n k p in
     behind (map source_row f.sources) _ _ r (behind (map upload_row f.uploads) _ _ r (behind (map build_row f.rows) _ _ r (behind (map drop_row f.drops) _ _ r (behind (map bug_row f.bugs) _ _ r (behind (map hint_row f.hints) _ _ r (front _ _ _ r
     (given_gains with_unhint unhint_row r (over_gains unhint_row (λ c. c) unhint_order) (given_of Unhint unhint_of (r, i))
-    (given_row unhint_of (λ c. c.sender) (λ c. c.number) (λ n k. unhint_provides n k) Unhint n k p i) f.unhints)))))))
+    (given_row unhint_of (λ c. c.sender) (λ c. c.number) (λ n k. unhint_numbered n k) Unhint n k p i) f.unhints)))))))
 step Delays n k p i f =
     let r = row_at Delays n k p in
     behind (map source_row f.sources) _ _ r (behind (map upload_row f.uploads) _ _ r (behind (map build_row f.rows) _ _ r (behind (map drop_row f.drops) _ _ r (behind (map bug_row f.bugs) _ _ r (behind (map hint_row f.hints) _ _ r (behind (map unhint_row f.unhints) _ _ r
-    (last_gains r (given_of Delays delays_of (r, i)) f.delays (given_row delays_of (λ d. d.sender) (λ d. d.number) (λ n k. delays_provides n k) Delays n k p i))))))))
+    (last_gains r (given_of Delays delays_of (r, i)) f.delays (given_row delays_of (λ d. d.sender) (λ d. d.number) (λ n k. delays_numbered n k) Delays n k p i))))))))
 
 -- all of them
 record AllGains (xs : List Given) (f : FactLists) : Type 0 where

@@ -10,7 +10,7 @@ use Rattle.testing_rules_model.specs.FactLists.{FactLists}
 use Rattle.testing_rules_model.specs.Covered.{Covered, CoveredItem, builds_of, builds_in}
 use Rattle.testing_rules_model.specs.SameMessages.{SameElements, HasOneOfEach}
 use Rattle.testing_rules_items.proofs.Members.{none_among, head_of, tail_of}
-use Rattle.testing_rules_model.proofs.SameFacts.{builds_bear, one_build}
+use Rattle.testing_rules_model.proofs.SameFacts.{builds_numbered, one_build}
 use Rattle.testing_rules_model.proofs.Sets.{first_or_rest, at_front, given_by, gives, mapped_from, maps, spread_from}
 use Rattle.testing_rules_model.specs.declared.fact_row.FactRow.{FactRow}
 use Rattle.testing_rules_model.proofs.FactKinds.{kind_is, kind_itself}
@@ -191,7 +191,7 @@ module _ (xs : List Given) (s : Covered) (one : HasOneOfEach s) (named : NamesIn
   pub own_message : (x : Given) (m : CoveredItem) → Contains xs x → Contains s m → m.sender ≡ x.0.sender → m.number ≡ x.0.number → m ≡ message_of x
   own_message x m c d es en = one m (message_of x) d (named x c) es en
 
-  module _ {B : Type 0} (says : CoveredItem → Option B) (sender number : B → ℕ) (provides_name : (m : CoveredItem) (y : B) → says m ≡ Some y → (sender y ≡ m.sender) × (number y ≡ m.number))
+  module _ {B : Type 0} (says : CoveredItem → Option B) (sender number : B → ℕ) (numbered : (m : CoveredItem) (y : B) → says m ≡ Some y → (sender y ≡ m.sender) × (number y ≡ m.number))
       (k : FactKind) (row : B → FactRow) (row_is : (b : B) → row b ≡ record { kind = k; sender = sender b; number = number b; place = 0 })
       (zs : List B) (from : (b : B) → Contains zs b → Contains (filter_map says s) b)
       (rows : List FactRow) (same : SameElements (map (λ x. x.0) xs) rows)
@@ -199,9 +199,9 @@ module _ (xs : List Given) (s : Covered) (one : HasOneOfEach s) (named : NamesIn
     given_is : (x : Given) (b : B) → Contains xs x → Contains zs b → row b ≡ x.0 → says (message_of x) ≡ Some b
     given_is x b c d e =
         let m = given_by says s b (from b d) in
-        let borne = provides_name m.0 b m.2 in
+        let at_number = numbered m.0 b m.2 in
         let at : x.0 ≡ record { kind = k; sender = sender b; number = number b; place = 0 } = sym e ∙ row_is b in
-        let own = own_message x m.0 c m.1 (sym borne.0 ∙ sym (ap (λ (r : FactRow). r.sender) at)) (sym borne.1 ∙ sym (ap (λ (r : FactRow). r.number) at)) in
+        let own = own_message x m.0 c m.1 (sym at_number.0 ∙ sym (ap (λ (r : FactRow). r.sender) at)) (sym at_number.1 ∙ sym (ap (λ (r : FactRow). r.number) at)) in
         ap says (sym own) ∙ m.2
 
     kind_fits : (r : FactRow) (b : B) → row b ≡ r → (is_kind r.kind k && (r.place == 0)) ≡ true
@@ -260,7 +260,7 @@ module _ (xs : List Given) (s : Covered) (one : HasOneOfEach s) (named : NamesIn
   builds_at : (x : Given) (b : BuildIn) → Contains xs x → Contains zs b → build_row b ≡ x.0 → Contains (builds_of (message_of x)) b
   builds_at x b c d e =
       let m = spread_from builds_of s b (from b d) in
-      let k = builds_bear m.0.sender m.0.number m.0.item b m.2 in
+      let k = builds_numbered m.0.sender m.0.number m.0.item b m.2 in
       let own = own_message xs s one named x m.0 c m.1 (sym k.0 ∙ ap (λ (r : FactRow). r.sender) e) (sym k.1 ∙ ap (λ (r : FactRow). r.number) e) in
       subst (λ (w : CoveredItem). Contains (builds_of w) b) own m.2
 

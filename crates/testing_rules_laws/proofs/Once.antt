@@ -28,7 +28,7 @@ use Rattle.testing_rules_model.specs.Tells.{Tells}
 use Rattle.testing_rules_model.specs.Unstable.{pair_of, drop_pair}
 use Rattle.testing_rules_model.proofs.MoreMail.{pair_total}
 use Rattle.testing_rules_model.proofs.Orders.{text_order, hint_total, unhint_total}
-use Rattle.testing_rules_model.proofs.SameFacts.{upload_provides, drop_provides, bug_provides, hint_provides, unhint_provides, delays_provides, builds_bear, one_given}
+use Rattle.testing_rules_model.proofs.SameFacts.{upload_numbered, drop_numbered, bug_numbered, hint_numbered, unhint_numbered, delays_numbered, builds_numbered, one_given}
 use Rattle.testing_rules_model.proofs.Sets.{first_or_rest, given_by, mapped_from, spread_from}
 use Rattle.testing_rules_facts.specs.Uploads.{AreByMessage}
 use Rattle.testing_rules_facts.proofs.KeptUploads.{message_total, keys_in_order}
@@ -110,29 +110,29 @@ rows_once f s one h by_message r =
     let order = h.orderly in
     front r 1 (map source_row f.sources) (from2 f) (kind_number source_row 1 (λ b. refl) f.sources) (low2 f)
     (once (λ u. u.source) text_order source_row r f.sources
-    (λ x y c d e. one_given upload_of (λ u. u.sender) (λ u. u.number) (λ m. upload_provides m.sender m.number m.item) s one x y (said.sources x c) (said.sources y d)
+    (λ x y c d e. one_given upload_of (λ u. u.sender) (λ u. u.number) (λ m. upload_numbered m.sender m.number m.item) s one x y (said.sources x c) (said.sources y d)
     (ap (λ (q : FactRow). q.sender) e) (ap (λ (q : FactRow). q.number) e)) order.by_source)
     (front r 2 (map upload_row f.uploads) (from3 f) (kind_number upload_row 2 (λ b. refl) f.uploads) (low3 f)
     (once (λ u. u) message_total upload_row r f.uploads
-    (λ x y c d e. one_given upload_of (λ u. u.sender) (λ u. u.number) (λ m. upload_provides m.sender m.number m.item) s one x y (said.uploads x c) (said.uploads y d)
+    (λ x y c d e. one_given upload_of (λ u. u.sender) (λ u. u.number) (λ m. upload_numbered m.sender m.number m.item) s one x y (said.uploads x c) (said.uploads y d)
     (ap (λ (q : FactRow). q.sender) e) (ap (λ (q : FactRow). q.number) e)) (keys_in_order f.uploads by_message))
     (front r 3 (map build_row f.rows) (from4 f) (kind_number build_row 3 (λ b. refl) f.rows) (low4 f)
     (once pair_of pair_total build_row r f.rows (λ x y c d e. told_build s one x y (said.rows x c) (said.rows y d) e) order.by_pair)
     (front r 4 (map drop_row f.drops) (from5 f) (kind_number drop_row 4 (λ b. refl) f.drops) (low5 f)
     (once drop_pair pair_total drop_row r f.drops
-    (λ x y c d e. one_given drop_of (λ u. u.sender) (λ u. u.number) (λ m. drop_provides m.sender m.number m.item) s one x y (said.drops x c) (said.drops y d)
+    (λ x y c d e. one_given drop_of (λ u. u.sender) (λ u. u.number) (λ m. drop_numbered m.sender m.number m.item) s one x y (said.drops x c) (said.drops y d)
     (ap (λ (q : FactRow). q.sender) e) (ap (λ (q : FactRow). q.number) e)) order.drops_by_pair)
     (front r 5 (map bug_row f.bugs) (from6 f) (kind_number bug_row 5 (λ b. refl) f.bugs) (low6 f)
     (once (λ b. b.bug) nat_cmp_total bug_row r f.bugs
-    (λ x y c d e. one_given bug_of (λ u. u.sender) (λ u. u.number) (λ m. bug_provides m.sender m.number m.item) s one x y (said.bugs x c) (said.bugs y d)
+    (λ x y c d e. one_given bug_of (λ u. u.sender) (λ u. u.number) (λ m. bug_numbered m.sender m.number m.item) s one x y (said.bugs x c) (said.bugs y d)
     (ap (λ (q : FactRow). q.sender) e) (ap (λ (q : FactRow). q.number) e)) order.by_number)
     (front r 6 (map hint_row f.hints) (from7 f) (kind_number hint_row 6 (λ b. refl) f.hints) (low7 f)
     (once (λ x. x) hint_total hint_row r f.hints
-    (λ x y c d e. one_given hint_of (λ u. u.sender) (λ u. u.number) (λ m. hint_provides m.sender m.number m.item) s one x y (said.hints x c) (said.hints y d)
+    (λ x y c d e. one_given hint_of (λ u. u.sender) (λ u. u.number) (λ m. hint_numbered m.sender m.number m.item) s one x y (said.hints x c) (said.hints y d)
     (ap (λ (q : FactRow). q.sender) e) (ap (λ (q : FactRow). q.number) e)) (in_order_itself hint_total f.hints order.hints))
     (front r 7 (map unhint_row f.unhints) (from8 f) (kind_number unhint_row 7 (λ b. refl) f.unhints) (low8 f)
     (once (λ x. x) unhint_total unhint_row r f.unhints
-    (λ x y c d e. one_given unhint_of (λ u. u.sender) (λ u. u.number) (λ m. unhint_provides m.sender m.number m.item) s one x y (said.unhints x c) (said.unhints y d)
+    (λ x y c d e. one_given unhint_of (λ u. u.sender) (λ u. u.number) (λ m. unhint_numbered m.sender m.number m.item) s one x y (said.unhints x c) (said.unhints y d)
     (ap (λ (q : FactRow). q.sender) e) (ap (λ (q : FactRow). q.number) e)) (in_order_itself unhint_total f.unhints order.unhints))
     (once_last r f.delays)))))))
 
@@ -184,35 +184,35 @@ are_named f s h =
     each_row (NamesMessage s) f
     (λ u c.
     let m = given_by upload_of s u (said.sources u c) in
-    let b = upload_provides m.0.sender m.0.number m.0.item u m.2 in
+    let b = upload_numbered m.0.sender m.0.number m.0.item u m.2 in
     record { message = m.0; among = m.1; sender = sym b.0; number = sym b.1; delays = not_delays Source 1 refl (omega arith) })
     (λ u c.
     let m = given_by upload_of s u (said.uploads u c) in
-    let b = upload_provides m.0.sender m.0.number m.0.item u m.2 in
+    let b = upload_numbered m.0.sender m.0.number m.0.item u m.2 in
     record { message = m.0; among = m.1; sender = sym b.0; number = sym b.1; delays = not_delays Upload 2 refl (omega arith) })
     (λ u c.
     let m = spread_from builds_of s u (said.rows u c) in
-    let b = builds_bear m.0.sender m.0.number m.0.item u m.2 in
+    let b = builds_numbered m.0.sender m.0.number m.0.item u m.2 in
     record { message = m.0; among = m.1; sender = sym b.0; number = sym b.1; delays = not_delays Build 3 refl (omega arith) })
     (λ u c.
     let m = given_by drop_of s u (said.drops u c) in
-    let b = drop_provides m.0.sender m.0.number m.0.item u m.2 in
+    let b = drop_numbered m.0.sender m.0.number m.0.item u m.2 in
     record { message = m.0; among = m.1; sender = sym b.0; number = sym b.1; delays = not_delays Drop 4 refl (omega arith) })
     (λ u c.
     let m = given_by bug_of s u (said.bugs u c) in
-    let b = bug_provides m.0.sender m.0.number m.0.item u m.2 in
+    let b = bug_numbered m.0.sender m.0.number m.0.item u m.2 in
     record { message = m.0; among = m.1; sender = sym b.0; number = sym b.1; delays = not_delays Bug 5 refl (omega arith) })
     (λ u c.
     let m = given_by hint_of s u (said.hints u c) in
-    let b = hint_provides m.0.sender m.0.number m.0.item u m.2 in
+    let b = hint_numbered m.0.sender m.0.number m.0.item u m.2 in
     record { message = m.0; among = m.1; sender = sym b.0; number = sym b.1; delays = not_delays Hint 6 refl (omega arith) })
     (λ u c.
     let m = given_by unhint_of s u (said.unhints u c) in
-    let b = unhint_provides m.0.sender m.0.number m.0.item u m.2 in
+    let b = unhint_numbered m.0.sender m.0.number m.0.item u m.2 in
     record { message = m.0; among = m.1; sender = sym b.0; number = sym b.1; delays = not_delays Unhint 7 refl (omega arith) })
     (λ u c.
     let m = given_by delays_of s u (said.delays u c) in
-    let b = delays_provides m.0.sender m.0.number m.0.item u m.2 in
+    let b = delays_numbered m.0.sender m.0.number m.0.item u m.2 in
     record { message = m.0; among = m.1; sender = sym b.0; number = sym b.1; delays = λ e. ap is_some m.2 })
 
 one_last : (last : Option DelaysIn) (d e : DelaysIn) → Contains (option_to_list last) d → Contains (option_to_list last) e → d ≡ e

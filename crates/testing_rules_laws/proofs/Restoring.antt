@@ -25,7 +25,7 @@ use Rattle.testing_rules_model.specs.SameMessages.{SameElements, HasOneOfEach}
 use Rattle.testing_rules_model.specs.StandsFor.{StandsFor}
 use Rattle.testing_rules_model.proofs.Least.{from_filter, least_from}
 use Rattle.testing_rules_items.proofs.Members.{none_among, head_of, tail_of}
-use Rattle.testing_rules_model.proofs.SameFacts.{upload_provides, drop_provides, bug_provides, hint_provides, unhint_provides, delays_provides}
+use Rattle.testing_rules_model.proofs.SameFacts.{upload_numbered, drop_numbered, bug_numbered, hint_numbered, unhint_numbered, delays_numbered}
 use Rattle.testing_rules_model.proofs.Sets.{first_or_rest, given_by, from_sorted}
 use Rattle.testing_rules_model.proofs.Orders.{text_order, upload_total, build_total, drop_total, bug_total, hint_total, unhint_total, delays_total}
 use Rattle.testing_rules_model.proofs.MoreMail.{pair_total, counts_for, chosen_rows, chosen_sources, chosen_drops, chosen_bugs, sources-more, bugs-more, drops-more, rows-more, rows-skip}
@@ -190,13 +190,13 @@ delays_from s (Some l) e d c = elim (first_or_rest l [] d c) [
 module _ (f : FactLists) (s : Covered) (t : Suite) (xs : List Given) (one : HasOneOfEach s) (h : StandsFor f s t) (are : AreRowsOf xs f s) where
   sources_same : SameElements (filter_map (given_of Source upload_of) xs) f.sources
   sources_same =
-      same_given xs s one are.items upload_of (λ u. u.sender) (λ u. u.number) (λ m. upload_provides m.sender m.number m.item) Source source_row (λ u. refl) f.sources
+      same_given xs s one are.items upload_of (λ u. u.sender) (λ u. u.number) (λ m. upload_numbered m.sender m.number m.item) Source source_row (λ u. refl) f.sources
       (λ u c. chosen_from upload_total (λ name v. bytes_eq v.source name) (uploads_in s) (sorted_by (λ n. n) byte_cmp (map (λ v. v.source) (uploads_in s))) u (subst (λ l. Contains l u) h.sources c))
       (rows_of f) are.rows (of_sources f) (has_source f)
 
   uploads_same : SameElements (filter_map (given_of Upload upload_of) xs) f.uploads
   uploads_same =
-      same_given xs s one are.items upload_of (λ u. u.sender) (λ u. u.number) (λ m. upload_provides m.sender m.number m.item) Upload upload_row (λ u. refl) f.uploads
+      same_given xs s one are.items upload_of (λ u. u.sender) (λ u. u.number) (λ m. upload_numbered m.sender m.number m.item) Upload upload_row (λ u. refl) f.uploads
       h.are_uploads (rows_of f) are.rows (of_uploads f) (has_upload f)
 
   rows_same : SameElements (filter_map build_given xs) f.rows
@@ -207,29 +207,29 @@ module _ (f : FactLists) (s : Covered) (t : Suite) (xs : List Given) (one : HasO
 
   drops_same : SameElements (filter_map (given_of Drop drop_of) xs) f.drops
   drops_same =
-      same_given xs s one are.items drop_of (λ d. d.sender) (λ d. d.number) (λ m. drop_provides m.sender m.number m.item) Drop drop_row (λ d. refl) f.drops
+      same_given xs s one are.items drop_of (λ d. d.sender) (λ d. d.number) (λ m. drop_numbered m.sender m.number m.item) Drop drop_row (λ d. refl) f.drops
       (λ d c. chosen_from drop_total (λ p. is_drop_of p.0 p.1) (drops_in s) (sorted_by (λ p. p) pair_order (map drop_pair (drops_in s))) d (subst (λ l. Contains l d) h.drops c))
       (rows_of f) are.rows (of_drops f) (has_drop f)
 
   bugs_same : SameElements (filter_map (given_of Bug bug_of) xs) f.bugs
   bugs_same =
-      same_given xs s one are.items bug_of (λ b. b.sender) (λ b. b.number) (λ m. bug_provides m.sender m.number m.item) Bug bug_row (λ b. refl) f.bugs
+      same_given xs s one are.items bug_of (λ b. b.sender) (λ b. b.number) (λ m. bug_numbered m.sender m.number m.item) Bug bug_row (λ b. refl) f.bugs
       (λ b c. chosen_from bug_total (λ n b. b.bug == n) (bugs_in s) (sorted_by (λ n. n) nat_cmp (map (λ b. b.bug) (bugs_in s))) b (subst (λ l. Contains l b) h.bugs c))
       (rows_of f) are.rows (of_bugs f) (has_bug f)
 
   hints_same : SameElements (filter_map (given_of Hint hint_of) xs) f.hints
   hints_same =
-      same_given xs s one are.items hint_of (λ b. b.sender) (λ b. b.number) (λ m. hint_provides m.sender m.number m.item) Hint hint_row (λ b. refl) f.hints
+      same_given xs s one are.items hint_of (λ b. b.sender) (λ b. b.number) (λ m. hint_numbered m.sender m.number m.item) Hint hint_row (λ b. refl) f.hints
       (λ x c. from_sorted hint_total (hints_in s) x (subst (λ l. Contains l x) h.hints c)) (rows_of f) are.rows (of_hints f) (has_hint f)
 
   unhints_same : SameElements (filter_map (given_of Unhint unhint_of) xs) f.unhints
   unhints_same =
-      same_given xs s one are.items unhint_of (λ b. b.sender) (λ b. b.number) (λ m. unhint_provides m.sender m.number m.item) Unhint unhint_row (λ b. refl) f.unhints
+      same_given xs s one are.items unhint_of (λ b. b.sender) (λ b. b.number) (λ m. unhint_numbered m.sender m.number m.item) Unhint unhint_row (λ b. refl) f.unhints
       (λ x c. from_sorted unhint_total (unhints_in s) x (subst (λ l. Contains l x) h.unhints c)) (rows_of f) are.rows (of_unhints f) (has_unhint f)
 
   delays_same : SameElements (filter_map (given_of Delays delays_of) xs) (option_to_list f.delays)
   delays_same =
-      same_given xs s one are.items delays_of (λ b. b.sender) (λ b. b.number) (λ m. delays_provides m.sender m.number m.item) Delays delays_row (λ b. refl) (option_to_list f.delays)
+      same_given xs s one are.items delays_of (λ b. b.sender) (λ b. b.number) (λ m. delays_numbered m.sender m.number m.item) Delays delays_row (λ b. refl) (option_to_list f.delays)
       (delays_from s f.delays h.delays) (rows_of f) are.rows (of_delays f) (to8 f)
 
   again : AreSameFacts f (restored_all xs no_facts)

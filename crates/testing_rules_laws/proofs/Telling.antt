@@ -16,7 +16,7 @@ use Rattle.testing_rules_model.specs.Unstable.{pair_order, pair_of, drop_pair, i
 use Rattle.testing_rules_model.specs.SameMessages.{SameElements, HasOneOfEach}
 use Rattle.testing_rules_model.specs.StandsFor.{StandsFor}
 use Rattle.testing_rules_items.proofs.Members.{none_among, head_of}
-use Rattle.testing_rules_model.proofs.SameFacts.{upload_provides, drop_provides, bug_provides, hint_provides, unhint_provides, delays_provides, builds_bear, one_build, one_given}
+use Rattle.testing_rules_model.proofs.SameFacts.{upload_numbered, drop_numbered, bug_numbered, hint_numbered, unhint_numbered, delays_numbered, builds_numbered, one_build, one_given}
 use Rattle.testing_rules_model.proofs.Sets.{first_or_rest, maps, mapped_from, spread_from, from_sorted}
 use Rattle.testing_rules_model.proofs.Orders.{text_order, upload_total, build_total, drop_total, bug_total, hint_total, unhint_total}
 use Rattle.testing_rules_model.proofs.MoreMail.{pair_total, counts_for}
@@ -52,8 +52,8 @@ module _ (s : Covered) (one : HasOneOfEach s) where
   told_build x y c d e =
       let m = spread_from builds_of s x c in
       let o = spread_from builds_of s y d in
-      let bm = builds_bear m.0.sender m.0.number m.0.item x m.2 in
-      let bo = builds_bear o.0.sender o.0.number o.0.item y o.2 in
+      let bm = builds_numbered m.0.sender m.0.number m.0.item x m.2 in
+      let bo = builds_numbered o.0.sender o.0.number o.0.item y o.2 in
       let same = one m.0 o.0 m.1 o.1 (sym bm.0 ∙ ap (λ (r : FactRow). r.sender) e ∙ bo.0) (sym bm.1 ∙ ap (λ (r : FactRow). r.number) e ∙ bo.1) in
       one_build m.0.sender m.0.number m.0.item x y m.2 (subst (λ w. Contains (builds_of w) y) (sym same) o.2) (ap (λ (r : FactRow). r.place) e)
 
@@ -73,28 +73,28 @@ module _ (s : Covered) (one : HasOneOfEach s) where
     pub same_facts : AreSameFacts f g
     same_facts = record {
       sources = sym (in_order_once (λ u. u.source) text_order f.sources g.sources of.by_source og.by_source
-          (both source_row Source (λ u. refl) (uploads_in s) (λ x y c d e. one_given upload_of (λ u. u.sender) (λ u. u.number) (λ m. upload_provides m.sender m.number m.item) s one x y c d (ap (λ (r : FactRow). r.sender) e) (ap (λ (r : FactRow). r.number) e))
+          (both source_row Source (λ u. refl) (uploads_in s) (λ x y c d e. one_given upload_of (λ u. u.sender) (λ u. u.number) (λ m. upload_numbered m.sender m.number m.item) s one x y c d (ap (λ (r : FactRow). r.sender) e) (ap (λ (r : FactRow). r.number) e))
           f.sources g.sources rf rg same sf.sources sg.sources (has_source f) (has_source g) (of_sources f) (of_sources g)));
       uploads =
-          let p = both upload_row Upload (λ u. refl) (uploads_in s) (λ x y c d e. one_given upload_of (λ u. u.sender) (λ u. u.number) (λ m. upload_provides m.sender m.number m.item) s one x y c d (ap (λ (r : FactRow). r.sender) e) (ap (λ (r : FactRow). r.number) e))
+          let p = both upload_row Upload (λ u. refl) (uploads_in s) (λ x y c d e. one_given upload_of (λ u. u.sender) (λ u. u.number) (λ m. upload_numbered m.sender m.number m.item) s one x y c d (ap (λ (r : FactRow). r.sender) e) (ap (λ (r : FactRow). r.number) e))
           f.uploads g.uploads rf rg same sf.uploads sg.uploads (has_upload f) (has_upload g) (of_uploads f) (of_uploads g) in
           (p.1, p.0);
       rows = sym (in_order_once pair_of pair_total f.rows g.rows of.by_pair og.by_pair
           (both build_row Build (λ u. refl) (builds_in s) told_build f.rows g.rows rf rg same sf.rows sg.rows (has_build f) (has_build g) (of_rows f) (of_rows g)));
       drops = sym (in_order_once drop_pair pair_total f.drops g.drops of.drops_by_pair og.drops_by_pair
-          (both drop_row Drop (λ u. refl) (drops_in s) (λ x y c d e. one_given drop_of (λ u. u.sender) (λ u. u.number) (λ m. drop_provides m.sender m.number m.item) s one x y c d (ap (λ (r : FactRow). r.sender) e) (ap (λ (r : FactRow). r.number) e))
+          (both drop_row Drop (λ u. refl) (drops_in s) (λ x y c d e. one_given drop_of (λ u. u.sender) (λ u. u.number) (λ m. drop_numbered m.sender m.number m.item) s one x y c d (ap (λ (r : FactRow). r.sender) e) (ap (λ (r : FactRow). r.number) e))
           f.drops g.drops rf rg same sf.drops sg.drops (has_drop f) (has_drop g) (of_drops f) (of_drops g)));
       bugs = sym (in_order_once (λ b. b.bug) nat_cmp_total f.bugs g.bugs of.by_number og.by_number
-          (both bug_row Bug (λ u. refl) (bugs_in s) (λ x y c d e. one_given bug_of (λ u. u.sender) (λ u. u.number) (λ m. bug_provides m.sender m.number m.item) s one x y c d (ap (λ (r : FactRow). r.sender) e) (ap (λ (r : FactRow). r.number) e))
+          (both bug_row Bug (λ u. refl) (bugs_in s) (λ x y c d e. one_given bug_of (λ u. u.sender) (λ u. u.number) (λ m. bug_numbered m.sender m.number m.item) s one x y c d (ap (λ (r : FactRow). r.sender) e) (ap (λ (r : FactRow). r.number) e))
           f.bugs g.bugs rf rg same sf.bugs sg.bugs (has_bug f) (has_bug g) (of_bugs f) (of_bugs g)));
       hints = sym (in_order_once (λ x. x) hint_total f.hints g.hints (in_order_itself hint_total f.hints of.hints) (in_order_itself hint_total g.hints og.hints)
-          (both hint_row Hint (λ u. refl) (hints_in s) (λ x y c d e. one_given hint_of (λ u. u.sender) (λ u. u.number) (λ m. hint_provides m.sender m.number m.item) s one x y c d (ap (λ (r : FactRow). r.sender) e) (ap (λ (r : FactRow). r.number) e))
+          (both hint_row Hint (λ u. refl) (hints_in s) (λ x y c d e. one_given hint_of (λ u. u.sender) (λ u. u.number) (λ m. hint_numbered m.sender m.number m.item) s one x y c d (ap (λ (r : FactRow). r.sender) e) (ap (λ (r : FactRow). r.number) e))
           f.hints g.hints rf rg same sf.hints sg.hints (has_hint f) (has_hint g) (of_hints f) (of_hints g)));
       unhints = sym (in_order_once (λ x. x) unhint_total f.unhints g.unhints (in_order_itself unhint_total f.unhints of.unhints) (in_order_itself unhint_total g.unhints og.unhints)
-          (both unhint_row Unhint (λ u. refl) (unhints_in s) (λ x y c d e. one_given unhint_of (λ u. u.sender) (λ u. u.number) (λ m. unhint_provides m.sender m.number m.item) s one x y c d (ap (λ (r : FactRow). r.sender) e) (ap (λ (r : FactRow). r.number) e))
+          (both unhint_row Unhint (λ u. refl) (unhints_in s) (λ x y c d e. one_given unhint_of (λ u. u.sender) (λ u. u.number) (λ m. unhint_numbered m.sender m.number m.item) s one x y c d (ap (λ (r : FactRow). r.sender) e) (ap (λ (r : FactRow). r.number) e))
           f.unhints g.unhints rf rg same sf.unhints sg.unhints (has_unhint f) (has_unhint g) (of_unhints f) (of_unhints g)));
       delays = one_option f.delays g.delays
-          (both delays_row Delays (λ u. refl) (delays_in s) (λ x y c d e. one_given delays_of (λ u. u.sender) (λ u. u.number) (λ m. delays_provides m.sender m.number m.item) s one x y c d (ap (λ (r : FactRow). r.sender) e) (ap (λ (r : FactRow). r.number) e))
+          (both delays_row Delays (λ u. refl) (delays_in s) (λ x y c d e. one_given delays_of (λ u. u.sender) (λ u. u.number) (λ m. delays_numbered m.sender m.number m.item) s one x y c d (ap (λ (r : FactRow). r.sender) e) (ap (λ (r : FactRow). r.number) e))
           (option_to_list f.delays) (option_to_list g.delays) rf rg same sf.delays sg.delays (to8 f) (to8 g) (of_delays f) (of_delays g));
     }
 

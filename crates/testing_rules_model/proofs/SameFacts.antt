@@ -32,46 +32,46 @@ use Rattle.testing_rules_model.proofs.GreatestDrops.{greatest-decide}
 use Rattle.testing_rules_model.proofs.Sets.{first_or_rest, TiedAmong, given_by, same-given, spread_from, same-spread, same-sorted}
 use Rattle.testing_rules_model.proofs.Least.{filter_map-same, same-least, same-chosen}
 
--- what a message gives bears its sender and number
-abbrev Bears : {B : Type 0} → (CoveredItem → Option B) → (B → ℕ) → (B → ℕ) → Type 0
-Bears {B} f sender number = (m : CoveredItem) (y : B) → f m ≡ Some y → (sender y ≡ m.sender) × (number y ≡ m.number)
+-- what a message gives has its sender and number
+abbrev IsNumberedBy : {B : Type 0} → (CoveredItem → Option B) → (B → ℕ) → (B → ℕ) → Type 0
+IsNumberedBy {B} f sender number = (m : CoveredItem) (y : B) → f m ≡ Some y → (sender y ≡ m.sender) × (number y ≡ m.number)
 
 module _ (n k : ℕ) where
   abbrev said : Item → CoveredItem
   said i = record { sender = n; number = k; item = i }
 
-  pub upload_provides : (i : Item) (y : UploadIn) → upload_of (said i) ≡ Some y → (y.sender ≡ n) × (y.number ≡ k)
-  upload_provides (item.Upload a b c d) y e = let s : y.sender ≡ n = cc in let t : y.number ≡ k = cc in (s, t)
-  upload_provides i y e = let no : None ≡ Some y = e in absurd (let never : ⊥ = cc in never)
+  pub upload_numbered : (i : Item) (y : UploadIn) → upload_of (said i) ≡ Some y → (y.sender ≡ n) × (y.number ≡ k)
+  upload_numbered (item.Upload a b c d) y e = let s : y.sender ≡ n = cc in let t : y.number ≡ k = cc in (s, t)
+  upload_numbered i y e = let no : None ≡ Some y = e in absurd (let never : ⊥ = cc in never)
 
-  pub drop_provides : (i : Item) (y : DropIn) → drop_of (said i) ≡ Some y → (y.sender ≡ n) × (y.number ≡ k)
-  drop_provides (item.Dropped a b c) y e = let s : y.sender ≡ n = cc in let t : y.number ≡ k = cc in (s, t)
-  drop_provides i y e = let no : None ≡ Some y = e in absurd (let never : ⊥ = cc in never)
+  pub drop_numbered : (i : Item) (y : DropIn) → drop_of (said i) ≡ Some y → (y.sender ≡ n) × (y.number ≡ k)
+  drop_numbered (item.Dropped a b c) y e = let s : y.sender ≡ n = cc in let t : y.number ≡ k = cc in (s, t)
+  drop_numbered i y e = let no : None ≡ Some y = e in absurd (let never : ⊥ = cc in never)
 
-  pub bug_provides : (i : Item) (y : BugIn) → bug_of (said i) ≡ Some y → (y.sender ≡ n) × (y.number ≡ k)
-  bug_provides (item.Bug a b c d f) y e = let s : y.sender ≡ n = cc in let t : y.number ≡ k = cc in (s, t)
-  bug_provides i y e = let no : None ≡ Some y = e in absurd (let never : ⊥ = cc in never)
+  pub bug_numbered : (i : Item) (y : BugIn) → bug_of (said i) ≡ Some y → (y.sender ≡ n) × (y.number ≡ k)
+  bug_numbered (item.Bug a b c d f) y e = let s : y.sender ≡ n = cc in let t : y.number ≡ k = cc in (s, t)
+  bug_numbered i y e = let no : None ≡ Some y = e in absurd (let never : ⊥ = cc in never)
 
-  pub hint_provides : (i : Item) (y : HintIn) → hint_of (said i) ≡ Some y → (y.sender ≡ n) × (y.number ≡ k)
-  hint_provides (item.Hint a) y e = let s : y.sender ≡ n = cc in let t : y.number ≡ k = cc in (s, t)
-  hint_provides i y e = let no : None ≡ Some y = e in absurd (let never : ⊥ = cc in never)
+  pub hint_numbered : (i : Item) (y : HintIn) → hint_of (said i) ≡ Some y → (y.sender ≡ n) × (y.number ≡ k)
+  hint_numbered (item.Hint a) y e = let s : y.sender ≡ n = cc in let t : y.number ≡ k = cc in (s, t)
+  hint_numbered i y e = let no : None ≡ Some y = e in absurd (let never : ⊥ = cc in never)
 
-  pub unhint_provides : (i : Item) (y : UnhintIn) → unhint_of (said i) ≡ Some y → (y.sender ≡ n) × (y.number ≡ k)
-  unhint_provides (item.Unhint a) y e = let s : y.sender ≡ n = cc in let t : y.number ≡ k = cc in (s, t)
-  unhint_provides i y e = let no : None ≡ Some y = e in absurd (let never : ⊥ = cc in never)
+  pub unhint_numbered : (i : Item) (y : UnhintIn) → unhint_of (said i) ≡ Some y → (y.sender ≡ n) × (y.number ≡ k)
+  unhint_numbered (item.Unhint a) y e = let s : y.sender ≡ n = cc in let t : y.number ≡ k = cc in (s, t)
+  unhint_numbered i y e = let no : None ≡ Some y = e in absurd (let never : ⊥ = cc in never)
 
-  pub delays_provides : (i : Item) (y : DelaysIn) → delays_of (said i) ≡ Some y → (y.sender ≡ n) × (y.number ≡ k)
-  delays_provides (item.Delays a b c d) y e = let s : y.sender ≡ n = cc in let t : y.number ≡ k = cc in (s, t)
-  delays_provides i y e = let no : None ≡ Some y = e in absurd (let never : ⊥ = cc in never)
+  pub delays_numbered : (i : Item) (y : DelaysIn) → delays_of (said i) ≡ Some y → (y.sender ≡ n) × (y.number ≡ k)
+  delays_numbered (item.Delays a b c d) y e = let s : y.sender ≡ n = cc in let t : y.number ≡ k = cc in (s, t)
+  delays_numbered i y e = let no : None ≡ Some y = e in absurd (let never : ⊥ = cc in never)
 
 -- of what a set gives, two of one sender and number are one
-module _ {B : Type 0} (f : CoveredItem → Option B) (sender number : B → ℕ) (provides_name : Bears f sender number) (s : Covered) (one : HasOneOfEach s) where
+module _ {B : Type 0} (f : CoveredItem → Option B) (sender number : B → ℕ) (numbered : IsNumberedBy f sender number) (s : Covered) (one : HasOneOfEach s) where
   pub one_given : (x y : B) → Contains (filter_map f s) x → Contains (filter_map f s) y → sender x ≡ sender y → number x ≡ number y → x ≡ y
   one_given x y c d es en =
       let m = given_by f s x c in
       let o = given_by f s y d in
-      let bm = provides_name m.0 x m.2 in
-      let bo = provides_name o.0 y o.2 in
+      let bm = numbered m.0 x m.2 in
+      let bo = numbered o.0 y o.2 in
       let same = one m.0 o.0 m.1 o.1 (sym bm.0 ∙ es ∙ bo.0) (sym bm.1 ∙ en ∙ bo.1) in
       let both : Some x ≡ Some y = sym m.2 ∙ ap f same ∙ o.2 in
       cc
@@ -85,41 +85,41 @@ module _ (s : Covered) (one : HasOneOfEach s) where
   tied_uploads x y c d e =
       let h = then_equal (version_cmp y.version x.version) (ordering_then (nat_cmp x.sender y.sender) (nat_cmp x.number y.number)) e in
       let k = by_two x.sender y.sender x.number y.number h.1 in
-      one_given upload_of (λ u. u.sender) (λ u. u.number) (λ m. upload_provides m.sender m.number m.item) s one x y c d k.0 k.1
+      one_given upload_of (λ u. u.sender) (λ u. u.number) (λ m. upload_numbered m.sender m.number m.item) s one x y c d k.0 k.1
 
   tied_drops : TiedAmong drop_order (drops_in s)
   tied_drops x y c d e =
       let h = then_equal (version_cmp y.version x.version) (ordering_then (nat_cmp x.sender y.sender) (nat_cmp x.number y.number)) e in
       let k = by_two x.sender y.sender x.number y.number h.1 in
-      one_given drop_of (λ u. u.sender) (λ u. u.number) (λ m. drop_provides m.sender m.number m.item) s one x y c d k.0 k.1
+      one_given drop_of (λ u. u.sender) (λ u. u.number) (λ m. drop_numbered m.sender m.number m.item) s one x y c d k.0 k.1
 
   tied_bugs : TiedAmong bug_order (bugs_in s)
   tied_bugs x y c d e =
       let k = by_two y.number x.number x.sender y.sender e in
-      one_given bug_of (λ u. u.sender) (λ u. u.number) (λ m. bug_provides m.sender m.number m.item) s one x y c d k.1 (sym k.0)
+      one_given bug_of (λ u. u.sender) (λ u. u.number) (λ m. bug_numbered m.sender m.number m.item) s one x y c d k.1 (sym k.0)
 
   tied_hints : TiedAmong hint_order (hints_in s)
   tied_hints x y c d e =
       let k = by_two x.number y.number x.sender y.sender e in
-      one_given hint_of (λ u. u.sender) (λ u. u.number) (λ m. hint_provides m.sender m.number m.item) s one x y c d k.1 k.0
+      one_given hint_of (λ u. u.sender) (λ u. u.number) (λ m. hint_numbered m.sender m.number m.item) s one x y c d k.1 k.0
 
   tied_unhints : TiedAmong unhint_order (unhints_in s)
   tied_unhints x y c d e =
       let k = by_two x.number y.number x.sender y.sender e in
-      one_given unhint_of (λ u. u.sender) (λ u. u.number) (λ m. unhint_provides m.sender m.number m.item) s one x y c d k.1 k.0
+      one_given unhint_of (λ u. u.sender) (λ u. u.number) (λ m. unhint_numbered m.sender m.number m.item) s one x y c d k.1 k.0
 
   tied_delays : TiedAmong delays_order (delays_in s)
   tied_delays x y c d e =
       let k = by_two y.number x.number x.sender y.sender e in
-      one_given delays_of (λ u. u.sender) (λ u. u.number) (λ m. delays_provides m.sender m.number m.item) s one x y c d k.1 (sym k.0)
+      one_given delays_of (λ u. u.sender) (λ u. u.number) (λ m. delays_numbered m.sender m.number m.item) s one x y c d k.1 (sym k.0)
 
 -- builds of one message
 module _ (n k : ℕ) where
-  placed_provides : (p : ℕ) (bs : List Binary) (b : BuildIn) → Contains (placed_from p n k bs) b → (b.sender ≡ n) × (b.number ≡ k) × (p ≤ b.place)
-  placed_provides p [] b c = none_among b c
-  placed_provides p (x ∷ bs) b c = elim (first_or_rest _ (placed_from (p + 1) n k bs) b c) [
+  placed_numbered : (p : ℕ) (bs : List Binary) (b : BuildIn) → Contains (placed_from p n k bs) b → (b.sender ≡ n) × (b.number ≡ k) × (p ≤ b.place)
+  placed_numbered p [] b c = none_among b c
+  placed_numbered p (x ∷ bs) b c = elim (first_or_rest _ (placed_from (p + 1) n k bs) b c) [
     | inl e ↦ let low : p ≡ b.place = ap (λ (z : BuildIn). z.place) e in (sym (ap (λ (z : BuildIn). z.sender) e), sym (ap (λ (z : BuildIn). z.number) e), omega arith)
-    | inr among ↦ let h = placed_provides (p + 1) bs b among in (h.0, h.1, let low : p + 1 ≤ b.place = h.2 in omega arith)
+    | inr among ↦ let h = placed_numbered (p + 1) bs b among in (h.0, h.1, let low : p + 1 ≤ b.place = h.2 in omega arith)
   ]
 
   one_place : (p : ℕ) (bs : List Binary) (a b : BuildIn) → Contains (placed_from p n k bs) a → Contains (placed_from p n k bs) b → a.place ≡ b.place → a ≡ b
@@ -127,17 +127,17 @@ module _ (n k : ℕ) where
   one_place p (x ∷ bs) a b c d e = elim (first_or_rest _ (placed_from (p + 1) n k bs) a c) [
     | inl ea ↦ elim (first_or_rest _ (placed_from (p + 1) n k bs) b d) [
       | inl eb ↦ sym ea ∙ eb
-      | inr lb ↦ let at : p ≡ a.place = ap (λ (z : BuildIn). z.place) ea in let low : p + 1 ≤ b.place = (placed_provides (p + 1) bs b lb).2 in absurd (omega arith)
+      | inr lb ↦ let at : p ≡ a.place = ap (λ (z : BuildIn). z.place) ea in let low : p + 1 ≤ b.place = (placed_numbered (p + 1) bs b lb).2 in absurd (omega arith)
     ]
     | inr la ↦ elim (first_or_rest _ (placed_from (p + 1) n k bs) b d) [
-      | inl eb ↦ let at : p ≡ b.place = ap (λ (z : BuildIn). z.place) eb in let low : p + 1 ≤ a.place = (placed_provides (p + 1) bs a la).2 in absurd (omega arith)
+      | inl eb ↦ let at : p ≡ b.place = ap (λ (z : BuildIn). z.place) eb in let low : p + 1 ≤ a.place = (placed_numbered (p + 1) bs a la).2 in absurd (omega arith)
       | inr lb ↦ one_place (p + 1) bs a b la lb e
     ]
   ]
 
-  pub builds_bear : (i : Item) (b : BuildIn) → Contains (builds_of (said n k i)) b → (b.sender ≡ n) × (b.number ≡ k)
-  builds_bear (item.Build bs) b c = let h = placed_provides 1 bs b c in (h.0, h.1)
-  builds_bear i b c = none_among b c
+  pub builds_numbered : (i : Item) (b : BuildIn) → Contains (builds_of (said n k i)) b → (b.sender ≡ n) × (b.number ≡ k)
+  builds_numbered (item.Build bs) b c = let h = placed_numbered 1 bs b c in (h.0, h.1)
+  builds_numbered i b c = none_among b c
 
   pub one_build : (i : Item) (a b : BuildIn) → Contains (builds_of (said n k i)) a → Contains (builds_of (said n k i)) b → a.place ≡ b.place → a ≡ b
   one_build (item.Build bs) a b c d e = one_place 1 bs a b c d e
@@ -151,8 +151,8 @@ module _ (s : Covered) (one : HasOneOfEach s) where
       let k = by_two x.number y.number x.place y.place j.1 in
       let m = spread_from builds_of s x c in
       let o = spread_from builds_of s y d in
-      let bm = builds_bear m.0.sender m.0.number m.0.item x m.2 in
-      let bo = builds_bear o.0.sender o.0.number o.0.item y o.2 in
+      let bm = builds_numbered m.0.sender m.0.number m.0.item x m.2 in
+      let bo = builds_numbered o.0.sender o.0.number o.0.item y o.2 in
       let same = one m.0 o.0 m.1 o.1 (sym bm.0 ∙ nat_tied x.sender y.sender j.0 ∙ bo.0) (sym bm.1 ∙ k.0 ∙ bo.1) in
       one_build m.0.sender m.0.number m.0.item x y m.2 (subst (λ w. Contains (builds_of w) y) (sym same) o.2) k.1
 

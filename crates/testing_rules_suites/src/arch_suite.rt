@@ -1,6 +1,6 @@
 //! The suite of one architecture, over the pool's rows on it.
 
-ghost use Rattle.std.specs.Prelude.{◌≡◌, ◌<◌, ◌≤◌, ◌-◌, ◌++◌, [], Bool, List, true, false, length, take, map, filter, replicate, slice_index, Some, IfOk, OnOk, OnErr};
+ghost use Rattle.std.specs.Prelude.{◌≡◌, ◌<◌, ◌≤◌, ◌-◌, ◌++◌, [], Bool, List, false, length, take, map, filter, replicate, slice_index, Some, IfOk, OnOk, OnErr};
 ghost use Rattle.std.specs.List.{All, range_with_len};
 ghost use Rattle.std.specs.Ordering.{nat_cmp};
 ghost use Rattle.std.specs.Result.{result_ok};
@@ -21,14 +21,6 @@ use std::rc::Rc;
 use testing_install::Suite;
 use testing_rules_items::{next_place, search_near};
 
-/// The row at the place is on the architecture.
-fn is_place_on(arch: u32, pool: &Pool, place: usize) -> bool
-    requires { place < length pool.now }
-    ensures { result ≡ is_place_on arch pool.now place }
-{
-    is_row_on(arch, &pool.row(place))
-}
-
 /// The places, from one on, of the pool's rows on the architecture.
 fn places_on(
     alloc: Global,
@@ -41,7 +33,8 @@ fn places_on(
 {
     let mut places = SmallVec::new(alloc);
     for place in from..pool.len() {
-        if is_place_on(arch, pool, place) {
+        let row = pool.row(place);
+        if is_row_on(arch, &row) {
             places.push(place)?;
         }
     }

@@ -1,7 +1,5 @@
 //! The rows that come and leave when a group moves.
 
-ghost use Rattle.std.specs.Prelude.{◌<◌};
-
 use smallvec::SmallVec;
 
 /// Places of rows that leave, and of rows that come then. They are usually few, and are kept in the value itself.

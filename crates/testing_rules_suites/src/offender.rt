@@ -1,6 +1,6 @@
 //! Rows on an architecture.
 
-ghost use Rattle.std.specs.Prelude.{◌≡◌, ◌==◌};
+ghost use Rattle.std.specs.Prelude.{◌≡◌};
 ghost use Rattle.testing_rules_model.specs.steps.Moves as moves_steps;
 ghost use Rattle.testing_rules_model.specs.JudgedRows.{row_of};
 

@@ -4,7 +4,7 @@ ghost use Rattle.std.specs.Prelude.{◌≡◌, ◌<◌, ℕ, Bool, List, Option,
 ghost use Rattle.std.specs.List.{All, slice_get};
 ghost use Rattle.testing_install.specs.Closed.{marked};
 ghost use Rattle.testing_rules_suites.specs.steps.ArchRows.{ArchRows};
-ghost use Rattle.testing_rules_suites.specs.steps.PresentSteps.{IsOn, IsOver, IsSuiteOn, AreOver, AreSuites};
+ghost use Rattle.testing_rules_suites.specs.steps.PresentSteps.{IsOn, IsSuiteOn, AreOver, AreSuites};
 ghost use Rattle.testing_rules_suites.specs.steps.Trials.{names_at, IsFirstLost};
 ghost use Rattle.testing_rules_suites.specs.steps.Tried.{first_told, Tells};
 ghost use Rattle.testing_rules_items.specs.Words.{Text as Word, byte_cmp, least};
@@ -31,25 +31,6 @@ fn first_watched<'a>(arch: u32, pool: &'a Pool, places: &[usize]) -> Option<&'a 
     first
 }
 
-/// The first name in byte order of a watched row that the architecture would lose by the change. The suite has the
-/// pool's rows on the architecture, and is unchanged.
-fn first_lost_in_suite<'a>(
-    alloc: Global,
-    arch: u32,
-    pool: &'a Pool,
-    suite: &mut ArchSuite,
-    change: &Change,
-) -> Result<Option<&'a str>, NoMemory>
-    requires { IsOver arch pool.now suite.old }
-    ensures same { suite.new ≡ suite.old }
-    ensures first { IfOk result (λ name. (stands there : List Bool) → IsSuiteOn arch pool.now stands suite.old
-        → length there ≡ length pool.now → IsOn arch pool.now (marked stands) (marked there)
-        → IsFirstLost arch pool.now there change.now.leaving.items change.now.coming.items (option_copied name)) }
-{
-    let lost = suite.trial(alloc, &change.leaving, &change.coming)?;
-    Ok(first_watched(arch, pool, &lost))
-}
-
 /// The first name in byte order of a watched row that the architecture would lose by the change.
 fn lost_on<'a>(
     alloc: Global,
@@ -66,7 +47,8 @@ fn lost_on<'a>(
         → IsFirstLost arch pool.now there change.now.leaving.items change.now.coming.items (option_copied name)) }
 {
     let suite = &mut suites[arch as usize];
-    first_lost_in_suite(alloc, arch, pool, suite, change)
+    let lost = suite.trial(alloc, &change.leaving, &change.coming)?;
+    Ok(first_watched(arch, pool, &lost))
 }
 
 /// The first row that the change would lose, by architecture in listed order and then by name.

@@ -1,6 +1,6 @@
 //! Which rows an architecture watches, and which of two names comes first.
 
-ghost use Rattle.std.specs.Prelude.{◌≡◌, ◌==◌};
+ghost use Rattle.std.specs.Prelude.{◌≡◌};
 ghost use Rattle.testing_rules_model.specs.Moves as moves;
 ghost use Rattle.testing_rules_model.specs.JudgedRows.{row_of};
 ghost use Rattle.testing_rules_items.specs.Words.{byte_cmp};

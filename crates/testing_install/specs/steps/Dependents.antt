@@ -4,7 +4,7 @@ use Rattle.std.specs.List.{slice_get, flat_map, All}
 use Rattle.deb_control.specs.declared.binary.Binary.{Binary}
 use Rattle.testing_install.specs.Index.{PlacesByName, places_at}
 use Rattle.testing_install.specs.steps.Index.{IsIndex}
-use Rattle.testing_install.specs.Dependents.{names, needs_name}
+use Rattle.testing_install.specs.Dependents.{needs_name}
 
 -- the places at each name are places of rows, among them every row with a clause that names it
 pub record IsDependents (rows : List Binary) (map : PlacesByName) : Type 0 where

@@ -1,4 +1,4 @@
--- Progress of the search for the rows that bear on one row. A marked row may still be reached.
+-- Progress of the search for the rows that affect one row. A marked row may still be reached.
 use Rattle.std.specs.Prelude.{◌≡◌, ℕ, ◌+◌, ◌<◌, Bool, true, false, ◌⊎◌, List, length, Some, Contains}
 use Rattle.std.specs.List.{slice_get, All, count_by}
 use Rattle.deb_control.specs.declared.binary.Binary.{Binary}

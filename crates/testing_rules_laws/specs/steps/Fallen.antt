@@ -1,4 +1,4 @@
--- Steps beside what testing lost.
+-- What counts with a new testing, except for the sources that it lost or has in a lower version than before.
 use Rattle.testing_rules_model.specs.Suite.{Suite}
 use Rattle.testing_rules_model.specs.steps.KeptFacts.{AreFallen}
 use Rattle.testing_rules_excuses.specs.Fallen.{fallen_names}

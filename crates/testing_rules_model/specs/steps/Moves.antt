@@ -1,6 +1,5 @@
 -- Steps beside `specs/Moves.antt`.
 use Rattle.std.specs.Prelude.{ℕ, Bool, ◌||◌, ◌==◌}
-use Rattle.std.specs.Ordering.{on}
 use Rattle.testing_rules_model.specs.declared.suite.RowIn.{RowIn}
 use Rattle.testing_rules_items.specs.Words.{all_place}
 

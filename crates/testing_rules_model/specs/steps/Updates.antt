@@ -9,7 +9,7 @@ use Rattle.testing_rules_model.specs.declared.update.Decision.{Decision}
 use Rattle.testing_rules_model.specs.declared.update.Decision.TheVariants.{Accept, Wait}
 use Rattle.testing_rules_model.specs.Suite.{Suite}
 use Rattle.testing_rules_items.specs.Words.{Text}
-use Rattle.testing_rules_model.specs.Updates.{Outcome, nothing, offender_alone, single_moves, wait_for, waits}
+use Rattle.testing_rules_model.specs.Updates.{Outcome, offender_alone, single_moves, wait_for, waits}
 
 -- moving the candidate alone breaks nothing
 abbrev pub is_allowed_alone : List Text → List UploadIn → List RowIn → Suite → Excuse → Bool

@@ -3,7 +3,7 @@ use Rattle.std.specs.List.{All}
 use Rattle.std.proofs.lemmas.List.{get_or_default}
 use Rattle.testing_install.proofs.Counting.{count_both}
 use Rattle.testing_install.proofs.Members.{all_from_members, members_from_all}
-use Rattle.testing_install.proofs.Needing.{dependents_within, needer_found}
+use Rattle.testing_install.proofs.Needing.{dependents_within, dependent_found}
 use Rattle.testing_install.proofs.Sharing.{length-shared}
 use Rattle.testing_install.proofs.Reviving.{reviving_more, fresh_row}
 use Rattle.testing_install.specs.Index.{places_at}
@@ -29,7 +29,7 @@ revivals-preserved c =
     let one = c.in_ok-revive_dependents.ensures.revived in
     let found = dependents_within rows _ row (length c.args.graph.now.rows.items) c.requires.graph.needed (length-shared c.args.graph.now.rows.items) in
     record {
-      revived = λ old s. reviving_more rows (marked c.args.there.now) old _ _ _ _ _ _ _ _ _ (c.revivals.invariant.revived old s) one (omega arith) below (fresh_row c.args.graph.now.rows.items c.revivals.fresh.items c.revivals.next place c.index.result.now row below read c.revivals.invariant.fresh c.index.ensures c.as_ref-row.ensures) (needer_found rows _ row c.requires.graph.needed);
+      revived = λ old s. reviving_more rows (marked c.args.there.now) old _ _ _ _ _ _ _ _ _ (c.revivals.invariant.revived old s) one (omega arith) below (fresh_row c.args.graph.now.rows.items c.revivals.fresh.items c.revivals.next place c.index.result.now row below read c.revivals.invariant.fresh c.index.ensures c.as_ref-row.ensures) (dependent_found rows _ row c.requires.graph.needed);
       long = c.in_ok-revive_dependents.ensures.long ∙ c.requires.there;
       kept = c.in_ok-revive_dependents.ensures.kept ∙ c.revivals.invariant.kept;
       fresh = all_from_members _ _ (one.within (length c.args.graph.now.rows.items) found (members_from_all _ _ c.revivals.invariant.fresh));

@@ -1,5 +1,5 @@
 use Rattle.std.proofs.Common.{arith, ◌∙◌}
-use Rattle.testing_install.proofs.Needing.{needer_found}
+use Rattle.testing_install.proofs.Needing.{dependent_found}
 use Rattle.testing_install.proofs.Sharing.{shared_at, length-shared}
 use Rattle.testing_install.proofs.Settled.{settling_turn, settling_calm, sized_turn, turn_in}
 use Rattle.testing_install.specs.Rows.{shared}
@@ -18,5 +18,5 @@ loop-place-preserved c =
     record {
       sized = c.in_ok-look_at_dependents.ensures.sized;
       kept = c.in_ok-look_at_dependents.ensures.kept ∙ c.loop-place.invariant.kept;
-      step = λ there first s. settling_calm rows there first _ _ _ _ _ (c.in_ok-look_at_dependents.ensures.step there first (settling_turn rows there first _ _ _ _ _ _ _ _ (c.loop-place.invariant.step there first s) c.in-Some.ensures.items at (needer_found rows _ c.as_ref-row.result.now c.requires.graph.needed)));
+      step = λ there first s. settling_calm rows there first _ _ _ _ _ (c.in_ok-look_at_dependents.ensures.step there first (settling_turn rows there first _ _ _ _ _ _ _ _ (c.loop-place.invariant.step there first s) c.in-Some.ensures.items at (dependent_found rows _ c.as_ref-row.result.now c.requires.graph.needed)));
     }

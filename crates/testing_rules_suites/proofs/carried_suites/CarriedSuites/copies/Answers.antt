@@ -1,4 +1,4 @@
-use Rattle.std.proofs.Common.{◌≡◌, ◌∙◌, ap, subst, List, [], IfOk, IfSome}
+use Rattle.std.proofs.Common.{◌≡◌, ◌∙◌, ap, subst, List, IfOk, IfSome}
 use Rattle.testing_rules_suites.specs.steps.AfterMoves.{rows_at}
 use Rattle.testing_rules_model.specs.InOrder.{AreByKey}
 use Rattle.testing_rules_model.specs.SameMessages.{SameElements}
