@@ -2,7 +2,7 @@
 ghost use Rattle.std.specs.Prelude.{◌≡◌, ◌↔◌, ◌==◌, codes, length, option_map, IsTrue, IfOk};
 ghost use Rattle.std.specs.List.{filter};
 ghost use Rattle.office_store.specs.Opening.{has_indexes, has_own_indexes};
-ghost use Rattle.office_store_tables.specs.Layout.{fact, fact_delays, is_free, table_by, IsFound, HasEach, HasEachBefore};
+ghost use Rattle.office_store_tables.specs.Layout.{fact, fact_delays, is_free, table_by, IsTableFound, HasEach, HasEachBefore};
 
 use office_store_tables::layout::{
     has_fact, has_fact_delays, has_mail, has_office, has_run, has_testing_row, has_testing_source,
@@ -13,7 +13,7 @@ use std::alloc::{AllocError, Global};
 
 /// Whether both tables of facts exist.
 fn has_facts(alloc: Global, schema: &Schema) -> Result<bool, AllocError>
-    ensures { IfOk result (λ both. IsTrue both ↔ (IsFound fact (table_by (codes "fact") schema.now) × IsFound fact_delays (table_by (codes "fact_delays") schema.now))) }
+    ensures { IfOk result (λ both. IsTrue both ↔ (IsTableFound fact (table_by (codes "fact") schema.now) × IsTableFound fact_delays (table_by (codes "fact_delays") schema.now))) }
 {
     Ok(has_fact(alloc, schema)? && has_fact_delays(alloc, schema)?)
 }
@@ -34,7 +34,7 @@ pub fn has_each(alloc: Global, schema: &Schema) -> Result<bool, AllocError>
 
 /// Whether the table of facts exists, and nothing has the name of the number of the last delays.
 fn has_facts_before(alloc: Global, schema: &Schema) -> Result<bool, AllocError>
-    ensures { IfOk result (λ before. IsTrue before ↔ (IsFound fact (table_by (codes "fact") schema.now) × IsTrue (is_free (codes "fact_delays") schema.now))) }
+    ensures { IfOk result (λ before. IsTrue before ↔ (IsTableFound fact (table_by (codes "fact") schema.now) × IsTrue (is_free (codes "fact_delays") schema.now))) }
 {
     Ok(has_fact(alloc, schema)? && is_free(schema, b"fact_delays"))
 }

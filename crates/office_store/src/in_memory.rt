@@ -11,7 +11,7 @@ ghost use Rattle.office_store_tables.specs.Entries.{source_map, entry_map};
 ghost use Rattle.office_store_tables.specs.steps.Finishing.{FinishesRun};
 ghost use Rattle.office_store_tables.specs.Legible.{IsWhole, AreNamed, SaysOnce};
 ghost use Rattle.office_store_tables.specs.TableContent.{is_arch_place, release_place, suite_in};
-ghost use Rattle.office_store_tables.specs.Reads.{LeavesStore, BeginsOurs, Finds, Holds};
+ghost use Rattle.office_store_tables.specs.Reads.{LeavesStore, BeginsOurs, Finds, HoldsOfTables};
 ghost use Rattle.office_store_tables.specs.Tables.{IsTrusted, IsOurs, kept_rows};
 ghost use Rattle.office_store_tables.specs.steps.Tables.{Lasts};
 
@@ -78,7 +78,7 @@ pub(crate) fn next_testing<S: Alter>(
     requires ours { BeginsOurs S.Store conn.old }
     ensures reads { LeavesStore S.Store conn.old conn.new result }
     ensures stays { in_memory.new ≡ in_memory.old }
-    ensures bad { Holds S.Store conn.new (λ db. IsWhole (kept_rows (db 1)) (db 1) → AreNamed setup.now db → NeverBad result) }
+    ensures bad { HoldsOfTables S.Store conn.new (λ db. IsWhole (kept_rows (db 1)) (db 1) → AreNamed setup.now db → NeverBad result) }
     ensures known { IfOk result (λ testing. KnowsArchs setup.now.archs testing.rows) }
     ensures value { Finds S.Store conn.new result (λ db testing. (in_memory.old ≡ Some testing) ⊎ (testing ≡ suite_in setup.now (kept_rows (db 1)) (source_map (db 4)) (entry_map (db 6)))) }
 {

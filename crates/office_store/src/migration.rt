@@ -14,7 +14,7 @@ ghost use Rattle.office_store_tables.specs.Layout.{schema_before};
 ghost use Rattle.office_store_tables.specs.Tables.{IsTrusted, IsOurs, IsWhole, number_in, kept_rows};
 ghost use Rattle.office_store_tables.specs.Faults.{IsBad};
 ghost use Rattle.office_store_tables.specs.steps.Tables.{Lasts};
-ghost use Rattle.office_store_tables.specs.TableSteps.{IsCrowded, SaysMore, is_between, letter_columns, office_columns};
+ghost use Rattle.office_store_tables.specs.TableSteps.{IsCrowded, is_between, letter_columns, office_columns};
 ghost use Rattle.office_store_tables.specs.StepsWithin.{StepsWithin, BeginsInside, Performs, Looks};
 ghost use Rattle.office_store_tables.specs.TableContent.{release_place};
 ghost use Rattle.office_store_tables.specs.steps.CreatingSteps.{IsBuilding};
@@ -325,18 +325,6 @@ fn put_last<S: Alter>(tx: &mut Transaction<'_, S>, last: Option<u32>) -> Result<
     }
 }
 
-/// Adds the office's row, with schema number 2.
-fn add_migrated<S: Alter>(
-    tx: &mut Transaction<'_, S>,
-    setup: &str,
-    finished: u32,
-) -> Result<usize, Error>
-    requires { BeginsInside S.Store tx.old.conn }
-    ensures { Performs S.Store tx.old.conn tx.new.conn result (λ db next _. SaysMore db next (record { schema = 2; setup = setup.now; finished = finished })) }
-{
-    add_office(tx, 2, setup, finished)
-}
-
 /// Writes what schema 2 adds: the number of the last delays, and the schema's number in the office's row.
 fn write_anew<S: Alter>(
     tx: &mut Transaction<'_, S>,
@@ -349,7 +337,7 @@ fn write_anew<S: Alter>(
 {
     put_last(tx, last)?;
     let _old = clear_office(tx)?;
-    let added = add_migrated(tx, setup, finished)?;
+    let added = add_office(tx, 2, setup, finished)?;
     Ok(added)
 }
 

@@ -7,7 +7,7 @@ ghost use Rattle.sqlite.specs.State.{HasCleanDisk};
 ghost use Rattle.office_mail.specs.Lists.{Lists};
 ghost use Rattle.office_store_tables.specs.Tables.{IsTrusted, IsOurs, number_in, text_in, Endures};
 ghost use Rattle.office_store_tables.specs.steps.Tables.{Lasts};
-ghost use Rattle.office_store_tables.specs.Reads.{LeavesStore, BeginsOurs, Finds, Holds};
+ghost use Rattle.office_store_tables.specs.Reads.{LeavesStore, BeginsOurs, Finds, HoldsOfTables};
 ghost use Rattle.office_store.specs.Opening.{open_fault, text_by, text_of_one, kept_text, lists_by, IsKeptFor, IsOpened, IsKeptForOther, IsUnknown, IsUnreadable, IsAlone, IsTakeable};
 ghost use Rattle.office_store.specs.steps.Opening.{shown_office};
 ghost use Rattle.office_store_tables.specs.Creating.{IsBlank};
@@ -174,8 +174,8 @@ fn go_on<S: Alter>(alloc: Global, conn: &mut Connection<S>, setup: &Setup) -> Re
     requires ours { BeginsOurs S.Store conn.old }
     ensures reads { LeavesStore S.Store conn.old conn.new result }
     ensures kept { Finds S.Store conn.new result (λ db _. lists_by (kept_text (db 0)) ≡ Some setup.now) }
-    ensures other { Holds S.Store conn.new (λ db. result ≡ Err OpenFault.OtherSetup → (kept : Lists) × (lists_by (kept_text (db 0)) ≡ Some kept) × (kept ≢ setup.now)) }
-    ensures unknown { Holds S.Store conn.new (λ db. result ≡ Err OpenFault.UnknownSchema → lists_by (kept_text (db 0)) ≡ None) }
+    ensures other { HoldsOfTables S.Store conn.new (λ db. result ≡ Err OpenFault.OtherSetup → (kept : Lists) × (lists_by (kept_text (db 0)) ≡ Some kept) × (kept ≢ setup.now)) }
+    ensures unknown { HoldsOfTables S.Store conn.new (λ db. result ≡ Err OpenFault.UnknownSchema → lists_by (kept_text (db 0)) ≡ None) }
     ensures bad { result ≢ Err (OpenFault.Store BadRow) }
 {
     let rows = office_rows(conn)?;
@@ -189,9 +189,9 @@ fn begin<S: Alter>(alloc: Global, conn: &mut Connection<S>, setup: &Setup) -> Re
     ensures lasts { Lasts (state S.Store conn.old) (state S.Store conn.new) }
     ensures open { HasCleanDisk (state S.Store conn.new) → IsTrusted (state S.Store conn.old) → OnOk result (IsTrusted (state S.Store conn.new)) }
     ensures ours { IsTrusted (state S.Store conn.new) → OnOk result (IsOurs (state S.Store conn.new)) }
-    ensures blank { Holds S.Store conn.new (λ db. OnOk result (IsBlank db (record { schema = 2; setup = text_of setup.now; finished = 0 }))) }
+    ensures blank { HoldsOfTables S.Store conn.new (λ db. OnOk result (IsBlank db (record { schema = 2; setup = text_of setup.now; finished = 0 }))) }
     ensures kept { IsTrusted (state S.Store conn.new) → OnOk result (IsKeptFor setup.now (state S.Store conn.new).now) }
-    ensures fresh { Holds S.Store conn.new (λ db. OnOk result (IsEmptyFor setup.now db)) }
+    ensures fresh { HoldsOfTables S.Store conn.new (λ db. OnOk result (IsEmptyFor setup.now db)) }
     ensures err { IsTrusted (state S.Store conn.new) → OnErr result (IsAsItWas (state S.Store conn.old) (state S.Store conn.new)) }
     ensures own { (result ≢ Err OpenFault.OtherSetup) × (result ≢ Err OpenFault.UnknownSchema) }
     ensures bad { result ≢ Err (OpenFault.Store BadRow) }

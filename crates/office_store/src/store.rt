@@ -10,7 +10,7 @@ ghost use Rattle.sqlite.specs.WalFiles.{image_at};
 ghost use Rattle.office_store.specs.Opening.{IsOpened, IsAlone, IsTakeable};
 ghost use Rattle.office_store.specs.Tables.{IsTrusted, Endures};
 ghost use Rattle.office_store.specs.Store.{FindsStore, OpensStore, status_of_store};
-ghost use Rattle.office_store.specs.steps.Store.{told};
+ghost use Rattle.office_store.specs.steps.Store.{file_fault};
 
 use crate::{Cause, OpenFault, Tables};
 use office_mail::Setup;
@@ -75,8 +75,8 @@ pub fn store_status(fault: &FileFault) -> u8
 }
 
 /// The file's fault for a fault in opening tables.
-fn told(fault: OpenFault) -> FileFault
-    ensures { result ≡ told fault }
+fn file_fault(fault: OpenFault) -> FileFault
+    ensures { result ≡ file_fault fault }
 {
     match fault {
         OpenFault::NoMemory => FileFault::NoMemory,
@@ -103,7 +103,7 @@ pub fn open_tables<S: Alter + Drop>(
 {
     match Tables::open(alloc, conn, setup) {
         Ok(tables) => Ok(tables),
-        Err((fault, _conn)) => Err(told(fault)),
+        Err((fault, _conn)) => Err(file_fault(fault)),
     }
 }
 

@@ -172,15 +172,6 @@ fn reports_of(runs: &[Reports], run: u32) -> Option<&Reports>
     runs.get(run as usize - 1)
 }
 
-/// Adds the reports of one more run after the earlier ones.
-fn put_reports(runs: &mut Vec<Reports>, reports: Reports) -> Result<(), NoMemory>
-    ensures done { OnOk result (runs.new.items ≡ runs.old.items ++ reports ∷ []) }
-    ensures err { OnErr result (runs.new.items ≡ runs.old.items) }
-{
-    runs.push(reports)?;
-    Ok(())
-}
-
 /// Replaces a value.
 fn put<T: Drop>(place: &mut T, value: T)
     ensures { place.new ≡ value }
@@ -202,18 +193,10 @@ fn put_run(
     ensures facts { OnOk result (facts.new.items ≡ rows.items) }
     ensures err { OnErr result ((runs.new.items ≡ runs.old.items) × (testing.new ≡ testing.old) × (facts.new.items ≡ facts.old.items)) }
 {
-    match put_reports(runs, reports) {
-        Ok(()) => {
-            put(testing, left);
-            put(facts, rows);
-            Ok(())
-        }
-        Err(fault) => {
-            drop(left);
-            drop(rows);
-            Err(fault)
-        }
-    }
+    runs.push(reports)?;
+    put(testing, left);
+    put(facts, rows);
+    Ok(())
 }
 
 /// Keeps the result of one more run, or nothing.

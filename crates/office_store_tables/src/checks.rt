@@ -4,7 +4,7 @@ ghost use Rattle.std.specs.FinMap.{len};
 ghost use Rattle.office_mail.specs.Setup.{setup_in};
 ghost use Rattle.office_store_testing_tables.specs.Legible.{SaysOnce, AreNamed, AreRead, IsLegible, IsWhole};
 ghost use Rattle.office_store_testing_tables.specs.steps.Faults.{NeverBad};
-ghost use Rattle.office_store_testing_tables.specs.steps.Reads.{LeavesStore, BeginsOurs, Finds, Holds};
+ghost use Rattle.office_store_testing_tables.specs.steps.Reads.{LeavesStore, BeginsOurs, Finds, HoldsOfTables};
 ghost use Rattle.office_store_testing_tables.specs.TableContent.{release_place};
 ghost use Rattle.office_store_testing_tables.specs.Tables.{kept_rows};
 ghost use Rattle.office_store_tables.specs.steps.Reading.{IsSaidFor, IsOwnCount, ReadRest};
@@ -54,7 +54,7 @@ fn own_count<S: Alter>(
     requires ours { BeginsOurs S.Store conn.old }
     ensures reads { LeavesStore S.Store conn.old conn.new result }
     ensures own { Finds S.Store conn.new result (λ db count. IsOwnCount setup.now (db 0) count) }
-    ensures bad { Holds S.Store conn.new (λ db. SaysOnce (db 0) → NeverBad result) }
+    ensures bad { HoldsOfTables S.Store conn.new (λ db. SaysOnce (db 0) → NeverBad result) }
 {
     let said = said(conn)?;
     count_said(alloc, &said, setup)
@@ -69,7 +69,7 @@ fn read_entries<S: Alter>(
     requires ours { BeginsOurs S.Store conn.old }
     ensures reads { LeavesStore S.Store conn.old conn.new result }
     ensures legible { Finds S.Store conn.new result (λ db _. AreNamed setup.now db × AreRead (release_place setup.now) (db 8) (db 10)) }
-    ensures bad { Holds S.Store conn.new (λ db. IsWhole (kept_rows (db 1)) (db 1) → AreNamed setup.now db → AreRead (release_place setup.now) (db 8) (db 10) → NeverBad result) }
+    ensures bad { HoldsOfTables S.Store conn.new (λ db. IsWhole (kept_rows (db 1)) (db 1) → AreNamed setup.now db → AreRead (release_place setup.now) (db 8) (db 10) → NeverBad result) }
 {
     let suite = testing(alloc, conn, setup)?;
     drop(suite);
@@ -89,7 +89,7 @@ fn is_rest_whole<S: Alter>(
     requires ours { BeginsOurs S.Store conn.old }
     ensures reads { LeavesStore S.Store conn.old conn.new result }
     ensures whole { Finds S.Store conn.new result (λ db whole. texts ≤ len (kept_rows (db 1)) → (IsTrue whole ↔ ReadRest setup.now db finished texts)) }
-    ensures bad { Holds S.Store conn.new (λ db. IsLegible setup.now db → NeverBad result) }
+    ensures bad { HoldsOfTables S.Store conn.new (λ db. IsLegible setup.now db → NeverBad result) }
 {
     let rows = count(conn)?;
     if rows != texts {
@@ -114,7 +114,7 @@ pub fn is_whole<S: Alter>(
     requires ours { BeginsOurs S.Store conn.old }
     ensures reads { LeavesStore S.Store conn.old conn.new result }
     ensures whole { Finds S.Store conn.new result (λ db whole. texts ≤ len (kept_rows (db 1)) → (IsTrue whole ↔ (IsLegible setup.now db × (len (kept_rows (db 1)) ≡ texts)))) }
-    ensures bad { Holds S.Store conn.new (λ db. IsLegible setup.now db → NeverBad result) }
+    ensures bad { HoldsOfTables S.Store conn.new (λ db. IsLegible setup.now db → NeverBad result) }
 {
     let own = own_count(alloc, conn, setup)?;
     match own {

@@ -1,7 +1,7 @@
 //! Whether a database has exactly the office's tables, and which of them it has if there are others.
 ghost use Rattle.std.specs.Prelude.{◌≡◌, ◌↔◌, [], ◌∷◌, codes, IsTrue, IfOk};
 ghost use Rattle.std.specs.Option.{option_copied};
-ghost use Rattle.office_store_tables.specs.Layout.{column_by, to_mail, office, mail, run, testing_source, testing_row, fact, fact_delays, no_schema, schema_before, office_schema, standing, is_free, has_none, table_by, IsFound};
+ghost use Rattle.office_store_tables.specs.Layout.{column_by, to_mail, office, mail, run, testing_source, testing_row, fact, fact_delays, no_schema, schema_before, office_schema, standing, is_free, has_none, table_by, IsTableFound};
 ghost use Rattle.office_store_tables.specs.steps.LayoutSteps.{key_index, IsBare, IsAt, IsNumbered, IsKeyed, office_tables, tables_before, office_indexes, mail_index, testing_source_index, testing_row_index, fact_index};
 ghost use Rattle.sqlite_value.specs.Keys.{plain};
 
@@ -495,7 +495,7 @@ fn table_by<'a>(schema: &'a Schema, name: &[u8]) -> Option<&'a Table>
 
 /// Whether the office's table exists, in any tree.
 pub fn has_office(alloc: Global, schema: &Schema) -> Result<bool, AllocError>
-    ensures { IfOk result (λ has. IsTrue has ↔ IsFound office (table_by (codes "office") schema.now)) }
+    ensures { IfOk result (λ has. IsTrue has ↔ IsTableFound office (table_by (codes "office") schema.now)) }
 {
     match table_by(schema, b"office") {
         Some(table) => is_office(alloc, table, table.tree),
@@ -505,7 +505,7 @@ pub fn has_office(alloc: Global, schema: &Schema) -> Result<bool, AllocError>
 
 /// Whether the table of mail exists, in any tree.
 pub fn has_mail(alloc: Global, schema: &Schema) -> Result<bool, AllocError>
-    ensures { IfOk result (λ has. IsTrue has ↔ IsFound mail (table_by (codes "mail") schema.now)) }
+    ensures { IfOk result (λ has. IsTrue has ↔ IsTableFound mail (table_by (codes "mail") schema.now)) }
 {
     match table_by(schema, b"mail") {
         Some(table) => is_mail(alloc, table, table.tree),
@@ -515,7 +515,7 @@ pub fn has_mail(alloc: Global, schema: &Schema) -> Result<bool, AllocError>
 
 /// Whether the table of finished runs exists, in any tree.
 pub fn has_run(alloc: Global, schema: &Schema) -> Result<bool, AllocError>
-    ensures { IfOk result (λ has. IsTrue has ↔ IsFound run (table_by (codes "run") schema.now)) }
+    ensures { IfOk result (λ has. IsTrue has ↔ IsTableFound run (table_by (codes "run") schema.now)) }
 {
     match table_by(schema, b"run") {
         Some(table) => is_run(alloc, table, table.tree),
@@ -525,7 +525,7 @@ pub fn has_run(alloc: Global, schema: &Schema) -> Result<bool, AllocError>
 
 /// Whether the table of testing's sources exists, in any tree.
 pub fn has_testing_source(alloc: Global, schema: &Schema) -> Result<bool, AllocError>
-    ensures { IfOk result (λ has. IsTrue has ↔ IsFound testing_source (table_by (codes "testing_source") schema.now)) }
+    ensures { IfOk result (λ has. IsTrue has ↔ IsTableFound testing_source (table_by (codes "testing_source") schema.now)) }
 {
     match table_by(schema, b"testing_source") {
         Some(table) => is_testing_source(alloc, table, table.tree),
@@ -535,7 +535,7 @@ pub fn has_testing_source(alloc: Global, schema: &Schema) -> Result<bool, AllocE
 
 /// Whether the table of testing's rows exists, in any tree.
 pub fn has_testing_row(alloc: Global, schema: &Schema) -> Result<bool, AllocError>
-    ensures { IfOk result (λ has. IsTrue has ↔ IsFound testing_row (table_by (codes "testing_row") schema.now)) }
+    ensures { IfOk result (λ has. IsTrue has ↔ IsTableFound testing_row (table_by (codes "testing_row") schema.now)) }
 {
     match table_by(schema, b"testing_row") {
         Some(table) => is_testing_row(alloc, table, table.tree),
@@ -545,7 +545,7 @@ pub fn has_testing_row(alloc: Global, schema: &Schema) -> Result<bool, AllocErro
 
 /// Whether the table of facts exists, in any tree.
 pub fn has_fact(alloc: Global, schema: &Schema) -> Result<bool, AllocError>
-    ensures { IfOk result (λ has. IsTrue has ↔ IsFound fact (table_by (codes "fact") schema.now)) }
+    ensures { IfOk result (λ has. IsTrue has ↔ IsTableFound fact (table_by (codes "fact") schema.now)) }
 {
     match table_by(schema, b"fact") {
         Some(table) => is_fact(alloc, table, table.tree),
@@ -555,7 +555,7 @@ pub fn has_fact(alloc: Global, schema: &Schema) -> Result<bool, AllocError>
 
 /// Whether the table of the number of the last delays exists, in any tree.
 pub fn has_fact_delays(alloc: Global, schema: &Schema) -> Result<bool, AllocError>
-    ensures { IfOk result (λ has. IsTrue has ↔ IsFound fact_delays (table_by (codes "fact_delays") schema.now)) }
+    ensures { IfOk result (λ has. IsTrue has ↔ IsTableFound fact_delays (table_by (codes "fact_delays") schema.now)) }
 {
     match table_by(schema, b"fact_delays") {
         Some(table) => is_fact_delays(alloc, table, table.tree),

@@ -10,7 +10,7 @@ ghost use Rattle.office_store_testing_tables.specs.steps.Faults.{IsBad, NeverBad
 ghost use Rattle.office_store_testing_tables.specs.steps.Tables.{Lasts};
 ghost use Rattle.std.specs.List.Sorted.{IsPermutation};
 ghost use Rattle.office_store_testing_tables.specs.steps.TableSteps.{AddsLetter, AddsLetters, letter_parameters, rowid_column, AreSmall, IsCrowded, IsOnlyNumber, ShowsLeast};
-ghost use Rattle.office_store_testing_tables.specs.steps.Reads.{LeavesStore, BeginsOurs, Finds, Reads, Holds};
+ghost use Rattle.office_store_testing_tables.specs.steps.Reads.{LeavesStore, BeginsOurs, Finds, Reads, HoldsOfTables};
 ghost use Rattle.office_store_testing_tables.specs.steps.StepsWithin.{BeginsInside, Performs};
 
 use office_store_keeper::{Cause, KeepFault, NewLetter};
@@ -56,7 +56,7 @@ pub fn next_number<S: Alter>(
     requires ours { BeginsOurs S.Store conn.old }
     ensures reads { LeavesStore S.Store conn.old conn.new result }
     ensures next { Finds S.Store conn.new result (λ db number. IsNextNumber (kept_rows (db 1)) sender from number) }
-    ensures bad { Holds S.Store conn.new (λ db. IsBad result → AreSmall (kept_rows (db 1)) → IsCrowded (db 1)) }
+    ensures bad { HoldsOfTables S.Store conn.new (λ db. IsBad result → AreSmall (kept_rows (db 1)) → IsCrowded (db 1)) }
 {
     let rows = least_from(conn, sender, from)?;
     only_number(rows.as_slice(), sender)

@@ -14,7 +14,7 @@ ghost use Rattle.office_store_testing_tables.specs.Tables.{said_in as said_rows,
 ghost use Rattle.office_store_testing_tables.specs.steps.Faults.{IsBad, NeverBad};
 ghost use Rattle.office_store_testing_tables.specs.steps.TableSteps.{IsOnlyOffice, IsOnlyRun, AddsRun, Silences, SaysMore, RecordsRun, office_columns, is_run, run_columns, rowid_column};
 ghost use Rattle.office_store_tables.specs.steps.Reading.{IsRecorded};
-ghost use Rattle.office_store_testing_tables.specs.steps.Reads.{LeavesStore, BeginsOurs, Finds, Reads, Holds};
+ghost use Rattle.office_store_testing_tables.specs.steps.Reads.{LeavesStore, BeginsOurs, Finds, Reads, HoldsOfTables};
 ghost use Rattle.office_store_testing_tables.specs.steps.StepsWithin.{BeginsInside, Performs};
 
 use deb_control::Text;
@@ -70,7 +70,7 @@ pub(crate) fn said<S: Alter>(conn: &mut Connection<S>) -> Result<Said, KeepFault
     ensures reads { LeavesStore S.Store conn.old conn.new result }
     ensures value { Finds S.Store conn.new result (λ db said. said_rows (db 0) ≡ Some said) }
     ensures once { Finds S.Store conn.new result (λ db said. (once : SaysOnce (db 0)) × (once.said ≡ said)) }
-    ensures bad { Holds S.Store conn.new (λ db. SaysOnce (db 0) → NeverBad result) }
+    ensures bad { HoldsOfTables S.Store conn.new (λ db. SaysOnce (db 0) → NeverBad result) }
 {
     let rows = office_rows(conn)?;
     only_said(rows.as_slice())
@@ -81,7 +81,7 @@ pub fn finished<S: Alter>(conn: &mut Connection<S>) -> Result<u32, KeepFault>
     requires ours { BeginsOurs S.Store conn.old }
     ensures reads { LeavesStore S.Store conn.old conn.new result }
     ensures value { Finds S.Store conn.new result (λ db n. n ≡ count_said (said_rows (db 0))) }
-    ensures bad { Holds S.Store conn.new (λ db. SaysOnce (db 0) → NeverBad result) }
+    ensures bad { HoldsOfTables S.Store conn.new (λ db. SaysOnce (db 0) → NeverBad result) }
 {
     let said = said(conn)?;
     Ok(said.finished)
@@ -136,7 +136,7 @@ fn recorded<S: Alter>(conn: &mut Connection<S>, run: u32) -> Result<Option<Repor
     ensures reads { LeavesStore S.Store conn.old conn.new result }
     ensures value { Finds S.Store conn.new result (λ db reports. reports ≡ get (run_map (db 3)) run) }
     ensures texts { IfOk result (λ reports. IfSome reports (λ r. IsUtf8 r.excuses × IsUtf8 r.updates)) }
-    ensures bad { Holds S.Store conn.new (λ db. (finished : ℕ) → AreReported (db 3) finished → NeverBad result) }
+    ensures bad { HoldsOfTables S.Store conn.new (λ db. (finished : ℕ) → AreReported (db 3) finished → NeverBad result) }
 {
     let rows = run_rows(conn, run)?;
     only_reports(rows.as_slice(), run)
@@ -146,7 +146,7 @@ fn recorded<S: Alter>(conn: &mut Connection<S>, run: u32) -> Result<Option<Repor
 pub fn reports<S: Alter>(conn: &mut Connection<S>, run: u32) -> Result<Option<Reports>, KeepFault>
     requires ours { BeginsOurs S.Store conn.old }
     ensures reads { LeavesStore S.Store conn.old conn.new result }
-    ensures bad { Holds S.Store conn.new (λ db. (once : SaysOnce (db 0)) → AreReported (db 3) once.said.finished → NeverBad result) }
+    ensures bad { HoldsOfTables S.Store conn.new (λ db. (once : SaysOnce (db 0)) → AreReported (db 3) once.said.finished → NeverBad result) }
     ensures value { Finds S.Store conn.new result (λ db reports. reports ≡ item_from_one run (reports_to (run_map (db 3)) (count_said (said_rows (db 0))))) }
 {
     if run == 0 {
@@ -167,7 +167,7 @@ fn is_recorded<S: Alter>(conn: &mut Connection<S>, run: u32) -> Result<bool, Kee
     requires ours { BeginsOurs S.Store conn.old }
     ensures reads { LeavesStore S.Store conn.old conn.new result }
     ensures own { Finds S.Store conn.new result (λ db own. IsTrue own ↔ IsRecorded (db 3) run) }
-    ensures bad { Holds S.Store conn.new (λ db. (finished : ℕ) → AreReported (db 3) finished → NeverBad result) }
+    ensures bad { HoldsOfTables S.Store conn.new (λ db. (finished : ℕ) → AreReported (db 3) finished → NeverBad result) }
 {
     let reports = recorded(conn, run)?;
     Ok(reports.is_some())
@@ -178,7 +178,7 @@ fn are_recorded<S: Alter>(conn: &mut Connection<S>, runs: u32) -> Result<bool, K
     requires ours { BeginsOurs S.Store conn.old }
     ensures reads { LeavesStore S.Store conn.old conn.new result }
     ensures own { Finds S.Store conn.new result (λ db own. IsTrue own ↔ ((run : ℕ) → 1 ≤ run → run ≤ runs → IsRecorded (db 3) run)) }
-    ensures bad { Holds S.Store conn.new (λ db. (finished : ℕ) → AreReported (db 3) finished → NeverBad result) }
+    ensures bad { HoldsOfTables S.Store conn.new (λ db. (finished : ℕ) → AreReported (db 3) finished → NeverBad result) }
 {
     let mut done = 0;
     'runs: while done < runs {
@@ -215,7 +215,7 @@ pub(crate) fn are_reported<S: Alter>(conn: &mut Connection<S>, runs: u32) -> Res
     requires ours { BeginsOurs S.Store conn.old }
     ensures reads { LeavesStore S.Store conn.old conn.new result }
     ensures own { Finds S.Store conn.new result (λ db own. IsTrue own ↔ AreReported (db 3) runs) }
-    ensures bad { Holds S.Store conn.new (λ db. (finished : ℕ) → AreReported (db 3) finished → NeverBad result) }
+    ensures bad { HoldsOfTables S.Store conn.new (λ db. (finished : ℕ) → AreReported (db 3) finished → NeverBad result) }
 {
     let own = has_rows(conn, runs)?;
     if !own {

@@ -26,7 +26,7 @@ use Rattle.office_store_testing_tables.specs.TableContent.{release_place}
 use Rattle.office_store_testing_tables.specs.FactTables.{fact_entry, may_stand, fact_in, delays_of, delays_in, facts_in}
 use Rattle.office_store_testing_tables.specs.declared.rowids.ChangedTable.TheVariants as changed
 use Rattle.office_store_testing_tables.specs.steps.ChangedTables.{TakesOut, Takes}
-use Rattle.office_store_testing_tables.specs.steps.FactSteps.{is_fact, is_delays, id_columns, IsOnlyId, IsFound, is_no_delays, AddsFact, AddsFacts, AddsDelays, CanStand, CanStandEach, MovesFacts, KeepsOthers, Leaves, DropsFact, DropsDelays, DropsOne, AddsOne, DropsEach, AddsEach, ChangesFacts}
+use Rattle.office_store_testing_tables.specs.steps.FactSteps.{is_fact, is_delays, id_columns, IsOnlyId, IsRowidFound, is_no_delays, AddsFact, AddsFacts, AddsDelays, CanStand, CanStandEach, MovesFacts, KeepsOthers, Leaves, DropsFact, DropsDelays, DropsOne, AddsOne, DropsEach, AddsEach, ChangesFacts}
 use Rattle.office_store_testing_tables.proofs.DeleteLemmas.{itself}
 use Rattle.office_store_testing_tables.proofs.MailLemmas.{empty_of, as_many, only_shown}
 use Rattle.office_store_testing_tables.proofs.KeepLemmas.{seven}
@@ -108,13 +108,13 @@ rest_same db next same = (
   same ∙ ap (λ rows. record (rows_in db) { delays = rows }) (sym (ap (λ (r : Rows). r.delays) same)),
 )
 
-pub drops_no_fact : (db next : Trees) (fact : FactRow) → IsFound (is_fact fact) (db 8) None → next ≡ db → DropsFact db next fact
+pub drops_no_fact : (db next : Trees) (fact : FactRow) → IsRowidFound (is_fact fact) (db 8) None → next ≡ db → DropsFact db next fact
 drops_no_fact db next fact it same = record {
   leaves = found_none fact_in fact (is_fact fact) (λ row is. fact_here row fact is) (λ row other passed is. fact_only row fact other passed is) (db 8) (next 8) it.shown it.are it.only (ap (λ (t : Trees). t 8) same);
   rest = (rest_same db next (ap rows_in same)).0;
 }
 
-pub drops_a_fact : (db mid next : Trees) (fact : FactRow) (id : ℤ) → IsFound (is_fact fact) (db 8) (Some id) → mid ≡ db → Takes changed.Facts mid next id 1 → DropsFact db next fact
+pub drops_a_fact : (db mid next : Trees) (fact : FactRow) (id : ℤ) → IsRowidFound (is_fact fact) (db 8) (Some id) → mid ≡ db → Takes changed.Facts mid next id 1 → DropsFact db next fact
 drops_a_fact db mid next fact id it same taken =
     let took = subst (λ (t : Trees). Takes changed.Facts t next id 1) same taken in
     record {
@@ -122,13 +122,13 @@ drops_a_fact db mid next fact id it same taken =
       rest = took.rest;
     }
 
-pub drops_no_delays : (db next : Trees) (number : ℕ) → IsFound (is_delays number) (db 10) None → next ≡ db → DropsDelays db next number
+pub drops_no_delays : (db next : Trees) (number : ℕ) → IsRowidFound (is_delays number) (db 10) None → next ≡ db → DropsDelays db next number
 drops_no_delays db next number it same = record {
   leaves = λ release. found_none (delays_in release) (delays_of release number) (is_delays number) (λ row is. delays_here release number row is) (λ row other passed is. delays_only release number row other passed is) (db 10) (next 10) it.shown it.are it.only (ap (λ (t : Trees). t 10) same);
   rest = (rest_same db next (ap rows_in same)).1;
 }
 
-pub drops_delays : (db mid next : Trees) (number : ℕ) (id : ℤ) → IsFound (is_delays number) (db 10) (Some id) → mid ≡ db → Takes changed.Delays mid next id 1 → DropsDelays db next number
+pub drops_delays : (db mid next : Trees) (number : ℕ) (id : ℤ) → IsRowidFound (is_delays number) (db 10) (Some id) → mid ≡ db → Takes changed.Delays mid next id 1 → DropsDelays db next number
 drops_delays db mid next number id it same taken =
     let took = subst (λ (t : Trees). Takes changed.Delays t next id 1) same taken in
     record {

@@ -5,14 +5,12 @@ ghost use Rattle.std.specs.Str.{bytes_eq};
 ghost use Rattle.testing_rules_items.specs.Words.{arch_name};
 ghost use Rattle.std.specs.List.{AllByRecursion};
 ghost use Rattle.std.specs.List.Sorted.{IsPermutation};
-ghost use Rattle.std.specs.FinMap.{get};
-ghost use Rattle.office_mail.specs.Kept.{Kept};
 ghost use Rattle.office_mail.specs.Read.{read};
 ghost use Rattle.office_store_keeper.specs.Provenance.{IsArchPlace, KnowsArchs, upload_in, binary_in};
 ghost use Rattle.office_store_testing_tables.specs.Tables.{kept_rows};
 ghost use Rattle.office_store_testing_tables.specs.steps.Faults.{IsBad, NeverBad};
 ghost use Rattle.office_store_testing_tables.specs.steps.TableSteps.{IsCrowded};
-ghost use Rattle.office_store_testing_tables.specs.steps.Reads.{LeavesStore, BeginsOurs, Finds, Reads, Holds};
+ghost use Rattle.office_store_testing_tables.specs.steps.Reads.{LeavesStore, BeginsOurs, Finds, Reads, HoldsOfTables};
 ghost use Rattle.office_store_testing_tables.specs.Legible.{IsWhole, AreNamed};
 ghost use Rattle.office_store_testing_tables.specs.Entries.{source_map, entry_map};
 ghost use Rattle.office_store_testing_tables.specs.steps.EntrySteps.{source_columns, entry_columns};
@@ -97,27 +95,12 @@ fn message_at<S: Alter>(
     requires ours { BeginsOurs S.Store conn.old }
     ensures reads { LeavesStore S.Store conn.old conn.new result }
     ensures ok { Finds S.Store conn.new result (λ db message. kept_message setup.now (kept_rows (db 1)) sender number ≡ Some message) }
-    ensures bad { Holds S.Store conn.new (λ db. IsBad result → IsCrowded (db 1) ⊎ (kept_message setup.now (kept_rows (db 1)) sender number ≡ None)) }
+    ensures bad { HoldsOfTables S.Store conn.new (λ db. IsBad result → IsCrowded (db 1) ⊎ (kept_message setup.now (kept_rows (db 1)) sender number ≡ None)) }
 {
     match mail::find(conn, sender, number)? {
         None => Err(KeepFault::Store(Cause::BadRow)),
         Some(text) => own_message(alloc, setup, text.as_slice(), sender, number),
     }
-}
-
-/// The content of the kept text at a place.
-#[tactic(auto, unfolding(crate::specs::TableContent::message_at))]
-fn said_there(
-    alloc: Global,
-    setup: &Setup,
-    text: &[u8],
-    sender: u32,
-    number: u32,
-) -> Result<Message, KeepFault>
-    ensures ok { IfOk result (λ message. (kept : Kept) → get kept (sender, number) ≡ Some text.now → kept_message setup.now kept sender number ≡ Some message) }
-    ensures bad { IsBad result → (kept : Kept) → get kept (sender, number) ≡ Some text.now → kept_message setup.now kept sender number ≡ None }
-{
-    own_message(alloc, setup, text, sender, number)
 }
 
 /// What is needed to read the messages named by shown rows: the setup to read a text, and the rows to know which texts
@@ -130,6 +113,7 @@ struct Reading<'a> {
 }
 
 /// The kept message at a place, from its loaded text if there is one.
+#[tactic(auto, unfolding(crate::specs::TableContent::message_at))]
 fn message_near<S: Alter>(
     conn: &mut Connection<S>,
     reading: &Reading<'_>,
@@ -138,15 +122,15 @@ fn message_near<S: Alter>(
     number: u32,
 ) -> Result<Message, KeepFault>
     requires ours { BeginsOurs S.Store conn.old }
-    requires block { Holds S.Store conn.old (λ db. AreLoaded db block.old) }
+    requires block { HoldsOfTables S.Store conn.old (λ db. AreLoaded db block.old) }
     ensures reads { LeavesStore S.Store conn.old conn.new result }
     ensures block { Finds S.Store conn.new result (λ db _. AreLoaded db block.new) }
     ensures ok { Finds S.Store conn.new result (λ db message. kept_message reading.now.setup.now (kept_rows (db 1)) sender number ≡ Some message) }
-    ensures bad { Holds S.Store conn.new (λ db. IsBad result → IsCrowded (db 1) ⊎ (kept_message reading.now.setup.now (kept_rows (db 1)) sender number ≡ None)) }
+    ensures bad { HoldsOfTables S.Store conn.new (λ db. IsBad result → IsCrowded (db 1) ⊎ (kept_message reading.now.setup.now (kept_rows (db 1)) sender number ≡ None)) }
 {
     bring(reading.alloc, conn, block, reading.listed, sender, number)?;
     match loaded_text(block, sender, number) {
-        Some(text) => said_there(reading.alloc, reading.setup, text, sender, number),
+        Some(text) => own_message(reading.alloc, reading.setup, text, sender, number),
         None => message_at(reading.alloc, conn, reading.setup, sender, number),
     }
 }
@@ -190,13 +174,13 @@ fn read_once<S: Alter>(
     number: u32,
 ) -> Result<(), KeepFault>
     requires ours { BeginsOurs S.Store conn.old }
-    requires block { Holds S.Store conn.old (λ db. AreLoaded db block.old) }
-    requires last { Holds S.Store conn.old (λ db. IsKept reading.now.setup.now db last.old) }
+    requires block { HoldsOfTables S.Store conn.old (λ db. AreLoaded db block.old) }
+    requires last { HoldsOfTables S.Store conn.old (λ db. IsKept reading.now.setup.now db last.old) }
     ensures reads { LeavesStore S.Store conn.old conn.new result }
     ensures block { Finds S.Store conn.new result (λ db _. AreLoaded db block.new) }
     ensures place { OnOk result (IsKeptAt sender number last.new) }
     ensures held { Finds S.Store conn.new result (λ db _. IsKept reading.now.setup.now db last.new) }
-    ensures bad { Holds S.Store conn.new (λ db. IsBad result → IsCrowded (db 1) ⊎ (kept_message reading.now.setup.now (kept_rows (db 1)) sender number ≡ None)) }
+    ensures bad { HoldsOfTables S.Store conn.new (λ db. IsBad result → IsCrowded (db 1) ⊎ (kept_message reading.now.setup.now (kept_rows (db 1)) sender number ≡ None)) }
 {
     if is_last(last, sender, number) {
         return Ok(());
@@ -247,11 +231,11 @@ fn source_at<S: Alter>(
     row: &Row,
 ) -> Result<SourceIn, KeepFault>
     requires ours { BeginsOurs S.Store conn.old }
-    requires block { Holds S.Store conn.old (λ db. AreLoaded db block.old) }
+    requires block { HoldsOfTables S.Store conn.old (λ db. AreLoaded db block.old) }
     ensures reads { LeavesStore S.Store conn.old conn.new result }
     ensures block { Finds S.Store conn.new result (λ db _. AreLoaded db block.new) }
     ensures ok { Finds S.Store conn.new result (λ db source. source_of reading.now.setup.now (kept_rows (db 1)) row.now ≡ Some source) }
-    ensures bad { Holds S.Store conn.new (λ db. IsBad result → row.now ≡ source_columns row.now → IsCrowded (db 1) ⊎ (source_of reading.now.setup.now (kept_rows (db 1)) row.now ≡ None)) }
+    ensures bad { HoldsOfTables S.Store conn.new (λ db. IsBad result → row.now ≡ source_columns row.now → IsCrowded (db 1) ⊎ (source_of reading.now.setup.now (kept_rows (db 1)) row.now ≡ None)) }
 {
     let (name, sender, number) = source_entry(row)?;
     let message = message_near(conn, reading, block, sender, number)?;
@@ -282,7 +266,7 @@ fn sources_at<S: Alter>(
     requires ours { BeginsOurs S.Store conn.old }
     ensures reads { LeavesStore S.Store conn.old conn.new result }
     ensures ok { Finds S.Store conn.new result (λ db sources. map (source_of setup.now (kept_rows (db 1))) rows.now ≡ map Some sources.items) }
-    ensures bad { Holds S.Store conn.new (λ db. IsBad result → ReadsEach source_columns (source_of setup.now (kept_rows (db 1))) rows.now → IsCrowded (db 1)) }
+    ensures bad { HoldsOfTables S.Store conn.new (λ db. IsBad result → ReadsEach source_columns (source_of setup.now (kept_rows (db 1))) rows.now → IsCrowded (db 1)) }
 {
     let mut sources = Vec::new(alloc);
     let mut block = no_block(alloc);
@@ -405,14 +389,14 @@ fn row_at<S: Alter>(
     last: &mut Option<KeptAt>,
 ) -> Result<RowIn, KeepFault>
     requires ours { BeginsOurs S.Store conn.old }
-    requires block { Holds S.Store conn.old (λ db. AreLoaded db block.old) }
-    requires last { Holds S.Store conn.old (λ db. IsKept reading.now.setup.now db last.old) }
+    requires block { HoldsOfTables S.Store conn.old (λ db. AreLoaded db block.old) }
+    requires last { HoldsOfTables S.Store conn.old (λ db. IsKept reading.now.setup.now db last.old) }
     ensures reads { LeavesStore S.Store conn.old conn.new result }
     ensures block { Finds S.Store conn.new result (λ db _. AreLoaded db block.new) }
     ensures known { IfOk result (λ given. IsArchPlace reading.now.setup.now.archs given.arch) }
     ensures ok { Finds S.Store conn.new result (λ db given. row_of reading.now.setup.now (kept_rows (db 1)) row.now ≡ Some given) }
     ensures held { Finds S.Store conn.new result (λ db _. IsKept reading.now.setup.now db last.new) }
-    ensures bad { Holds S.Store conn.new (λ db. IsBad result → row.now ≡ entry_columns row.now → IsCrowded (db 1) ⊎ (row_of reading.now.setup.now (kept_rows (db 1)) row.now ≡ None)) }
+    ensures bad { HoldsOfTables S.Store conn.new (λ db. IsBad result → row.now ≡ entry_columns row.now → IsCrowded (db 1) ⊎ (row_of reading.now.setup.now (kept_rows (db 1)) row.now ≡ None)) }
 {
     let entry = row_entry(row)?;
     let (sender, number) = (entry.sender, entry.number);
@@ -453,12 +437,12 @@ fn read_rows<S: Alter>(
     last: &mut Option<KeptAt>,
 ) -> Result<Vec<RowIn>, KeepFault>
     requires ours { BeginsOurs S.Store conn.old }
-    requires block { Holds S.Store conn.old (λ db. AreLoaded db block.old) }
-    requires last { Holds S.Store conn.old (λ db. IsKept setup.now db last.old) }
+    requires block { HoldsOfTables S.Store conn.old (λ db. AreLoaded db block.old) }
+    requires last { HoldsOfTables S.Store conn.old (λ db. IsKept setup.now db last.old) }
     ensures reads { LeavesStore S.Store conn.old conn.new result }
     ensures known { IfOk result (λ given. AllByRecursion (λ r. IsArchPlace setup.now.archs r.arch) given.items) }
     ensures ok { Finds S.Store conn.new result (λ db given. map (row_of setup.now (kept_rows (db 1))) rows.now ≡ map Some given.items) }
-    ensures bad { Holds S.Store conn.new (λ db. IsBad result → ReadsEach entry_columns (row_of setup.now (kept_rows (db 1))) rows.now → IsCrowded (db 1)) }
+    ensures bad { HoldsOfTables S.Store conn.new (λ db. IsBad result → ReadsEach entry_columns (row_of setup.now (kept_rows (db 1))) rows.now → IsCrowded (db 1)) }
 {
     let mut given = Vec::new(alloc);
     let columns = BUILD;
@@ -486,7 +470,7 @@ fn rows_at<S: Alter>(
     ensures reads { LeavesStore S.Store conn.old conn.new result }
     ensures known { IfOk result (λ given. AllByRecursion (λ r. IsArchPlace setup.now.archs r.arch) given.items) }
     ensures ok { Finds S.Store conn.new result (λ db given. map (row_of setup.now (kept_rows (db 1))) rows.now ≡ map Some given.items) }
-    ensures bad { Holds S.Store conn.new (λ db. IsBad result → ReadsEach entry_columns (row_of setup.now (kept_rows (db 1))) rows.now → IsCrowded (db 1)) }
+    ensures bad { HoldsOfTables S.Store conn.new (λ db. IsBad result → ReadsEach entry_columns (row_of setup.now (kept_rows (db 1))) rows.now → IsCrowded (db 1)) }
 {
     let mut block = no_block(alloc);
     let mut last = None;
@@ -553,7 +537,7 @@ pub fn testing<S: Alter>(
 ) -> Result<Testing, KeepFault>
     requires ours { BeginsOurs S.Store conn.old }
     ensures reads { LeavesStore S.Store conn.old conn.new result }
-    ensures bad { Holds S.Store conn.new (λ db. IsWhole (kept_rows (db 1)) (db 1) → AreNamed setup.now db → NeverBad result) }
+    ensures bad { HoldsOfTables S.Store conn.new (λ db. IsWhole (kept_rows (db 1)) (db 1) → AreNamed setup.now db → NeverBad result) }
     ensures known { IfOk result (λ testing. KnowsArchs setup.now.archs testing.rows) }
     ensures value { Finds S.Store conn.new result (λ db testing. testing ≡ suite_in setup.now (kept_rows (db 1)) (source_map (db 4)) (entry_map (db 6))) }
     ensures legible { Finds S.Store conn.new result (λ db _. AreNamed setup.now db) }

@@ -5,7 +5,7 @@ ghost use Rattle.std.specs.List.Sorted.{IsPermutation};
 ghost use Rattle.sqlite.specs.Values.{bound};
 ghost use Rattle.office_store_testing_tables.specs.steps.Faults.{NeverBad};
 ghost use Rattle.office_store_testing_tables.specs.steps.StepsWithin.{BeginsInside, Performs, PerformsNeverBad, Looks};
-ghost use Rattle.office_store_testing_tables.specs.steps.FactSteps.{is_fact, is_delays, id_columns, IsFound, AddsFact, AddsFacts, AddsDelays, fact_parameters, FitsFact, is_no_delays, DropsFact, DropsDelays, DropsOne, AddsOne, DropsEach, AddsEach};
+ghost use Rattle.office_store_testing_tables.specs.steps.FactSteps.{is_fact, is_delays, id_columns, IsRowidFound, AddsFact, AddsFacts, AddsDelays, fact_parameters, FitsFact, is_no_delays, DropsFact, DropsDelays, DropsOne, AddsOne, DropsEach, AddsEach};
 
 use crate::rowids::{ChangedTable, only_id, take_one};
 use office_store_keeper::KeepFault;
@@ -77,7 +77,7 @@ fn found_fact<S: Alter>(
     fact: &FactRow,
 ) -> Result<Option<i64>, KeepFault>
     requires { BeginsInside S.Store tx.old.conn }
-    ensures looks { Looks S.Store tx.old.conn tx.new.conn result (λ db id. IsFound (is_fact fact.now) (db 8) id) }
+    ensures looks { Looks S.Store tx.old.conn tx.new.conn result (λ db id. IsRowidFound (is_fact fact.now) (db 8) id) }
     ensures bad { NeverBad result }
 {
     let shown = fact_ids(tx, fact.kind, fact.sender, fact.number, fact.place)?;
@@ -106,7 +106,7 @@ fn found_delays<S: Alter>(
     number: u32,
 ) -> Result<Option<i64>, KeepFault>
     requires { BeginsInside S.Store tx.old.conn }
-    ensures looks { Looks S.Store tx.old.conn tx.new.conn result (λ db id. IsFound (is_delays number) (db 10) id) }
+    ensures looks { Looks S.Store tx.old.conn tx.new.conn result (λ db id. IsRowidFound (is_delays number) (db 10) id) }
     ensures bad { NeverBad result }
 {
     let shown = delays_ids(tx, number)?;
@@ -192,25 +192,17 @@ pub fn drop_each<S: Alter>(
 }
 
 /// The values of a fact's columns.
-fn fact_values(kind: FactKind, sender: u32, number: u32, place: u32) -> [ValueRef<'static>; 4]
-    ensures is { bound result ≡ fact_parameters (record { kind = kind; sender = sender; number = number; place = place }) }
-    ensures fits { FitsFact (record { kind = kind; sender = sender; number = number; place = place }) }
-{
-    let kind = kind.number();
-    [
-        kind.to_sql(),
-        sender.to_sql(),
-        number.to_sql(),
-        place.to_sql(),
-    ]
-}
-
-/// The values of a fact's columns, from its row.
 fn values_of(fact: &FactRow) -> [ValueRef<'static>; 4]
     ensures is { bound result ≡ fact_parameters fact.now }
     ensures fits { FitsFact fact.now }
 {
-    fact_values(fact.kind, fact.sender, fact.number, fact.place)
+    let kind = fact.kind.number();
+    [
+        kind.to_sql(),
+        fact.sender.to_sql(),
+        fact.number.to_sql(),
+        fact.place.to_sql(),
+    ]
 }
 
 /// The values of eight facts' columns, fact by fact.

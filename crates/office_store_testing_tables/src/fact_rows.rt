@@ -7,7 +7,7 @@ ghost use Rattle.testing_rules_model.specs.FactRows.{number_of};
 ghost use Rattle.testing_rules_model.specs.declared.fact_row.FactKind.{FactKind as AKind};
 ghost use Rattle.office_store_keeper.specs.FactSet.{rows_in as rows_in_set, set_of_rows};
 ghost use Rattle.office_store_testing_tables.specs.steps.Faults.{IsBad, NeverBad};
-ghost use Rattle.office_store_testing_tables.specs.steps.Reads.{LeavesStore, BeginsOurs, Finds, Reads, Holds};
+ghost use Rattle.office_store_testing_tables.specs.steps.Reads.{LeavesStore, BeginsOurs, Finds, Reads, HoldsOfTables};
 ghost use Rattle.office_store_testing_tables.specs.TableContent.{release_place};
 ghost use Rattle.office_store_testing_tables.specs.steps.TableContent.{ReadsEach};
 ghost use Rattle.office_store_testing_tables.specs.Legible.{AreRead};
@@ -174,7 +174,7 @@ pub fn facts<S: Alter>(
 ) -> Result<FactRows, KeepFault>
     requires ours { BeginsOurs S.Store conn.old }
     ensures reads { LeavesStore S.Store conn.old conn.new result }
-    ensures bad { Holds S.Store conn.new (λ db. AreRead (release_place setup.now) (db 8) (db 10) → NeverBad result) }
+    ensures bad { HoldsOfTables S.Store conn.new (λ db. AreRead (release_place setup.now) (db 8) (db 10) → NeverBad result) }
     ensures value { Finds S.Store conn.new result (λ db rows. rows ≡ rows_in_set (facts_in (release_place setup.now) (db 8) (db 10))) }
     ensures legible { Finds S.Store conn.new result (λ db _. AreRead (release_place setup.now) (db 8) (db 10)) }
 {

@@ -8,7 +8,7 @@ ghost use Rattle.sqlite.specs.declared.types.Value.TheVariants.{Int, Blob};
 ghost use Rattle.office_store_testing_tables.specs.Tables.{kept_rows};
 ghost use Rattle.office_store_testing_tables.specs.steps.Faults.{IsBad};
 ghost use Rattle.office_store_testing_tables.specs.steps.TableSteps.{IsCrowded, IsOnly, is_at, is_between, letter_columns, shown_letter, letter_entry, ShowsLetters, rises_from};
-ghost use Rattle.office_store_testing_tables.specs.steps.Reads.{LeavesStore, BeginsOurs, Finds, Reads, Holds};
+ghost use Rattle.office_store_testing_tables.specs.steps.Reads.{LeavesStore, BeginsOurs, Finds, Reads, HoldsOfTables};
 
 use crate::faults::unread;
 use office_store_keeper::{Cause, KeepFault, Letter, MailText};
@@ -62,7 +62,7 @@ pub fn find<S: Alter>(
     requires ours { BeginsOurs S.Store conn.old }
     ensures reads { LeavesStore S.Store conn.old conn.new result }
     ensures found { Finds S.Store conn.new result (λ db text. text ≡ get (kept_rows (db 1)) (sender, number)) }
-    ensures bad { Holds S.Store conn.new (λ db. IsBad result → IsCrowded (db 1)) }
+    ensures bad { HoldsOfTables S.Store conn.new (λ db. IsBad result → IsCrowded (db 1)) }
 {
     let rows = letters(conn, sender, number)?;
     only_text(rows.as_slice(), sender, number)
@@ -152,7 +152,7 @@ pub fn load<S: Alter>(
 ) -> Result<Vec<Letter>, KeepFault>
     requires ours { BeginsOurs S.Store conn.old }
     ensures reads { LeavesStore S.Store conn.old conn.new result }
-    ensures bad { Holds S.Store conn.new (λ db. IsBad result → IsCrowded (db 1)) }
+    ensures bad { HoldsOfTables S.Store conn.new (λ db. IsBad result → IsCrowded (db 1)) }
     ensures loaded { Finds S.Store conn.new result (λ db letters. letters.items ≡ letters_within (kept_rows (db 1)) sender from to) }
 {
     let rows = letters_between(conn, sender, from, to)?;

@@ -2,7 +2,7 @@
 //! are adjacent in the mail.
 ghost use Rattle.office_store_testing_tables.specs.steps.Faults.{IsBad};
 ghost use Rattle.office_store_testing_tables.specs.steps.TableSteps.{IsCrowded};
-ghost use Rattle.office_store_testing_tables.specs.steps.Reads.{LeavesStore, BeginsOurs, Finds, Holds};
+ghost use Rattle.office_store_testing_tables.specs.steps.Reads.{LeavesStore, BeginsOurs, Finds, HoldsOfTables};
 ghost use Rattle.office_store_testing_tables.specs.steps.Loaded.{AreLoaded};
 
 use crate::loaded::{LoadedLetters, loaded_text};
@@ -67,10 +67,10 @@ pub fn bring<S: Alter>(
     number: u32,
 ) -> Result<(), KeepFault>
     requires ours { BeginsOurs S.Store conn.old }
-    requires block { Holds S.Store conn.old (λ db. AreLoaded db block.old) }
+    requires block { HoldsOfTables S.Store conn.old (λ db. AreLoaded db block.old) }
     ensures reads { LeavesStore S.Store conn.old conn.new result }
     ensures block { Finds S.Store conn.new result (λ db _. AreLoaded db block.new) }
-    ensures bad { Holds S.Store conn.new (λ db. IsBad result → IsCrowded (db 1)) }
+    ensures bad { HoldsOfTables S.Store conn.new (λ db. IsBad result → IsCrowded (db 1)) }
 {
     if loaded_text(block, sender, number).is_some() {
         return Ok(());

@@ -1,5 +1,5 @@
 //! The tables of testing: a finished run writes only the rows that changed.
-ghost use Rattle.std.specs.Prelude.{◌≡◌, ◌<◌, ℕ, List, IsTrue, Some, map, length, refl};
+ghost use Rattle.std.specs.Prelude.{◌≡◌, ℕ, List, IsTrue, Some, map, length, refl};
 ghost use Rattle.std.specs.List.{AllByRecursion};
 ghost use Rattle.sqlite.specs.Values.{bound};
 ghost use Rattle.testing_rules_model.specs.InOrder.{AreByName, AreByKey};
@@ -33,19 +33,16 @@ fn says_source(shown: &Row, source: &SourceIn) -> bool
 }
 
 /// The values of a source's columns.
-fn source_values(name: &str, sender: u32, number: u32) -> [ValueRef<'_>; 3]
-    ensures is { bound result ≡ source_parameters name.now sender number }
-    ensures fits { FitsSource sender number }
-{
-    [name.to_sql(), sender.to_sql(), number.to_sql()]
-}
-
-/// The values of a source's columns, from the source.
 fn values_of_source(source: &SourceIn) -> [ValueRef<'_>; 3]
     ensures is { bound result ≡ source_parameters source.now.name source.now.sender source.now.number }
     ensures fits { FitsSource source.now.sender source.now.number }
 {
-    source_values(source.name.as_str(), source.sender, source.number)
+    let name = source.name.as_str();
+    [
+        name.to_sql(),
+        source.sender.to_sql(),
+        source.number.to_sql(),
+    ]
 }
 
 /// The values of eight sources' columns, source by source.
@@ -154,26 +151,18 @@ fn says_row(shown: &Row, row: &RowIn) -> bool
 }
 
 /// The values of a row's columns.
-fn row_values(arch: u32, name: &str, sender: u32, number: u32, place: u32) -> [ValueRef<'_>; 5]
-    ensures is { bound result ≡ row_parameters arch name.now sender number place }
-    ensures fits { FitsRow arch sender number place }
-{
-    [
-        arch.to_sql(),
-        name.to_sql(),
-        sender.to_sql(),
-        number.to_sql(),
-        place.to_sql(),
-    ]
-}
-
-/// The values of a row's columns, from the row.
 fn values_of_row(row: &RowIn) -> [ValueRef<'_>; 5]
     ensures is { bound result ≡ row_parameters row.now.arch row.now.binary.name row.now.sender row.now.number row.now.place }
     ensures fits { FitsRow row.now.arch row.now.sender row.now.number row.now.place }
 {
     let name = row.binary.name.as_str();
-    row_values(row.arch, name, row.sender, row.number, row.place)
+    [
+        row.arch.to_sql(),
+        name.to_sql(),
+        row.sender.to_sql(),
+        row.number.to_sql(),
+        row.place.to_sql(),
+    ]
 }
 
 /// The values of eight rows' columns, row by row.

@@ -6,9 +6,9 @@ use Rattle.office_store.specs.declared.store.FileFault.{FileFault}
 use Rattle.office_store.specs.declared.store.FileFault.TheVariants as fault
 
 -- the result for a fault in opening the tables
-abbrev pub told : OpenFault → FileFault
-told opening.NoMemory = fault.NoMemory
-told opening.OtherSetup = fault.OtherSetup
-told opening.UnknownSchema = fault.UnknownSchema
-told (opening.Store BadRow) = fault.Unreadable
-told (opening.Store (Sqlite error)) = fault.Failed error
+abbrev pub file_fault : OpenFault → FileFault
+file_fault opening.NoMemory = fault.NoMemory
+file_fault opening.OtherSetup = fault.OtherSetup
+file_fault opening.UnknownSchema = fault.UnknownSchema
+file_fault (opening.Store BadRow) = fault.Unreadable
+file_fault (opening.Store (Sqlite error)) = fault.Failed error

@@ -55,7 +55,7 @@ IsOnlyId None rows = rows ≡ []
 IsOnlyId (Some id) rows = (row : Row) × (rows ≡ row ∷ []) × (column row 0 ≡ Int id)
 
 -- a look-up of the rows that pass a test found this rowid, or none
-pub record IsFound (test : Row → Bool) (rows : List Row) (id : Option ℤ) : Type 0 where
+pub record IsRowidFound (test : Row → Bool) (rows : List Row) (id : Option ℤ) : Type 0 where
   pub shown : List Row
   pub are : IsPermutation (map id_columns (filter test rows)) shown
   pub only : IsOnlyId id shown

@@ -30,5 +30,5 @@ pub record Reads {S T E : Type 0} (store : Ghosts S) (old new : Held S) (result 
   pub finds : Finds store new result found
 
 -- if the connection is trusted, this holds of its tables
-abbrev pub Holds : {S : Type 0} → Ghosts S → Held S → (Trees → Type 0) → Type 0
-Holds store held said = IsTrusted (state store held) → said (state store held).now.trees
+abbrev pub HoldsOfTables : {S : Type 0} → Ghosts S → Held S → (Trees → Type 0) → Type 0
+HoldsOfTables store held said = IsTrusted (state store held) → said (state store held).now.trees

@@ -9,7 +9,7 @@ returns g c = record {
   yields = λ trusted.
       let second = c.in_ok-added.ensures.steps.before trusted in
       let first = c.in_ok-_old.ensures.steps.before second in
-      writes_anew (state g.S.Store c.args.tx.now.conn.now).now.trees (state g.S.Store c.put_last.new.tx.conn.now).now.trees (state g.S.Store c.clear_office.new.tx.conn.now).now.trees (state g.S.Store c.add_migrated.new.tx.conn.now).now.trees
+      writes_anew (state g.S.Store c.args.tx.now.conn.now).now.trees (state g.S.Store c.put_last.new.tx.conn.now).now.trees (state g.S.Store c.clear_office.new.tx.conn.now).now.trees (state g.S.Store c.add_office.new.tx.conn.now).now.trees
       c.args.last (record { schema = 2; setup = c.args.setup.now; finished = c.args.finished }) (c.in_ok-put_last.ensures.yields first) (c.in_ok-_old.ensures.yields second) (c.in_ok-added.ensures.yields trusted);
 }
 

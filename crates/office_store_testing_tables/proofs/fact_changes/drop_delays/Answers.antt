@@ -3,7 +3,7 @@ use Rattle.sqlite.specs.Effect.{Database}
 use Rattle.sqlite.specs.Held.{state}
 use Rattle.office_store_testing_tables.proofs.Passed.{well, still_well}
 use Rattle.office_store_testing_tables.proofs.WithinLemmas.{kept_within, failed_within, then_within, failed_never_bad}
-use Rattle.office_store_testing_tables.specs.steps.FactSteps.{is_delays, IsFound}
+use Rattle.office_store_testing_tables.specs.steps.FactSteps.{is_delays, IsRowidFound}
 use Rattle.office_store_testing_tables.proofs.FactMoves.{drops_no_delays, drops_delays}
 use Rattle.office_store_testing_tables.proofs.fact_changes.drop_delays.Goals as goal
 
@@ -12,7 +12,7 @@ returns-in-None g c = record {
   steps = kept_within _ c.in_ok-found.ensures.looks.steps;
   yields = λ trusted.
       let old = (state g.S.Store c.args.tx.now.conn.now).now.trees in
-      drops_no_delays old (state g.S.Store c.found_delays.new.tx.conn.now).now.trees c.args.number (subst (IsFound (is_delays c.args.number) (old 10)) c.in-None.is (c.in_ok-found.ensures.looks.yields trusted)) (ap (λ (d : Database). d.trees) (c.in_ok-found.ensures.looks.same trusted));
+      drops_no_delays old (state g.S.Store c.found_delays.new.tx.conn.now).now.trees c.args.number (subst (IsRowidFound (is_delays c.args.number) (old 10)) c.in-None.is (c.in_ok-found.ensures.looks.yields trusted)) (ap (λ (d : Database). d.trees) (c.in_ok-found.ensures.looks.same trusted));
   bad = well _;
 }
 
@@ -24,7 +24,7 @@ returns-in_ok-take_one-in-Some g c = record {
       let fits : SFits w64 c.in-Some.id = search rules in
       let before = c.in_ok-take_one-in-Some.ensures.steps.before trusted in
       drops_delays old (state g.S.Store c.found_delays.new.tx.conn.now).now.trees (state g.S.Store c.take_one.new.tx.conn.now).now.trees c.args.number c.in-Some.id
-      (subst (IsFound (is_delays c.args.number) (old 10)) c.in-Some.is (c.in_ok-found.ensures.looks.yields before)) (ap (λ (d : Database). d.trees) (c.in_ok-found.ensures.looks.same before)) (rw (to_z-of_z fits) at (c.in_ok-take_one-in-Some.ensures.yields trusted));
+      (subst (IsRowidFound (is_delays c.args.number) (old 10)) c.in-Some.is (c.in_ok-found.ensures.looks.yields before)) (ap (λ (d : Database). d.trees) (c.in_ok-found.ensures.looks.same before)) (rw (to_z-of_z fits) at (c.in_ok-take_one-in-Some.ensures.yields trusted));
   bad = well _;
 }
 
