@@ -11,7 +11,7 @@ use Rattle.office_mail.specs.Kept.{Kept}
 use Rattle.office_mail.specs.Runs.{cover_of, order_at, orders_to}
 use Rattle.office_store_keeper.specs.Content.{Content}
 use Rattle.office_store_keeper.specs.FactSet.{rows_in}
-use Rattle.office_core_orders.specs.declared.faults.StoreFault.{StoreFault}
+use Rattle.office_core_store.specs.declared.faults.StoreFault.{StoreFault}
 use Rattle.office_core_orders.proofs.ReadyCount.{orders_to-zero}
 use Rattle.office_core_orders.specs.Ready.{HasEach}
 use Rattle.office_core_orders.specs.steps.Ready.{FirstOrders}

@@ -8,9 +8,9 @@ use Rattle.office_mail.specs.Lists.{Lists}
 use Rattle.office_mail.specs.Kept.{Kept, Place, IsPlace, place_of}
 use Rattle.office_mail.specs.Read.{read}
 use Rattle.office_mail.specs.Runs.{IsReady}
-use Rattle.office_core_orders.specs.declared.faults.DeliverFault.{DeliverFault}
-use Rattle.office_core_orders.specs.declared.faults.DeliverFault.TheVariants.{Mail, OtherText, Store}
-use Rattle.office_core_orders.specs.declared.faults.Held.{Held}
+use Rattle.office_core_replies.specs.declared.faults.DeliverFault.{DeliverFault}
+use Rattle.office_core_replies.specs.declared.faults.DeliverFault.TheVariants.{Mail, OtherText, Store}
+use Rattle.office_core_replies.specs.declared.faults.Held.{Held}
 use Rattle.office_store_keeper.specs.Content.{Content}
 use Rattle.office_store_keeper.specs.FactSet.{count_in}
 use Rattle.office_store_keeper.specs.Provenance.{AreOwnTexts}

@@ -1,5 +1,5 @@
 //! Which messages of kept mail are taken.
-#![tactic(auto, using(office_core_orders::proofs::LastFacts::lasting))]
+#![tactic(auto, using(office_core_store::proofs::LastFacts::lasting))]
 
 ghost use Rattle.std.specs.Prelude.{◌≡◌, ℕ, Some, IsTrue, IfOk, Contains};
 ghost use Rattle.testing_rules_model.specs.Covered.{CoveredItem, upload_of};

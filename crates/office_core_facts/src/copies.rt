@@ -1,16 +1,16 @@
 //! A copy of what is known of the finished runs, taken on as far as covers reach: the original stays as it is.
-#![tactic(auto, using(office_core_orders::proofs::LastFacts::lasting))]
+#![tactic(auto, using(office_core_store::proofs::LastFacts::lasting))]
 
 ghost use Rattle.std.specs.Prelude.{◌≡◌, ◌≤◌, ◌<◌, ℕ, IfOk, IfSome, length, slice_index};
 ghost use Rattle.office_mail.specs.Runs.{cover_of};
-ghost use Rattle.office_core_orders.specs.steps.ReadsStore.{ReadsStore};
+ghost use Rattle.office_core_store.specs.ReadsStore.{ReadsStore};
 ghost use Rattle.office_core_facts.specs.Known.{AreKnown};
 ghost use Rattle.office_core_facts.specs.steps.Stands.{OfFinished, StandUpTo};
 
 use crate::covered::{KnownFacts, is_covered};
 use crate::finished::{facts_within, take_to};
 use deb_control::NoMemory;
-use office_core_orders::StoreFault;
+use office_core_store::StoreFault;
 use office_mail::{RunOrder, Setup};
 use office_store_keeper::Keeper;
 use std::alloc::Global;

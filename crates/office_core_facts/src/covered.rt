@@ -1,5 +1,5 @@
 //! The facts of a run's covered messages: those of the run before, with further messages from the store.
-#![tactic(auto, using(office_core_orders::proofs::LastFacts::lasting))]
+#![tactic(auto, using(office_core_store::proofs::LastFacts::lasting))]
 
 ghost use Rattle.std.specs.Prelude.{◌≡◌, ◌≢◌, ℕ, ◌<◌, ◌≤◌, [], Some, IsTrue, IfOk, IfSome, OnOk, length, slice_index};
 ghost use Rattle.testing_rules_model.specs.FactLists.{no_facts};
@@ -11,7 +11,7 @@ ghost use Rattle.office_mail.specs.Runs.{cover_of};
 ghost use Rattle.office_store_keeper.specs.Content.{Content};
 ghost use Rattle.office_store_keeper.specs.FactSet.{rows_in};
 ghost use Rattle.office_core_facts.specs.Known.{AreKnown, AreUnderWay, said_all};
-ghost use Rattle.office_core_orders.specs.steps.ReadsStore.{ReadsStore};
+ghost use Rattle.office_core_store.specs.ReadsStore.{ReadsStore};
 ghost use Rattle.office_core_facts.specs.steps.Taking.{HavePutBack};
 ghost use Rattle.office_core_facts.specs.steps.Walk.{said_within};
 ghost use Rattle.office_core_facts.specs.steps.Stands.{AreCovered, AreFound, OfFinished, OfNext, StandUpTo};
@@ -22,7 +22,7 @@ use crate::taken::cover_of;
 use crate::walk::{Stretch, take_stretch};
 use deb_control::NoMemory;
 use office_core_orders::orders::make_room;
-use office_core_orders::{StoreFault, stored};
+use office_core_store::{StoreFault, stored};
 use office_mail::{RunOrder, Setup};
 use office_store_keeper::Keeper;
 use std::alloc::Global;
@@ -183,7 +183,11 @@ pub fn has_all(facts: &Facts, rows: &[FactRow]) -> bool
 }
 
 /// The covers of these orders, sender by sender.
-pub fn covers(alloc: Global, setup: &Setup, orders: &[RunOrder]) -> Result<Vec<u32>, NoMemory>
+pub(crate) fn covers(
+    alloc: Global,
+    setup: &Setup,
+    orders: &[RunOrder],
+) -> Result<Vec<u32>, NoMemory>
     ensures covers { IfOk result (λ taken. (s : ℕ) → s < length setup.now.senders → slice_index taken.items s ≡ cover_of orders.now s) }
     ensures within { IfOk result (λ taken. AreCovered orders.now taken.items) }
 {

@@ -1,16 +1,16 @@
 //! How far a trial covers each sender.
-#![tactic(auto, using(office_core_orders::proofs::LastFacts::lasting))]
+#![tactic(auto, using(office_core_store::proofs::LastFacts::lasting))]
 
 ghost use Rattle.std.specs.Prelude.{◌≡◌, ◌≤◌, ◌<◌, ℕ, IfOk, length, slice_index};
 ghost use Rattle.office_mail.specs.Runs.{cover_of};
-ghost use Rattle.office_core_orders.specs.steps.ReadsStore.{ReadsStore};
-ghost use Rattle.office_core_facts.specs.Seen.{covers_all, release, IsTrialCover};
+ghost use Rattle.office_core_store.specs.ReadsStore.{ReadsStore};
+ghost use Rattle.office_core_facts.specs.Seen.{covers_all, IsTrialCover};
 ghost use Rattle.office_core_facts.specs.steps.Stands.{OfFinished};
 
 use crate::counts::count_on;
 use crate::release::release_place;
 use crate::taken::cover_of;
-use office_core_orders::StoreFault;
+use office_core_store::StoreFault;
 use office_mail::{RunOrder, Setup};
 use office_store_keeper::Keeper;
 use std::alloc::Global;

@@ -1,5 +1,5 @@
 //! The facts of the finished runs: put back from the store, and taken on as far as covers reach.
-#![tactic(auto, using(office_core_orders::proofs::LastFacts::lasting))]
+#![tactic(auto, using(office_core_store::proofs::LastFacts::lasting))]
 
 ghost use Rattle.std.specs.Prelude.{◌≡◌, ◌≤◌, ◌<◌, ℕ, IsTrue, IfOk, IfSome, OnOk, length, slice_index};
 ghost use Rattle.testing_rules_model.specs.FactLists.{no_facts};
@@ -7,7 +7,7 @@ ghost use Rattle.testing_rules_model.specs.StandsFor.{StandsFor};
 ghost use Rattle.testing_rules_model.specs.Suite.{Suite};
 ghost use Rattle.office_mail.specs.Runs.{cover_of, orders_to};
 ghost use Rattle.office_store_keeper.specs.FactSet.{rows_in};
-ghost use Rattle.office_core_orders.specs.steps.ReadsStore.{ReadsStore};
+ghost use Rattle.office_core_store.specs.ReadsStore.{ReadsStore};
 ghost use Rattle.office_core_orders.specs.Ready.{HasEach};
 ghost use Rattle.office_core_orders.specs.steps.Ready.{FirstOrders};
 ghost use Rattle.office_core_facts.specs.Known.{AreKnown, said_all};
@@ -19,7 +19,7 @@ ghost use Rattle.office_core_facts.specs.steps.Stands.{OfFinished, StandUpTo};
 use crate::covered::{KnownFacts, finished_facts, has_all, known_at, take_on};
 use crate::restored::put_back;
 use office_core_orders::orders::{count_on, read_orders};
-use office_core_orders::{StoreFault, stored};
+use office_core_store::{StoreFault, stored};
 use office_mail::{RunOrder, Setup};
 use office_store_keeper::Keeper;
 use std::alloc::Global;
@@ -73,7 +73,7 @@ pub(crate) fn take_to<K: Keeper>(
 }
 
 /// What the store keeps of the finished runs, given their orders, taken up to these covers, which aren't below theirs.
-pub fn facts_within<K: Keeper>(
+pub(crate) fn facts_within<K: Keeper>(
     alloc: Global,
     setup: &Setup,
     keeper: &mut K,

@@ -1,18 +1,18 @@
 //! The last finished run, loaded from the store before anything is decided by it.
-#![tactic(auto, using(office_core_orders::proofs::LastFacts::lasting))]
+#![tactic(auto, using(office_core_store::proofs::LastFacts::lasting))]
 
 ghost use Rattle.std.specs.Prelude.{◌≡◌, IfOk, IfSome, length};
 ghost use Rattle.testing_rules_model.specs.StandsFor.{StandsFor};
-ghost use Rattle.office_core_orders.specs.steps.ReadsStore.{ReadsStore};
+ghost use Rattle.office_core_store.specs.ReadsStore.{ReadsStore};
 ghost use Rattle.office_core_facts.specs.Known.{AreKnown};
 ghost use Rattle.office_core_facts.specs.Outcome.{covered_items};
-ghost use Rattle.office_core_facts.specs.steps.Last.{AreFinished, IsLastRun, Looks, OfRuns, facts_in};
+ghost use Rattle.office_core_facts.specs.steps.Last.{AreFinished, IsLastRun, OfRuns, ReadsWell, facts_in};
 ghost use Rattle.office_core_facts.specs.steps.Stands.{OfFinished};
 
 use crate::covered::{KnownFacts, covers};
 use crate::finished::{facts_within, finished_orders, remember};
 use jiff_core::civil::Date;
-use office_core_orders::{StoreFault, stored};
+use office_core_store::{StoreFault, stored};
 use office_mail::{RunOrder, Setup, latest_day};
 use office_store_keeper::Keeper;
 use std::alloc::Global;
@@ -42,7 +42,8 @@ pub struct LastRun<'k> {
     pub testing: Testing,
 }
 
-/// The finished runs of the store. What is known of their mail is recalled, if nothing is known yet.
+/// How many runs are finished, and their orders. If nothing is known of their mail yet, `known` gets what the store keeps
+/// of it, and stays empty if that isn't whole.
 ///
 /// It fails only if memory runs out or the store fails.
 pub fn finished_runs<K: Keeper>(
@@ -157,7 +158,7 @@ pub fn testing_of(last: LastRun<'_>) -> Testing
 /// Gives a testing back to its store, with what speeds the next run.
 pub fn give_back<K: Keeper>(keeper: &mut K, testing: Testing)
     requires same { K.is_trusted keeper.old → K.is_legible keeper.old → testing ≡ (K.content keeper.old).testing }
-    ensures { Looks K.Keeper keeper.old keeper.new }
+    ensures { ReadsWell K.Keeper keeper.old keeper.new }
 {
     keeper.give_back(testing);
 }

@@ -1,5 +1,5 @@
 //! Facts put back from their rows in the store, each with the message that it names.
-#![tactic(auto, using(office_core_orders::proofs::LastFacts::lasting))]
+#![tactic(auto, using(office_core_store::proofs::LastFacts::lasting))]
 
 ghost use Rattle.std.specs.Prelude.{◌≡◌, ◌+◌, ◌<◌, ◌≤◌, ℕ, Some, IsTrue, IfOk, IfSome, OnOk, Contains, length, take, slice_index_or};
 ghost use Rattle.testing_rules_items.specs.declared.item.Item.TheVariants.{Nothing};
@@ -9,12 +9,12 @@ ghost use Rattle.testing_rules_model.specs.declared.fact_row.FactRow.{FactRow as
 ghost use Rattle.office_mail.specs.Kept.{Kept, Place};
 ghost use Rattle.office_core_facts.specs.Known.{said_all};
 ghost use Rattle.office_core_facts.specs.Outcome.{item_at, item_in_body};
-ghost use Rattle.office_core_orders.specs.steps.ReadsStore.{ReadsStore};
+ghost use Rattle.office_core_store.specs.ReadsStore.{ReadsStore};
 ghost use Rattle.office_core_facts.specs.steps.Taking.{AreLettersOf, AreNear, HavePutBack, IsItemAt, IsNear, IsSaidItem};
 
 use deb_control::NoMemory;
-use office_core_orders::stored::BLOCK;
-use office_core_orders::{StoreFault, stored};
+use office_core_store::stored::BLOCK;
+use office_core_store::{StoreFault, stored};
 use office_mail::{Body, MailFault, Message, Setup, read_message};
 use office_store_keeper::{Keeper, Letter};
 use std::alloc::Global;

@@ -1,6 +1,6 @@
 //! The facts of a run go with the testing that it leaves: uploads are taken again if testing lost their source or has
 //! it in a lower version.
-#![tactic(auto, using(office_core_orders::proofs::LastFacts::lasting))]
+#![tactic(auto, using(office_core_store::proofs::LastFacts::lasting))]
 
 ghost use Rattle.std.specs.Prelude.{◌≡◌, IfOk, OnOk, length, slice_index};
 ghost use Rattle.testing_rules_model.specs.Covered.{Covered};
@@ -12,7 +12,7 @@ ghost use Rattle.office_mail.specs.Setup.{count_of};
 ghost use Rattle.office_store_keeper.specs.FactSet.{AreHoldable, facts_after};
 ghost use Rattle.office_store_keeper.specs.Provenance.{AreOwnTexts};
 ghost use Rattle.office_core_facts.specs.Known.{AreUnderWay};
-ghost use Rattle.office_core_orders.specs.steps.ReadsStore.{ReadsStore};
+ghost use Rattle.office_core_store.specs.ReadsStore.{ReadsStore};
 ghost use Rattle.office_core_facts.specs.steps.Taking.{TookAgain};
 ghost use Rattle.office_core_facts.specs.steps.Walk.{said_within};
 
@@ -21,7 +21,7 @@ use crate::covered::KnownFacts;
 use crate::finished::cover_at;
 use crate::walk::{Stretch, take_stretch};
 use deb_control::Text;
-use office_core_orders::StoreFault;
+use office_core_store::StoreFault;
 use office_mail::Setup;
 use office_store_keeper::Keeper;
 use std::alloc::Global;

@@ -1,12 +1,12 @@
 //! What a run would see if its order covered all mail that is kept without a gap.
-#![tactic(auto, using(office_core_orders::proofs::LastFacts::lasting))]
+#![tactic(auto, using(office_core_store::proofs::LastFacts::lasting))]
 
 ghost use Rattle.std.specs.Prelude.{◌≡◌, ◌≤◌, ◌<◌, ℕ, IfOk, IfSome, length, slice_index};
 ghost use Rattle.testing_rules_model.specs.Covered.{Covered};
 ghost use Rattle.testing_rules_model.specs.StandsFor.{StandsFor};
 ghost use Rattle.office_mail.specs.Lists.{Lists};
 ghost use Rattle.office_mail.specs.Runs.{cover_of};
-ghost use Rattle.office_core_orders.specs.steps.ReadsStore.{ReadsStore};
+ghost use Rattle.office_core_store.specs.ReadsStore.{ReadsStore};
 ghost use Rattle.office_core_facts.specs.Known.{AreKnown};
 ghost use Rattle.office_core_facts.specs.Seen.{IsSeen, IsUnbroken};
 ghost use Rattle.office_core_facts.specs.steps.Stands.{OfFinished};
@@ -15,7 +15,7 @@ use crate::copies::known_to;
 use crate::counts::count_on;
 use crate::covered::KnownFacts;
 use crate::taken::cover_of;
-use office_core_orders::StoreFault;
+use office_core_store::StoreFault;
 use office_mail::{RunOrder, Setup};
 use office_store_keeper::Keeper;
 use std::alloc::Global;

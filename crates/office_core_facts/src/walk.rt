@@ -1,15 +1,15 @@
 //! A walk over a sender's kept mail, block by block, that adds what its messages say to the facts.
-#![tactic(auto, using(office_core_orders::proofs::LastFacts::lasting))]
+#![tactic(auto, using(office_core_store::proofs::LastFacts::lasting))]
 
 ghost use Rattle.std.specs.Prelude.{◌≡◌, ◌+◌, ◌<◌, ◌≤◌, [], ◌∷◌, OnOk};
-ghost use Rattle.office_core_orders.specs.steps.ReadsStore.{ReadsStore};
+ghost use Rattle.office_core_store.specs.ReadsStore.{ReadsStore};
 ghost use Rattle.office_core_facts.specs.steps.Chosen.{TookLetters, TookStretch};
 
 use crate::choice::{Choice, is_chosen};
 use crate::taken::take_text;
 use deb_control::NoMemory;
-use office_core_orders::stored::{BLOCK, block_end};
-use office_core_orders::{StoreFault, stored};
+use office_core_store::stored::{BLOCK, block_end};
+use office_core_store::{StoreFault, stored};
 use office_mail::Setup;
 use office_store_keeper::{Keeper, Letter};
 use std::alloc::Global;

@@ -1,10 +1,5 @@
 pub mod CountFacts
-pub mod DigitFacts
-pub mod GivingBack
-pub mod LastFacts
 pub mod LetterFacts
-pub mod LookFacts
 pub mod OrderFacts
 pub mod ReadyCount
 pub mod WaitingFacts
-pub mod WrittenFacts

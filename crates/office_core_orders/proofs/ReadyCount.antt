@@ -16,7 +16,7 @@ use Rattle.office_mail.specs.Runs.{runs, order_in, order_at, orders_to, cover, c
 use Rattle.office_mail.specs.steps.ReadSteps.{order_in_answer}
 use Rattle.office_mail.proofs.ReadyFacts.{cover_of-push}
 use Rattle.office_mail.proofs.RunFacts.{IsReady-before}
-use Rattle.office_core_orders.specs.declared.faults.StoreFault.{StoreFault}
+use Rattle.office_core_store.specs.declared.faults.StoreFault.{StoreFault}
 use Rattle.office_core_orders.specs.Ready.{HasEach, HasPlaces}
 use Rattle.office_core_orders.specs.steps.Ready.{FirstOrders, IsReached}
 

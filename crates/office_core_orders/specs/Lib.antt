@@ -1,8 +1,4 @@
-pub mod Counted
 pub mod Ready
-pub mod Replies
-pub mod StaysTrusted
 pub mod Waiting
 pub mod WaitingLines
-pub mod Written
 pub mod steps

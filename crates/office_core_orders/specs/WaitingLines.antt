@@ -3,7 +3,7 @@ use Rattle.std.specs.Prelude.{ℕ, ◌+◌, List, [], ◌∷◌, ◌++◌, codes
 use Rattle.std.specs.List.{flat_map}
 use Rattle.office_mail.specs.Lists.{Lists}
 use Rattle.office_mail.specs.Runs.{runs}
-use Rattle.office_core_orders.specs.Replies.{name_at, status_line}
+use Rattle.office_core_replies.specs.Replies.{name_at, status_line}
 use Rattle.office_core_orders.specs.declared.wait_lines.Lack.{Lack}
 use Rattle.office_core_orders.specs.declared.wait_lines.Awaited.{Awaited}
 use Rattle.office_core_orders.specs.declared.wait_lines.Awaited.TheVariants.{Order, Mail}

@@ -1,4 +1,2 @@
 -- What serves proofs alone: no contract of a call that users make rests on it.
-pub mod ReadsStore
 pub mod Ready
-pub mod Written

@@ -1,19 +1,18 @@
 //! Run orders in the kept mail, and what they wait for.
-#![tactic(auto, using(crate::proofs::LastFacts::lasting))]
+#![tactic(auto, using(office_core_store::proofs::LastFacts::lasting))]
 
 ghost use Rattle.std.specs.Prelude.{◌≡◌, ◌≢◌, ℕ, ◌+◌, ◌<◌, ◌≤◌, ◌↔◌, IsTrue, IfOk, OnOk, None, length, slice_index};
 ghost use Rattle.std.specs.FinMap.{get};
 ghost use Rattle.office_mail.specs.Kept.{Kept};
 ghost use Rattle.office_mail.specs.Runs.{order_at, order_in, order_in_body};
 ghost use Rattle.office_store_keeper.specs.Content.{letters_within};
-ghost use Rattle.office_core_orders.specs.steps.ReadsStore.{ReadsStore};
+ghost use Rattle.office_core_store.specs.ReadsStore.{ReadsStore};
 ghost use Rattle.office_core_orders.specs.Ready.{HasNumbers, HasEach, HasPlaces};
 ghost use Rattle.office_core_orders.specs.steps.Ready.{FirstOrders, GoesOn, IsReached};
 
-use crate::faults::StoreFault;
-use crate::stored;
-use crate::stored::{BLOCK, block_end};
 use deb_control::NoMemory;
+use office_core_store::stored::{BLOCK, block_end};
+use office_core_store::{StoreFault, stored};
 use office_mail::{Body, MailFault, Message, RunOrder, Setup, read_message, ready};
 use office_store_keeper::{Keeper, Letter};
 use std::alloc::Global;
@@ -115,7 +114,7 @@ fn last_in_line(number: u32, end: u32, letters: &[Letter]) -> u32
 }
 
 /// The number up to which a sender's numbers continue without a gap after another, at most up to the end of a block.
-pub fn count_block<K: Keeper>(
+fn count_block<K: Keeper>(
     keeper: &mut K,
     sender: u32,
     number: u32,
@@ -133,7 +132,7 @@ pub fn count_block<K: Keeper>(
 
 /// The size of the next block: twice that of the last one, up to the greatest. So few more texts are loaded than are
 /// counted.
-pub fn next_size(size: u32) -> u32
+fn next_size(size: u32) -> u32
     requires some { 0 < size }
     ensures some { 0 < result }
     ensures room { result ≤ 256 }
@@ -141,16 +140,14 @@ pub fn next_size(size: u32) -> u32
     if size < BLOCK / 2 { 2 * size } else { BLOCK }
 }
 
-/// Counts a sender's numbers on from those known to be kept, up to a number: it stops before one that isn't.
-pub fn count_on<K: Keeper>(
+/// The number up to which a sender's numbers continue without a gap after another, at most up to a cover.
+pub fn count_up<K: Keeper>(
     keeper: &mut K,
     sender: u32,
     known: u32,
     cover: u32,
 ) -> Result<u32, StoreFault>
-    requires known { K.is_trusted keeper.old → HasNumbers (K.content keeper.old).kept sender known }
-    ensures each { K.is_trusted keeper.new → IfOk result (λ count. HasNumbers (K.content keeper.old).kept sender count) }
-    ensures gap { K.is_trusted keeper.new → IfOk result (λ count. count < cover → get (K.content keeper.old).kept (sender, count + 1) ≡ None) }
+    ensures goes_on { K.is_trusted keeper.new → IfOk result (λ count. GoesOn (K.content keeper.old).kept sender known count cover) }
     ensures looks { ReadsStore K.Keeper keeper.old keeper.new result }
 {
     let mut count = known;
@@ -165,6 +162,21 @@ pub fn count_on<K: Keeper>(
         size = next_size(size);
     }
     Ok(count)
+}
+
+/// Counts a sender's numbers on from those known to be kept, up to a number: it stops before one that isn't.
+pub fn count_on<K: Keeper>(
+    keeper: &mut K,
+    sender: u32,
+    known: u32,
+    cover: u32,
+) -> Result<u32, StoreFault>
+    requires known { K.is_trusted keeper.old → HasNumbers (K.content keeper.old).kept sender known }
+    ensures each { K.is_trusted keeper.new → IfOk result (λ count. HasNumbers (K.content keeper.old).kept sender count) }
+    ensures gap { K.is_trusted keeper.new → IfOk result (λ count. count < cover → get (K.content keeper.old).kept (sender, count + 1) ≡ None) }
+    ensures looks { ReadsStore K.Keeper keeper.old keeper.new result }
+{
+    count_up(keeper, sender, known, cover)
 }
 
 /// Makes room for a sender's count, 0 at first. It fails only if memory runs out; no count changes.

@@ -1,14 +1,14 @@
 //! Which runs are ready.
-#![tactic(auto, using(crate::proofs::LastFacts::lasting))]
+#![tactic(auto, using(office_core_store::proofs::LastFacts::lasting))]
 
 ghost use Rattle.std.specs.Prelude.{false, ◌≡◌, ◌+◌, ◌<◌, ◌≤◌, ◌↔◌, IsTrue, IfOk, length};
 ghost use Rattle.office_mail.specs.Runs.{IsReady, IsReadyCount};
-ghost use Rattle.office_core_orders.specs.steps.ReadsStore.{ReadsStore};
+ghost use Rattle.office_core_store.specs.ReadsStore.{ReadsStore};
 ghost use Rattle.office_core_orders.specs.Ready.{HasEach, HasPlaces};
 ghost use Rattle.office_core_orders.specs.steps.Ready.{IsCounted};
 
-use crate::faults::StoreFault;
 use crate::orders::{is_there, order, read_orders};
+use office_core_store::StoreFault;
 use office_mail::{MAX_NUMBER, RunOrder, Setup};
 use office_store_keeper::Keeper;
 use std::alloc::Global;

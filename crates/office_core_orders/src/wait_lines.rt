@@ -1,13 +1,20 @@
 //! What a run waits for, and the text on it.
 ghost use Rattle.std.specs.Prelude.{◌≡◌, ◌++◌, IfOk, OnOk, string_bytes};
 ghost use Rattle.std.specs.List.{flat_map};
-ghost use Rattle.office_core_orders.specs.Replies.{name_at};
+ghost use Rattle.office_core_replies.specs.Replies.{name_at};
 ghost use Rattle.office_core_orders.specs.WaitingLines.{lack_line, order_line, awaited_lines, waiting_text};
 
-use crate::faults::Progress;
 use deb_control::{NoMemory, Text};
+use office_core_replies::name_at;
 use office_mail::Setup;
 use std::alloc::{AllocError, Global};
+
+/// How many runs are ready, and how many are finished.
+#[derive(Clone, Copy, Debug, PartialEq, Eq)]
+pub struct Progress {
+    pub ready: u32,
+    pub finished: u32,
+}
 
 /// What a run needs of one sender: its first missing number, and the number up to which the run needs its mail.
 #[derive(Clone, Copy, Debug, PartialEq, Eq)]
@@ -80,14 +87,4 @@ fn push_lack(text: &mut String, setup: &Setup, run: u64, lack: Lack) -> Result<(
     let sender = name_at(setup, lack.sender);
     let (number, cover) = (lack.number, lack.cover);
     writeln!(text, "run {run} waits for {sender} {number} of {cover}")
-}
-
-/// The name of the sender at a place, empty if there is none.
-pub fn name_at(setup: &Setup, place: u32) -> &str
-    ensures { result.now ≡ name_at setup.now place }
-{
-    match setup.senders().get(place as usize) {
-        Some(sender) => sender.name.as_str(),
-        None => "",
-    }
 }

@@ -1,19 +1,18 @@
 //! What the first run that isn't ready waits for.
-#![tactic(auto, using(crate::proofs::LastFacts::lasting))]
+#![tactic(auto, using(office_core_store::proofs::LastFacts::lasting))]
 
 ghost use Rattle.std.specs.Prelude.{◌≡◌, ℕ, ◌+◌, ◌<◌, IfOk, length, slice_index};
 ghost use Rattle.office_mail.specs.Kept.{Kept};
 ghost use Rattle.office_mail.specs.Runs.{IsReady, IsReadyCount};
-ghost use Rattle.office_core_orders.specs.steps.ReadsStore.{ReadsStore};
+ghost use Rattle.office_core_store.specs.ReadsStore.{ReadsStore};
 ghost use Rattle.office_core_orders.specs.Ready.{HasEach, HasPlaces};
 ghost use Rattle.office_core_orders.specs.steps.Ready.{IsReached};
 ghost use Rattle.office_core_orders.specs.Waiting.{AreLacks, Awaits, AwaitsSome};
 
-use crate::faults::{Progress, StoreFault};
 use crate::orders::{order, reach_all, stated_for};
 use crate::ready::ready_count;
-use crate::stored;
-use crate::wait_lines::{Awaited, Lack, Waiting};
+use crate::wait_lines::{Awaited, Lack, Progress, Waiting};
+use office_core_store::{StoreFault, stored};
 use office_mail::{RunOrder, Setup};
 use office_store_keeper::Keeper;
 use std::alloc::{AllocError, Global};

@@ -15,3 +15,5 @@ pub mod SaidFacts
 pub mod HeaderFacts
 pub mod BagFacts
 pub mod BagLaw
+pub mod WrittenFacts
+pub mod DigitFacts

@@ -18,4 +18,5 @@ pub mod Bag
 pub mod BagSteps
 pub mod Counts
 pub mod Reading
+pub mod Written
 pub mod steps

@@ -11,6 +11,7 @@ pub mod laws;
 mod message;
 mod read;
 mod readiness;
+mod writer;
 
 pub use bag::{Bag, BagFault, reads_one_way};
 pub use covers::Numbers;
@@ -19,3 +20,4 @@ pub use message::{Body, MAX_NUMBER, MailFault, Message, RunOrder};
 pub use office_mail_setup::{Field, Kind, Role, Sender, Setup, SetupFault, SetupField};
 pub use read::read_message;
 pub use readiness::{latest_day, ready};
+pub use writer::{Digits, WriteFault, write_all, write_parts};

@@ -7,7 +7,7 @@ use Rattle.office_mail.specs.Kept.{Kept}
 use Rattle.office_mail.specs.Runs.{latest_day, orders_to}
 use Rattle.office_store_keeper.specs.Content.{Content}
 use Rattle.office_store_keeper.specs.declared.keeper.Keeper.{Ghosts}
-use Rattle.office_core_orders.specs.steps.ReadsStore.{ReadsStore}
+use Rattle.office_core_store.specs.ReadsStore.{ReadsStore}
 use Rattle.office_core_facts.specs.declared.covered.KnownFacts.{KnownFacts}
 use Rattle.office_core_facts.specs.declared.last_run.FinishedRuns.{FinishedRuns}
 use Rattle.office_core_facts.specs.declared.last_run.LastRun.{LastRun}
@@ -17,9 +17,9 @@ use Rattle.office_core_facts.specs.Known.{AreKnown}
 use Rattle.office_core_facts.specs.Outcome.{covered_items, testing_after}
 use Rattle.office_core_facts.specs.State.{IsOffice}
 
--- a call on a store that only looked at it, and went well
-abbrev pub Looks : {K : Type 0} → Ghosts K → K → K → Type 0
-Looks keeper old new = ReadsStore {T = Bool} keeper old new (Ok true)
+-- a call on a store that only asked it, and went well
+abbrev pub ReadsWell : {K : Type 0} → Ghosts K → K → K → Type 0
+ReadsWell keeper old new = ReadsStore {T = Bool} keeper old new (Ok true)
 
 -- the store's finished runs are counted, and in an office these are the orders of all of them
 pub record AreFinished (setup : Lists) (content : Content) (finished : FinishedRuns) : Type 0 where

@@ -7,7 +7,7 @@ use Rattle.office_mail.specs.Runs.{cover_of}
 use Rattle.office_store_keeper.specs.Content.{Content}
 use Rattle.office_core_facts.specs.Known.{AreUnderWay}
 use Rattle.office_core_facts.specs.steps.Walk.{said_within}
-use Rattle.office_core_orders.proofs.LookFacts.{looked_fails, looked_none, looked_then}
+use Rattle.office_core_store.proofs.LookFacts.{looked_fails, looked_none, looked_then}
 use Rattle.office_core_facts.proofs.TakenFacts.{said_within-same}
 use Rattle.office_core_facts.proofs.covered.facts.Goals as goal
 

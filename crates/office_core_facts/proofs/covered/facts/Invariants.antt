@@ -5,7 +5,7 @@ use Rattle.office_core_facts.specs.Known.{AreUnderWay}
 use Rattle.office_core_orders.specs.steps.Ready.{FirstOrders}
 use Rattle.office_core_facts.specs.State.{IsOffice}
 use Rattle.office_core_facts.specs.steps.Walk.{said_within}
-use Rattle.office_core_orders.proofs.LookFacts.{Looked}
+use Rattle.office_core_store.proofs.LookFacts.{Looked}
 use Rattle.office_core_facts.proofs.covered.facts.Given as goal
 
 abbrev pub invariant-senders : goal.invariant-senders

@@ -3,7 +3,7 @@ use Rattle.std.proofs.lemmas.Result.{err_from_is_err_and}
 use Rattle.office_mail.specs.Runs.{cover_of, orders_to}
 use Rattle.office_store_keeper.specs.Content.{Content}
 use Rattle.office_core_facts.specs.State.{IsOffice}
-use Rattle.office_core_orders.proofs.LookFacts.{looked_fails, looked_none, looked_then}
+use Rattle.office_core_store.proofs.LookFacts.{looked_fails, looked_none, looked_then}
 use Rattle.office_core_facts.specs.Seen.{IsTrialCover}
 use Rattle.office_core_facts.proofs.CountFacts.{cover_few, each_pushed, few_within, size_pushed}
 use Rattle.office_core_facts.proofs.covers.trial_covers.Goals as goal

@@ -3,7 +3,7 @@ use Rattle.std.proofs.lemmas.Bool.{cases_eq, cases_lt}
 use Rattle.std.proofs.lemmas.List.{get_or_past}
 use Rattle.office_store_keeper.specs.Content.{Content}
 use Rattle.office_core_orders.specs.Ready.{HasNumbers}
-use Rattle.office_core_orders.proofs.LookFacts.{looked_then}
+use Rattle.office_core_store.proofs.LookFacts.{looked_then}
 use Rattle.office_core_facts.proofs.finished.are_kept.Goals as goal
 
 pub count_on-requires : goal.count_on-requires

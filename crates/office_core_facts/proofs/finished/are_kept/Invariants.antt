@@ -1,6 +1,6 @@
 use Rattle.std.proofs.Common.{ℕ, ◌<◌, slice_index}
 use Rattle.office_core_orders.specs.Ready.{HasNumbers}
-use Rattle.office_core_orders.proofs.LookFacts.{Looked}
+use Rattle.office_core_store.proofs.LookFacts.{Looked}
 use Rattle.office_core_facts.proofs.finished.are_kept.Given as goal
 
 abbrev pub invariant-senders : goal.invariant-senders

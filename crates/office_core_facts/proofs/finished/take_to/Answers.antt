@@ -4,7 +4,7 @@ use Rattle.testing_rules_model.specs.Covered.{Covered}
 use Rattle.testing_rules_model.specs.StandsFor.{StandsFor}
 use Rattle.office_store_keeper.specs.Content.{Content}
 use Rattle.office_core_facts.specs.steps.Walk.{said_within}
-use Rattle.office_core_orders.proofs.LookFacts.{looked_none, looked_then}
+use Rattle.office_core_store.proofs.LookFacts.{looked_none, looked_then}
 use Rattle.office_core_facts.proofs.TakenFacts.{said_within-same}
 use Rattle.office_core_facts.proofs.finished.take_to.Goals as goal
 

@@ -2,7 +2,7 @@ use Rattle.std.proofs.Common.{◌≡◌, ◌<◌, ◌≤◌, ℕ, length, slice_
 use Rattle.testing_rules_model.specs.StandsFor.{StandsFor}
 use Rattle.testing_rules_model.specs.Suite.{Suite}
 use Rattle.office_core_facts.specs.steps.Walk.{said_within}
-use Rattle.office_core_orders.proofs.LookFacts.{Looked}
+use Rattle.office_core_store.proofs.LookFacts.{Looked}
 use Rattle.office_core_facts.proofs.finished.take_to.Given as goal
 
 abbrev pub invariant-senders : goal.invariant-senders

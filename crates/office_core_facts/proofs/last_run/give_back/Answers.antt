@@ -1,6 +1,6 @@
 use Rattle.std.proofs.Common.{true, Ok}
-use Rattle.office_core_orders.proofs.GivingBack.{given_back}
-use Rattle.office_core_orders.proofs.LookFacts.{looked_none}
+use Rattle.office_core_store.proofs.GivingBack.{given_back}
+use Rattle.office_core_store.proofs.LookFacts.{looked_none}
 use Rattle.office_core_facts.proofs.last_run.give_back.Goals as goal
 
 pub returns : goal.returns

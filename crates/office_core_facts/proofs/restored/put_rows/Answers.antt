@@ -4,7 +4,7 @@ use Rattle.testing_rules_model.specs.declared.fact_row.FactRow.{FactRow}
 use Rattle.office_store_keeper.specs.Content.{Content}
 use Rattle.office_core_facts.specs.Known.{said_all}
 use Rattle.office_core_facts.specs.steps.Taking.{HavePutBack}
-use Rattle.office_core_orders.proofs.LookFacts.{looked_none, looked_then}
+use Rattle.office_core_store.proofs.LookFacts.{looked_none, looked_then}
 use Rattle.office_core_facts.proofs.RestoringFacts.{back_none}
 use Rattle.office_core_facts.proofs.restored.put_rows.Goals as goal
 

@@ -1,7 +1,7 @@
 use Rattle.std.proofs.Common.{◌-◌, ◌≤◌, length, take}
 use Rattle.office_core_facts.specs.Known.{said_all}
 use Rattle.office_core_facts.specs.steps.Taking.{HavePutBack}
-use Rattle.office_core_orders.proofs.LookFacts.{Looked}
+use Rattle.office_core_store.proofs.LookFacts.{Looked}
 use Rattle.office_core_facts.proofs.restored.put_rows.Given as goal
 
 abbrev pub invariant-loads : goal.invariant-loads

@@ -7,7 +7,7 @@ use Rattle.office_core_facts.specs.steps.Taking.{TookAgain}
 use Rattle.office_core_facts.specs.steps.Walk.{said_by, said_within}
 use Rattle.office_core_facts.proofs.AgainFacts.{again_none}
 use Rattle.office_core_facts.proofs.ChosenFacts.{again_by}
-use Rattle.office_core_orders.proofs.LookFacts.{looked_none, looked_then}
+use Rattle.office_core_store.proofs.LookFacts.{looked_none, looked_then}
 use Rattle.office_core_facts.proofs.WalkFacts.{said_within-none, said_within-more}
 use Rattle.office_core_facts.proofs.retaken.retake_all.Goals as goal
 

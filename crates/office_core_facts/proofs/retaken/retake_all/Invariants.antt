@@ -2,7 +2,7 @@ use Rattle.std.proofs.Common.{slice_index}
 use Rattle.office_core_facts.specs.Known.{AreUnderWay}
 use Rattle.office_core_facts.specs.steps.Taking.{TookAgain}
 use Rattle.office_core_facts.specs.steps.Walk.{said_within}
-use Rattle.office_core_orders.proofs.LookFacts.{Looked}
+use Rattle.office_core_store.proofs.LookFacts.{Looked}
 use Rattle.office_core_facts.proofs.retaken.retake_all.Given as goal
 
 abbrev pub invariant-senders : goal.invariant-senders

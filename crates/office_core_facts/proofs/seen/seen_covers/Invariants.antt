@@ -1,7 +1,7 @@
 use Rattle.std.proofs.Common.{◌≡◌, ◌<◌, ◌≤◌, ℕ, length, slice_index}
 use Rattle.office_mail.specs.Runs.{cover_of, orders_to}
 use Rattle.office_core_facts.specs.State.{IsOffice}
-use Rattle.office_core_orders.proofs.LookFacts.{Looked}
+use Rattle.office_core_store.proofs.LookFacts.{Looked}
 use Rattle.office_core_facts.specs.Seen.{IsUnbroken}
 use Rattle.office_core_facts.proofs.seen.seen_covers.Given as goal
 

@@ -1,7 +1,7 @@
 use Rattle.std.proofs.Common.{ℕ, subst, arith}
 use Rattle.office_store_keeper.specs.Content.{Content}
 use Rattle.office_core_facts.specs.steps.Chosen.{TookStretch}
-use Rattle.office_core_orders.proofs.LookFacts.{looked_none, looked_then}
+use Rattle.office_core_store.proofs.LookFacts.{looked_none, looked_then}
 use Rattle.office_core_facts.proofs.ChosenFacts.{stretch_none, stretch_then}
 use Rattle.office_core_facts.proofs.walk.take_stretch.Goals as goal
 

@@ -1,6 +1,6 @@
 use Rattle.std.proofs.Common.{◌≤◌, ◌-◌}
 use Rattle.office_core_facts.specs.steps.Chosen.{TookStretch}
-use Rattle.office_core_orders.proofs.LookFacts.{Looked}
+use Rattle.office_core_store.proofs.LookFacts.{Looked}
 use Rattle.office_core_facts.proofs.walk.take_stretch.Given as goal
 
 abbrev pub invariant-loads : goal.invariant-loads

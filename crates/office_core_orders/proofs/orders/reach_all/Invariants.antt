@@ -1,7 +1,7 @@
 use Rattle.std.proofs.Common.{ℕ, ◌<◌}
 use Rattle.office_core_orders.specs.Ready.{HasEach}
 use Rattle.office_core_orders.specs.steps.Ready.{IsReached}
-use Rattle.office_core_orders.proofs.LookFacts.{Looked}
+use Rattle.office_core_store.proofs.LookFacts.{Looked}
 use Rattle.office_core_orders.proofs.orders.reach_all.Given as goal
 
 abbrev pub invariant-senders : goal.invariant-senders

@@ -4,7 +4,7 @@ use Rattle.office_mail.specs.declared.message.RunOrder.{RunOrder}
 use Rattle.office_mail.specs.Runs.{order_at}
 use Rattle.office_core_orders.specs.steps.Ready.{FirstOrders}
 use Rattle.office_core_orders.proofs.ReadyCount.{FirstOrders-more}
-use Rattle.office_core_orders.proofs.LookFacts.{looked_then}
+use Rattle.office_core_store.proofs.LookFacts.{looked_then}
 use Rattle.office_core_orders.proofs.orders.read_orders.Goals as goal
 
 pub orders-preserved : goal.orders-preserved

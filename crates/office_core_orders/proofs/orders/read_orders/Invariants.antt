@@ -1,6 +1,6 @@
 use Rattle.std.proofs.Common.{◌-◌, ◌≤◌, length}
 use Rattle.office_core_orders.specs.steps.Ready.{FirstOrders}
-use Rattle.office_core_orders.proofs.LookFacts.{Looked}
+use Rattle.office_core_store.proofs.LookFacts.{Looked}
 use Rattle.office_core_orders.proofs.orders.read_orders.Given as goal
 
 abbrev pub invariant-orders : goal.invariant-orders

@@ -1,4 +1,4 @@
-use Rattle.std.proofs.Common.{◌≡◌, ◌+◌, ◌↔◌, IsTrue, IfOk, Some, sym, subst, ◌∙◌, arith}
+use Rattle.std.proofs.Common.{◌≡◌, ◌+◌, ◌↔◌, IsTrue, IfOk, Some, sym, subst, ◌∙◌}
 use Rattle.office_core_orders.specs.Ready.{HasEach, HasPlaces}
 use Rattle.office_mail.specs.Runs.{order_at}
 use Rattle.office_core_orders.proofs.ReadyCount.{none_behind, ready_after}

@@ -3,7 +3,7 @@ use Rattle.office_mail.specs.Runs.{IsReady}
 use Rattle.office_store_keeper.specs.Content.{Content}
 use Rattle.office_core_orders.specs.Ready.{HasEach, HasPlaces}
 use Rattle.office_core_orders.proofs.ReadyCount.{ready_count}
-use Rattle.office_core_orders.proofs.LookFacts.{looked_none, looked_then}
+use Rattle.office_core_store.proofs.LookFacts.{looked_none, looked_then}
 use Rattle.office_core_orders.proofs.ready.ready_count.Goals as goal
 
 pub runs-init : goal.runs-init

@@ -1,7 +1,7 @@
 use Rattle.std.proofs.Common.{◌-◌}
 use Rattle.office_mail.specs.Runs.{IsReady}
 use Rattle.office_core_orders.specs.Ready.{HasEach, HasPlaces}
-use Rattle.office_core_orders.proofs.LookFacts.{Looked}
+use Rattle.office_core_store.proofs.LookFacts.{Looked}
 use Rattle.office_core_orders.proofs.ready.ready_count.Given as goal
 
 abbrev pub invariant-runs : goal.invariant-runs

@@ -1,0 +1,3 @@
+pub mod GivingBack
+pub mod LastFacts
+pub mod LookFacts
