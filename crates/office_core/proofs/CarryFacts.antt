@@ -4,17 +4,18 @@ use Rattle.office_mail.specs.Lists.{Lists}
 use Rattle.office_store_keeper.specs.Content.{Content}
 use Rattle.office_mail.specs.Counts.{HasRisen}
 use Rattle.office_store_keeper.specs.declared.keeper.Keeper.{Ghosts}
-use Rattle.office_core_orders.specs.declared.faults.StoreFault.{StoreFault}
-use Rattle.office_core_orders.specs.declared.faults.StoreFault.TheVariants.{NoMemory, Store}
-use Rattle.office_core_orders.specs.declared.faults.DeliverFault.{DeliverFault}
-use Rattle.office_core_orders.specs.declared.faults.DeliverFault.TheVariants as deliver
-use Rattle.office_core_orders.specs.declared.faults.Held.{Held}
+use Rattle.office_core_store.specs.declared.faults.StoreFault.{StoreFault}
+use Rattle.office_core_store.specs.declared.faults.StoreFault.TheVariants.{NoMemory, Store}
+use Rattle.office_core_replies.specs.declared.faults.DeliverFault.{DeliverFault}
+use Rattle.office_core_replies.specs.declared.faults.DeliverFault.TheVariants as deliver
+use Rattle.office_core_replies.specs.declared.faults.Held.{Held}
 use Rattle.office_core.specs.Preserves.{HasNotFallen, Holds, StoreRefused, Preserves, Asks}
-use Rattle.office_core_orders.specs.Counted.{Counted, CountedDelivery}
-use Rattle.office_core_orders.specs.StaysTrusted.{StaysTrusted}
+use Rattle.office_core_store.specs.Counted.{Counted}
+use Rattle.office_core_replies.specs.Answered.{CountedDelivery}
+use Rattle.office_core_store.specs.StaysTrusted.{StaysTrusted}
 use Rattle.office_core_facts.specs.OfficeState.{OfficeState}
 use Rattle.office_core_facts.specs.State.{state_of}
-use Rattle.office_core_orders.proofs.LastFacts.{risen_after, risen_before, lasts_none}
+use Rattle.office_core_store.proofs.LastFacts.{risen_after, risen_before, lasts_none}
 
 not_fallen_same : (a b : ℕ) → b ≡ a → HasNotFallen a b
 not_fallen_same a b e = omega (arith, e)

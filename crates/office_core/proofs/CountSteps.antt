@@ -9,10 +9,10 @@ use Rattle.office_mail.specs.Lists.{Lists}
 use Rattle.office_mail.specs.Kept.{Kept, Within, place_of, kept_from}
 use Rattle.office_mail.specs.Read.{read}
 use Rattle.office_mail.proofs.KeptFacts.{kept_from-append, kept_from-free, kept_from-taken, kept_from-Within}
-use Rattle.office_core_orders.specs.declared.faults.DeliverFault.{DeliverFault}
-use Rattle.office_core_orders.specs.declared.faults.DeliverFault.TheVariants.{OtherText}
-use Rattle.office_core_orders.specs.declared.faults.Held.{Held}
-use Rattle.office_core_orders.specs.declared.faults.StoreFault.{StoreFault}
+use Rattle.office_core_replies.specs.declared.faults.DeliverFault.{DeliverFault}
+use Rattle.office_core_replies.specs.declared.faults.DeliverFault.TheVariants.{OtherText}
+use Rattle.office_core_replies.specs.declared.faults.Held.{Held}
+use Rattle.office_core_store.specs.declared.faults.StoreFault.{StoreFault}
 use Rattle.office_core_orders.proofs.CountFacts.{some_later}
 use Rattle.office_core_facts.specs.State.{AnswersDelivery, answer_to, answer_by, answer_at, held_at}
 use Rattle.office_core.specs.steps.Counting.{IsKept, AreKept}

@@ -17,9 +17,9 @@ use Rattle.office_mail.proofs.KeptFacts.{places_total, tied, kept_from-nil, kept
 use Rattle.office_store_keeper.specs.Content.{Content}
 use Rattle.office_store_keeper.specs.NewMail.{AreFree, with_letters, with_mail}
 use Rattle.office_store_keeper.specs.declared.values.NewLetter.{NewLetter}
-use Rattle.office_core_orders.specs.declared.faults.DeliverFault.{DeliverFault}
-use Rattle.office_core_orders.specs.declared.faults.DeliverFault.TheVariants.{Mail, OtherText}
-use Rattle.office_core_orders.specs.declared.faults.Held.{Held}
+use Rattle.office_core_replies.specs.declared.faults.DeliverFault.{DeliverFault}
+use Rattle.office_core_replies.specs.declared.faults.DeliverFault.TheVariants.{Mail, OtherText}
+use Rattle.office_core_replies.specs.declared.faults.Held.{Held}
 use Rattle.office_core_facts.specs.State.{IsOffice, answer_to, answer_by, answer_at, held_at}
 use Rattle.office_core.specs.steps.GatherSteps.{Gathers, TakesText, letter_of, own_text, ArePlaced}
 use Rattle.office_core.specs.Together.{answers_to}
@@ -51,10 +51,6 @@ letters-push kept (m ∷ ls) l = letters-push (insert kept (m.sender, m.number) 
 free-push : (kept : Kept) (ls : List NewLetter) (l : NewLetter) → AreFree kept ls → get (with_letters kept ls) (l.sender, l.number) ≡ None → AreFree kept (ls ++ l ∷ [])
 free-push kept [] l h free = (free, tt)
 free-push kept (m ∷ ls) l h free = (h.0, free-push (insert kept (m.sender, m.number) m.text) ls l h.1 free)
-
-pub placed-push : (setup : Lists) (ls : List NewLetter) (l : NewLetter) → ArePlaced setup ls → IsPlace setup (l.sender, l.number) → ArePlaced setup (ls ++ l ∷ [])
-placed-push setup [] l h place = (place, tt)
-placed-push setup (m ∷ ls) l h place = (h.0, placed-push setup ls l h.1 place)
 
 -- ---- the letter at a place
 

@@ -18,14 +18,14 @@ use Rattle.office_mail.proofs.LawFacts.{kept_at_place, same_kept_from}
 use Rattle.office_mail.proofs.RunFacts.{IsReady-before, IsReady-later}
 use Rattle.office_store_keeper.specs.Content.{Content, no_content}
 use Rattle.office_store_keeper.specs.declared.values.Reports.{Reports}
-use Rattle.office_core_orders.specs.Replies.{mark_of}
-use Rattle.office_core_orders.specs.declared.faults.DeliverFault.{DeliverFault}
-use Rattle.office_core_orders.specs.declared.faults.DeliverFault.TheVariants.{Mail, Store}
-use Rattle.office_core_orders.specs.declared.faults.Held.{Held}
-use Rattle.office_core_orders.specs.declared.faults.Progress.{Progress}
-use Rattle.office_core_orders.specs.declared.faults.StoreFault.{StoreFault}
-use Rattle.office_core_orders.specs.declared.replies.Mark.{Mark}
-use Rattle.office_core_orders.specs.declared.replies.Mark.TheVariants.{Taken, LostForMemory, LostForStore}
+use Rattle.office_core_replies.specs.Replies.{mark_of}
+use Rattle.office_core_replies.specs.declared.faults.DeliverFault.{DeliverFault}
+use Rattle.office_core_replies.specs.declared.faults.DeliverFault.TheVariants.{Mail, Store}
+use Rattle.office_core_replies.specs.declared.faults.Held.{Held}
+use Rattle.office_core_orders.specs.declared.wait_lines.Progress.{Progress}
+use Rattle.office_core_store.specs.declared.faults.StoreFault.{StoreFault}
+use Rattle.office_core_replies.specs.declared.replies.Mark.{Mark}
+use Rattle.office_core_replies.specs.declared.replies.Mark.TheVariants.{Taken, LostForMemory, LostForStore}
 use Rattle.office_core_facts.specs.Outcome.{Outcome, Testing, covered_items, outcome_of, outcome_on, reports_from, reports_to, testing_after}
 use Rattle.office_core_facts.specs.State.{AnswersDelivery, IsOffice, answer_at, answer_by, answer_to}
 use Rattle.office_core_outcome.proofs.OutcomeFacts.{outcome_of-later}

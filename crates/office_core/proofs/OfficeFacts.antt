@@ -9,9 +9,9 @@ use Rattle.office_mail.specs.Kept.{place_cmp, place_of, placed, kept_from, IsPla
 use Rattle.office_mail.specs.Read.{read}
 use Rattle.office_mail.proofs.KeptFacts.{places_total, tied, placed_ok, kept_from-nil, kept_from-append, kept_from-fault, kept_from-free, kept_from-taken, kept_from-Within}
 use Rattle.office_mail.proofs.RunFacts.{IsReady-zero, IsReady-before, IsReady-later}
-use Rattle.office_core_orders.specs.declared.faults.DeliverFault.{DeliverFault}
-use Rattle.office_core_orders.specs.declared.faults.DeliverFault.TheVariants.{Mail}
-use Rattle.office_core_orders.specs.declared.faults.Held.{Held}
+use Rattle.office_core_replies.specs.declared.faults.DeliverFault.{DeliverFault}
+use Rattle.office_core_replies.specs.declared.faults.DeliverFault.TheVariants.{Mail}
+use Rattle.office_core_replies.specs.declared.faults.Held.{Held}
 use Rattle.office_store_keeper.specs.Content.{Content, no_content, with_text}
 use Rattle.office_store_keeper.specs.FactSet.{FactSet, count_in}
 use Rattle.office_store_keeper.specs.Provenance.{AreOwnTexts}

@@ -8,13 +8,13 @@ use Rattle.office_mail.specs.Read.{read}
 use Rattle.office_mail.specs.Runs.{IsReady, IsReadyCount, orders_to, latest_day}
 use Rattle.office_mail.specs.declared.message.Message.{Message}
 use Rattle.office_store_keeper.specs.Content.{Content}
-use Rattle.office_core_orders.specs.Replies.{mark_of}
-use Rattle.office_core_orders.specs.declared.faults.DeliverFault.{DeliverFault}
-use Rattle.office_core_orders.specs.declared.faults.Held.{Held}
-use Rattle.office_core_orders.specs.declared.faults.StoreFault.{StoreFault}
-use Rattle.office_core_orders.specs.declared.replies.Mark.{Mark}
-use Rattle.office_core_orders.specs.declared.replies.Mark.TheVariants.{Taken}
-use Rattle.office_core_orders.specs.declared.faults.Progress.{Progress}
+use Rattle.office_core_replies.specs.Replies.{mark_of}
+use Rattle.office_core_replies.specs.declared.faults.DeliverFault.{DeliverFault}
+use Rattle.office_core_replies.specs.declared.faults.Held.{Held}
+use Rattle.office_core_store.specs.declared.faults.StoreFault.{StoreFault}
+use Rattle.office_core_replies.specs.declared.replies.Mark.{Mark}
+use Rattle.office_core_replies.specs.declared.replies.Mark.TheVariants.{Taken}
+use Rattle.office_core_orders.specs.declared.wait_lines.Progress.{Progress}
 use Rattle.office_core.specs.Laws.{RunsStay}
 use Rattle.office_core.specs.Visible.{Visible, visible}
 use Rattle.office_core_facts.specs.Outcome.{Outcome, covered_items, outcome_on, reports_from, reports_to, testing_after}

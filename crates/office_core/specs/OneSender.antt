@@ -1,4 +1,4 @@
--- What mail of one sender can change. That each sender may say some kinds alone is decided by this office (`role_needed`).
+-- What mail of one sender can change. That senders may say only some kinds is decided by this office (`role_needed`).
 use Rattle.std.specs.Prelude.{◌≡◌, ◌≢◌, ℕ, ◌≤◌, Option, slice_get, option_map}
 use Rattle.std.specs.FinMap.{get}
 use Rattle.testing_rules_model.specs.Covered.{Covered, uploads_in, drops_in, builds_in, bugs_in, hints_in, unhints_in, delays_in}

@@ -2,9 +2,9 @@
 use Rattle.std.specs.Prelude.{◌≡◌, ℕ, ◌≤◌, false, min, Result, OnErr, is_ok}
 use Rattle.office_mail.specs.Counts.{HasRisen, most}
 use Rattle.office_store_keeper.specs.declared.keeper.Keeper.{Ghosts}
-use Rattle.office_core_orders.specs.declared.faults.StoreFault.{StoreFault}
-use Rattle.office_core_orders.specs.Counted.{Counted}
-use Rattle.office_core_orders.specs.StaysTrusted.{StaysTrusted}
+use Rattle.office_core_store.specs.declared.faults.StoreFault.{StoreFault}
+use Rattle.office_core_store.specs.Counted.{Counted}
+use Rattle.office_core_store.specs.StaysTrusted.{StaysTrusted}
 use Rattle.office_core_facts.specs.State.{IsSound, state_of}
 
 -- a count didn't fall, unless it was above the greatest

@@ -4,5 +4,5 @@ pub mod AsksOnce
 pub mod ChangesStore
 pub mod Counting
 pub mod GatherSteps
-pub mod KeepsRuns
+pub mod OnlyTakesMail
 pub mod StaysOffice

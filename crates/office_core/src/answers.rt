@@ -1,5 +1,5 @@
 //! What a delivery would be answered.
-#![tactic(auto, using(office_core_orders::proofs::LastFacts::lasting))]
+#![tactic(auto, using(office_core_store::proofs::LastFacts::lasting))]
 
 ghost use Rattle.std.specs.Prelude.{◌≡◌, ◌<◌, Ok, IfOk, length};
 ghost use Rattle.std.specs.FinMap.{get};
@@ -8,7 +8,8 @@ ghost use Rattle.office_core_facts.specs.State.{AnswersDelivery, answer_at, answ
 ghost use Rattle.office_core.specs.steps.ChangesStore.{KeepsNothing};
 
 use crate::delivery::compare;
-use office_core_orders::{DeliverFault, Held, stored};
+use office_core_replies::{DeliverFault, Held};
+use office_core_store::stored;
 use office_mail::{Message, Setup, read_message};
 use office_store_keeper::Keeper;
 use std::alloc::Global;

@@ -1,6 +1,6 @@
 //! Finds kept texts one after another. A sender is asked once for its next number: if it has none, its numbers are free
 //! from there on, and needn't be looked for.
-#![tactic(auto, using(office_core_orders::proofs::LastFacts::lasting))]
+#![tactic(auto, using(office_core_store::proofs::LastFacts::lasting))]
 
 ghost use Rattle.std.specs.Prelude.{◌≡◌, ℕ, None, IfOk, IsTrue};
 ghost use Rattle.std.specs.FinMap.{get};
@@ -9,7 +9,7 @@ ghost use Rattle.office_store_keeper.specs.Content.{IsNextNumber};
 ghost use Rattle.office_core.specs.steps.Asked.{AreFreeFrom, IsFreeFrom};
 ghost use Rattle.office_core.specs.steps.AsksOnce.{AsksOnce};
 
-use office_core_orders::{StoreFault, stored};
+use office_core_store::{StoreFault, stored};
 use office_store_keeper::{Keeper, MailText};
 
 /// What a sender answered when asked for its next number: the number from which its numbers are free, if any is known.

@@ -1,5 +1,5 @@
 //! Keeps texts together: their letters are gathered first, and then kept all at once.
-#![tactic(auto, using(office_core_orders::proofs::LastFacts::lasting))]
+#![tactic(auto, using(office_core_store::proofs::LastFacts::lasting))]
 
 ghost use Rattle.std.specs.Prelude.{is_ok, ◌≡◌, ◌≢◌, ◌<◌, ◌++◌, ◌∷◌, [], false, Ok, Err, None, Some, IfOk, OnOk, OnErr, IfSome, bytes_eq, length, if◌then◌else◌};
 ghost use Rattle.std.specs.Option.{option_map};
@@ -7,19 +7,20 @@ ghost use Rattle.office_store_keeper.specs.NewMail.{AreFree, with_letters, with_
 ghost use Rattle.office_mail.specs.Kept.{kept_from, place_of, IsPlace, Within};
 ghost use Rattle.office_mail.specs.Lists.{Lists};
 ghost use Rattle.office_mail.specs.Read.{read};
-ghost use Rattle.office_core_orders.specs.Counted.{Counted};
+ghost use Rattle.office_core_store.specs.Counted.{Counted};
 ghost use Rattle.office_core.specs.steps.Asked.{AreFreeFrom};
 ghost use Rattle.office_core.specs.steps.AsksOnce.{AsksOnce};
 ghost use Rattle.office_core.specs.steps.ChangesStore.{ChangesStore};
 ghost use Rattle.office_core.specs.steps.GatherSteps.{ArePlaced, Gathers, TakesText, letter_of, own_text};
-ghost use Rattle.office_core.specs.steps.KeepsRuns.{KeepsRuns};
+ghost use Rattle.office_core.specs.steps.OnlyTakesMail.{OnlyTakesMail};
 ghost use Rattle.office_core.specs.Together.{AreHeldHere, answers_to};
-ghost use Rattle.office_core_orders.specs.steps.ReadsStore.{ReadsStore};
+ghost use Rattle.office_core_store.specs.ReadsStore.{ReadsStore};
 ghost use Rattle.office_core.specs.steps.StaysOffice.{StaysOffice};
 
 use crate::asked::{NextFree, find};
 use crate::delivery::compare;
-use office_core_orders::{DeliverFault, Held, StoreFault};
+use office_core_replies::{DeliverFault, Held};
+use office_core_store::StoreFault;
 use office_mail::{MailFault, Message, Setup, read_message};
 use office_store_keeper::{Keeper, MailText, NewLetter};
 use std::alloc::Global;
@@ -186,7 +187,7 @@ pub fn keep_texts<K: Keeper>(
     ensures none { K.is_trusted keeper.new → K.is_legible keeper.old → IfOk result (λ replies. replies ≡ None → K.content keeper.new ≡ K.content keeper.old) }
     ensures each { IfOk result (λ replies. IfSome replies (λ rs. length rs.items ≡ length texts.now)) }
     ensures places { IfOk result (λ replies. IfSome replies (λ rs. AreHeldHere setup.now rs.items)) }
-    ensures runs { KeepsRuns K.Keeper keeper.old keeper.new result }
+    ensures runs { OnlyTakesMail K.Keeper keeper.old keeper.new result }
     ensures counted { Counted (K.refusals keeper.old) (K.refusals keeper.new) result }
 {
     let mut block = Batch {

@@ -8,7 +8,8 @@ ghost use Rattle.office_core.specs.steps.Counting.{IsKept, AreKept};
 
 use crate::Reply;
 use office_core_orders::orders::make_room;
-use office_core_orders::{Held, StoreFault};
+use office_core_replies::Held;
+use office_core_store::StoreFault;
 
 /// A held message raises its sender's count, if it has the next number. If memory for the count is refused, it is
 /// counted once an order asks for it.

@@ -1,16 +1,17 @@
 //! One delivery: at a message's place there is nothing, its own text, or another.
-#![tactic(auto, using(office_core_orders::proofs::LastFacts::lasting))]
+#![tactic(auto, using(office_core_store::proofs::LastFacts::lasting))]
 
 ghost use Rattle.std.specs.Prelude.{◌≡◌, ◌<◌, ◌∷◌, ◌⊎◌, [], Ok, Err, IfOk, IfErr, OnOk, bytes_eq, length, if◌then◌else◌};
 ghost use Rattle.std.specs.FinMap.{get};
 ghost use Rattle.office_mail.specs.Kept.{kept_from, place_of, IsPlace, Within};
 ghost use Rattle.office_mail.specs.Read.{read};
-ghost use Rattle.office_core_orders.specs.Counted.{CountedDelivery};
+ghost use Rattle.office_core_replies.specs.Answered.{CountedDelivery};
 ghost use Rattle.office_core.specs.steps.StaysOffice.{StaysOffice};
 ghost use Rattle.office_core_facts.specs.State.{AnswersDelivery, answer_at, answer_to};
-ghost use Rattle.office_core.specs.steps.KeepsRuns.{KeepsRuns};
+ghost use Rattle.office_core.specs.steps.OnlyTakesMail.{OnlyTakesMail};
 
-use office_core_orders::{DeliverFault, Held, stored};
+use office_core_replies::{DeliverFault, Held};
+use office_core_store::stored;
 use office_mail::{MailFault, Message, Setup, read_message};
 use office_store_keeper::{Keeper, MailText};
 use std::alloc::Global;
@@ -40,7 +41,7 @@ fn keep_or_compare<K: Keeper>(
     ensures within { K.is_trusted keeper.new → Within (K.content keeper.old).kept (K.content keeper.new).kept }
     ensures office { StaysOffice K.Keeper setup.now keeper.old keeper.new }
     ensures held { IfOk result (λ held. held.sender ≡ message.now.sender) }
-    ensures runs { KeepsRuns K.Keeper keeper.old keeper.new result }
+    ensures runs { OnlyTakesMail K.Keeper keeper.old keeper.new result }
     ensures counted { CountedDelivery (K.refusals keeper.old) (K.refusals keeper.new) result }
 {
     let held = Held {
@@ -85,7 +86,7 @@ pub fn deliver_text<K: Keeper>(
     ensures within { K.is_trusted keeper.new → Within (K.content keeper.old).kept (K.content keeper.new).kept }
     ensures office { StaysOffice K.Keeper setup.now keeper.old keeper.new }
     ensures place { IfOk result (λ held. held.sender < length setup.now.senders) }
-    ensures runs { KeepsRuns K.Keeper keeper.old keeper.new result }
+    ensures runs { OnlyTakesMail K.Keeper keeper.old keeper.new result }
     ensures counted { CountedDelivery (K.refusals keeper.old) (K.refusals keeper.new) result }
 {
     match read_shared(alloc, setup, text) {

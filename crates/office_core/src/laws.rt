@@ -30,10 +30,11 @@ pub fn empty_is_sound<K: Keeper>()
     ensures { (store : K) → K.is_legible store → K.content store ≡ no_content → IsSound K.Keeper store }
 {}
 
-/// The headline: after any list of deliveries, with losses, repeats and reorderings, in which no sender gives one number two
-/// texts, testing and both reports of every finished run are what the promotion rules give for that run's covered messages,
-/// each taken once in its sender's order; a settled office has finished exactly the ready runs; only finishing a run changes
-/// testing. A list of steps is any history: deliveries, settles and questions from an empty office on.
+/// The headline: after any list of deliveries, with losses, repeats and reorderings, in which no sender gives one
+/// number two texts, testing and both reports of every finished run are what the promotion rules give for that run's
+/// covered messages, each taken once in its sender's order; a settled office has finished exactly the ready runs; only
+/// finishing a run changes testing. A list of steps is any history: deliveries, settles and questions from an empty
+/// office on.
 pub fn headline()
     ensures rules { (setup : Lists) (steps : List Step) (office : Visible) → Follow setup new_office steps office → IsByRules setup (texts_in steps) office }
     // Neither order nor repeats matter: offices that received the same texts agree.
@@ -79,22 +80,22 @@ pub fn runs_stay()
     ensures office { (setup : Lists) (old new : Content) → IsOffice setup old → IsOffice setup new → Within old.kept new.kept → length old.reports ≤ length new.reports → RunsStand old new }
 {}
 
-/// What one sender can do. Mail of it that a run doesn't cover changes nothing of the run: neither whether it is ready, nor
-/// the reports and the testing of the runs up to it.
+/// What one sender can do. Mail of it that a run doesn't cover changes nothing of the run: neither whether it is ready,
+/// nor the reports and the testing of the runs up to it.
 pub fn unseen()
     ensures ready { (setup : Lists) (sender k : ℕ) (a b : Kept) → IsUnseen setup sender k a b → IsReady setup a k ↔ IsReady setup b k }
     ensures outcome { (setup : Lists) (sender k : ℕ) (a b : Kept) → IsUnseen setup sender k a b → outcome_of setup a k ≡ outcome_of setup b k }
     ensures reports { (setup : Lists) (sender k : ℕ) (a b : Kept) → IsUnseen setup sender k a b → reports_to setup a k ≡ reports_to setup b k }
 {}
 
-/// Of a run that covers mail of it, one sender changes only what its role may say: no other role's uploads, drops, builds, bugs,
-/// hints, unhints or delays. All else can change by the sender of run orders alone.
+/// Of a run that covers mail of it, one sender changes only what its role may say: no other role's uploads, drops,
+/// builds, bugs, hints, unhints or delays. All else can change by the sender of run orders alone.
 pub fn by_role()
     ensures { (setup : Lists) (sender k : ℕ) (a b : Kept) (role : Role) → ButOf sender a b → AreOwnTexts setup a → AreOwnTexts setup b → role_at setup sender ≡ Some role → role ≢ Runs → DifferByRole role (covered_items setup a k) (covered_items setup b k) }
 {}
 
-/// What an office of schema 1 left, once it has the row of the last delays that the finished runs cover, is what an office
-/// leaves: its rows of facts are those of facts that stand for all covered mail.
+/// What an office of schema 1 left, once it has the row of the last delays that the finished runs cover, is what an
+/// office leaves: its rows of facts are those of facts that stand for all covered mail.
 pub fn migrated_is_office()
     ensures { (setup : Lists) (old new : Content) → count_of Release setup.senders ≡ 1 → IsOfficeBefore setup old → GetsLast setup old new → IsOffice setup new }
 {}

@@ -1,5 +1,5 @@
 //! The office: what it accepts, finishes and reports.
-#![tactic(auto, using(office_core_orders::proofs::LastFacts::lasting))]
+#![tactic(auto, using(office_core_store::proofs::LastFacts::lasting))]
 
 ghost use Rattle.std.specs.Prelude.{is_none, is_ok, ◌≡◌, ◌+◌, ◌-◌, ◌≤◌, ◌<◌, ◌∷◌, [], None, IfOk, IfSome, OnOk, length, slice_index};
 ghost use Rattle.std.specs.FinMap.{get};
@@ -9,13 +9,13 @@ ghost use Rattle.office_mail.specs.Kept.{kept_from};
 ghost use Rattle.office_mail.specs.Runs.{IsReady, IsReadyCount, latest_day, order_at, orders_to};
 ghost use Rattle.office_store_keeper.specs.Content.{IsNextNumber};
 ghost use Rattle.office_store_keeper.specs.Provenance.{AreOwnTexts};
-ghost use Rattle.office_core_orders.specs.Counted.{CountedDelivery};
+ghost use Rattle.office_core_replies.specs.Answered.{CountedDelivery};
 ghost use Rattle.office_core.specs.History.{Leads, deliveries, delivery, settling};
 ghost use Rattle.office_core.specs.Laws.{RunsStand};
 ghost use Rattle.office_core.specs.Preserves.{Asks, AsksOffice, ChangesOffice, Holds, LeavesRuns, Preserves};
 ghost use Rattle.office_core.specs.Together.{AreHeldHere, answers_to};
 ghost use Rattle.office_core.specs.Unbroken.{AreUnbroken};
-ghost use Rattle.office_core_orders.specs.StaysTrusted.{StaysTrusted};
+ghost use Rattle.office_core_store.specs.StaysTrusted.{StaysTrusted};
 ghost use Rattle.office_core_facts.specs.Outcome.{testing_after, testing_text};
 ghost use Rattle.office_core_facts.specs.State.{IsSound, KeepsFacts, state_of, answer_to, AnswersDelivery, reports_at};
 ghost use Rattle.office_core_orders.specs.Waiting.{Awaits, AwaitsSome};
@@ -39,8 +39,10 @@ use office_core_breaks::{BreaksText, Question, breaks_text};
 use office_core_facts::covered::KnownFacts;
 use office_core_orders::ready::ready_count;
 use office_core_orders::waits::waiting;
-use office_core_orders::{DeliverFault, Held, Progress, StoreFault, Waiting, stored};
+use office_core_orders::{Progress, Waiting};
 use office_core_outcome::{HintText, Proposal, Trial, TrialOptions, hint_told, propose, try_hints};
+use office_core_replies::{DeliverFault, Held};
+use office_core_store::{StoreFault, stored};
 use office_core_why::{WhyText, hints_text, unstable_text, why_text};
 use office_mail::{RunOrder, Setup};
 use office_store_keeper::{Keeper, MailText, Reports};
@@ -363,8 +365,8 @@ impl<K: Keeper> Office<K> {
         )
     }
 
-    /// Which rows a change would break where the last finished run left testing, and whether all that is asked for can change;
-    /// none where no run is finished. It fails for want of memory or of the store alone.
+    /// Which rows a change would break where the last finished run left testing, and whether all that is asked for can
+    /// change; none if no run is finished. It fails only if memory runs out or the store fails.
     pub fn breaks_text(&mut self, question: &Question) -> Result<Option<BreaksText>, StoreFault>
         ensures breaks { Holds K.Keeper self.old self.new → IfOk result (IsBreaks (K.setup self.old) (K.content self.old).kept (state_of K.Keeper self.old).finished question.now) }
         ensures asks { AsksOffice K.Keeper self.old self.new result }
@@ -378,8 +380,8 @@ impl<K: Keeper> Office<K> {
         )
     }
 
-    /// Up to which number each sender's mail is kept without a gap, in the setup's order, 0 where number 1 isn't kept. It fails
-    /// for want of memory or of the store alone.
+    /// Up to which number each sender's mail is kept without a gap, in the setup's order, 0 where number 1 isn't kept.
+    /// It fails only if memory runs out or the store fails.
     pub fn unbroken(&mut self) -> Result<Vec<u32>, StoreFault>
         ensures unbroken { Holds K.Keeper self.old self.new → IfOk result (λ unbroken. AreUnbroken (K.content self.old).kept (slice_index unbroken.items)) }
         ensures asks { AsksOffice K.Keeper self.old self.new result }

@@ -1,5 +1,5 @@
 //! What a run leaves.
-#![tactic(auto, using(office_core_orders::proofs::LastFacts::lasting))]
+#![tactic(auto, using(office_core_store::proofs::LastFacts::lasting))]
 
 ghost use Rattle.std.specs.Prelude.{◌≡◌, ℕ, ◌+◌, ◌<◌, IfOk, IfSome, OnOk, length, slice_index};
 ghost use Rattle.testing_rules_model.specs.Covered.{Covered};
@@ -11,7 +11,7 @@ ghost use Rattle.office_mail.specs.Runs.{cover_of};
 ghost use Rattle.office_store_keeper.specs.FactSet.{AreHoldable, facts_after};
 ghost use Rattle.office_store_keeper.specs.Provenance.{AreOwnTexts, IsGiven, KnowsArchs};
 ghost use Rattle.office_core_facts.specs.Known.{AreKnown, AreUnderWay};
-ghost use Rattle.office_core_orders.specs.steps.ReadsStore.{ReadsStore};
+ghost use Rattle.office_core_store.specs.ReadsStore.{ReadsStore};
 ghost use Rattle.office_core_facts.specs.Outcome.{outcome, outcome_of};
 ghost use Rattle.office_core_facts.specs.steps.Outcome.{outcome_in};
 ghost use Rattle.office_core_orders.specs.steps.Ready.{FirstOrders};
@@ -21,8 +21,8 @@ ghost use Rattle.office_core_facts.specs.steps.Walk.{said_within};
 use jiff_core::civil::Date;
 use office_core_facts::covered::{KnownFacts, facts};
 use office_core_facts::retaken::follow_testing;
-use office_core_orders::{StoreFault, stored};
 use office_core_outcome::run_beside;
+use office_core_store::{StoreFault, stored};
 use office_mail::{RunOrder, Setup, latest_day};
 use office_store_keeper::{Finished, Keeper};
 use std::alloc::Global;

@@ -1,14 +1,14 @@
 //! Ready runs, and how they are finished.
-#![tactic(auto, using(office_core_orders::proofs::LastFacts::lasting))]
+#![tactic(auto, using(office_core_store::proofs::LastFacts::lasting))]
 
 ghost use Rattle.std.specs.Prelude.{is_ok, ◌≡◌, ℕ, ◌+◌, ◌<◌, ◌≤◌, ◌↔◌, Some, IsTrue, IfOk, IfSome, OnErr, length, slice_index, if◌then◌else◌};
 ghost use Rattle.testing_rules_model.specs.declared.facts.DelaysIn.{DelaysIn as SomeDelays};
 ghost use Rattle.office_mail_setup.specs.declared.setup.Role.TheVariants.{Release as TheRelease};
 ghost use Rattle.office_mail.specs.Runs.{IsReady, IsReadyCount};
 ghost use Rattle.office_mail.specs.Setup.{place_of_role};
-ghost use Rattle.office_core_orders.specs.Counted.{Counted};
+ghost use Rattle.office_core_store.specs.Counted.{Counted};
 ghost use Rattle.office_core_facts.specs.Known.{AreKnown};
-ghost use Rattle.office_core_orders.specs.StaysTrusted.{StaysTrusted};
+ghost use Rattle.office_core_store.specs.StaysTrusted.{StaysTrusted};
 ghost use Rattle.office_core_orders.specs.steps.Ready.{IsCounted};
 ghost use Rattle.office_core.specs.steps.StaysOffice.{StaysOffice};
 ghost use Rattle.office_core_facts.specs.State.{IsOffice};
@@ -17,7 +17,7 @@ use crate::results::next_outcome;
 use office_core_facts::covered::KnownFacts;
 use office_core_facts::release::release_place;
 use office_core_orders::ready::next_is_ready;
-use office_core_orders::{StoreFault, stored};
+use office_core_store::{StoreFault, stored};
 use office_mail::{RunOrder, Setup};
 use office_store_keeper::Keeper;
 use std::alloc::Global;

@@ -1,15 +1,15 @@
 //! How far each sender's mail is kept without a gap.
-#![tactic(auto, using(office_core_orders::proofs::LastFacts::lasting))]
+#![tactic(auto, using(office_core_store::proofs::LastFacts::lasting))]
 
 ghost use Rattle.std.specs.Prelude.{IfOk, slice_index};
 ghost use Rattle.office_mail.specs.Lists.{Lists};
 ghost use Rattle.office_core_facts.specs.Seen.{IsUnbroken};
-ghost use Rattle.office_core_orders.specs.steps.ReadsStore.{ReadsStore};
+ghost use Rattle.office_core_store.specs.ReadsStore.{ReadsStore};
 ghost use Rattle.office_core_orders.specs.Ready.{HasEach, HasPlaces};
 ghost use Rattle.office_core.specs.Unbroken.{AreUnbroken};
 
-use office_core_orders::StoreFault;
 use office_core_orders::orders::{count_on, make_room};
+use office_core_store::StoreFault;
 use office_mail::{MAX_NUMBER, Setup};
 use office_store_keeper::Keeper;
 use std::alloc::Global;

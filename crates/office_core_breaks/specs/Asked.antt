@@ -1,5 +1,5 @@
--- What is asked about: that a source moves, that a group moves as one, or that versions leave. In which words it is asked is decided by this
--- office.
+-- What is asked about: that a source moves, that a group moves as one, or that versions leave. In which words it is
+-- asked is decided by this office.
 use Rattle.std.specs.Prelude.{ℕ, if◌then◌else◌, List, ◌++◌, codes, Result, Ok, Err}
 use Rattle.deb_control.specs.Relations.{is_package_name}
 use Rattle.testing_rules_items.specs.declared.item.Hint.TheVariants.{Easy, Remove}
@@ -12,7 +12,7 @@ use Rattle.office_mail.specs.declared.message.MailFault.{MailFault}
 use Rattle.office_mail.specs.declared.message.MailFault.TheVariants.{BadValue}
 use Rattle.office_mail.specs.Lists.{Lists}
 use Rattle.office_mail.specs.Read.{read}
-use Rattle.office_core_orders.specs.Replies.{name_at}
+use Rattle.office_core_replies.specs.Replies.{name_at}
 use Rattle.office_core_facts.specs.Seen.{release}
 use Rattle.office_core_breaks.specs.declared.asked.Change.{Change}
 use Rattle.office_core_breaks.specs.declared.asked.Change.TheVariants.{Source, Group, Removal}

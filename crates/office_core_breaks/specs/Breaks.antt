@@ -1,5 +1,5 @@
--- Which rows of testing a change breaks: all of them, where a refusal names the first (Debian Developer's Reference 5.13.2). That all are told
--- is decided by this office.
+-- Which rows of testing a change breaks: all of them, where a refusal names the first (Debian Developer's Reference
+-- 5.13.2). That all are told is decided by this office.
 use Rattle.std.specs.Prelude.{ℕ, Bool, false, ◌&&◌, not, List, [], map, filter}
 use Rattle.std.specs.Option.{option_map_or}
 use Rattle.testing_rules_items.specs.Words.{Text, is_same_version, only_if}
@@ -12,8 +12,8 @@ use Rattle.testing_rules_model.specs.Updates.{is_in_testing}
 use Rattle.office_core_breaks.specs.declared.asked.Change.{Change}
 use Rattle.office_core_breaks.specs.declared.asked.Change.TheVariants.{Source, Group, Removal}
 
--- The rows that a change from the old rows to the new ones breaks on an architecture, where a group came in: they are watched there and not
--- installable after the change, though they came in with the group, or were installable before it.
+-- The rows that a change from the old rows to the new ones breaks on an architecture, where a group came in: they are
+-- watched there and not installable after it, though they came in with the group or were installable before.
 abbrev pub broken_on : ℕ → List Text → List RowIn → List RowIn → List RowIn
 broken_on arch group old new = map (λ j. j.row) (filter (fails_on arch group (judged_on arch old)) (judged_on arch new))
 

@@ -52,7 +52,8 @@ abbrev pub source_line : Text → Option UploadIn → Text
 source_line name None = codes "unknown " ++ name ++ 10 ∷ []
 source_line name (Some u) = []
 
--- the lines of what can't change: sources that unstable doesn't have, at the items' versions if these are stated, or that testing doesn't have
+-- the lines of what can't change: sources that unstable doesn't have, at the items' versions if these are stated, or
+-- that testing doesn't have
 abbrev pub unknown_text : List UploadIn → Suite → Change → Text
 unknown_text sources t (Source name) = source_line name (source_in sources name)
 unknown_text sources t (Group items) = flat_map item_line (filter (λ i. not (is_offered sources i)) items)

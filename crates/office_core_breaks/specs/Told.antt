@@ -1,5 +1,5 @@
--- What is told of the rows that a change would break, beside the testing that the last finished run left. That it is told is decided by this
--- office; which rows these are, the rules of the run say (Debian Developer's Reference 5.13.2).
+-- What is told of the rows that a change would break, beside the testing that the last finished run left. That it is
+-- told is decided by this office; which rows these are, the rules of the run say (Debian Developer's Reference 5.13.2).
 use Rattle.std.specs.Prelude.{◌≡◌, ◌⊎◌, ℕ, List, [], ◌++◌, Option, Some, None}
 use Rattle.jiff_core.specs.declared.civil.date.Date.{Date}
 use Rattle.testing_rules_items.specs.Words.{Text, is_empty}
@@ -32,8 +32,8 @@ IsWhyBroken archs sources unstable excuses t group text =
 abbrev pub known_for : List Text → List UploadIn → List Excuse → List Text → Known
 known_for archs sources excuses group = record { archs = archs; sources = sources; excuses = excuses; coming = group; stuck = [] }
 
--- What is told of a question: what can't change, the rows that the change breaks, and what shows that the first of these isn't installable then,
--- if sources come in. The question is known if all that it names can change.
+-- What is told of a question: what can't change, the rows that the change breaks, and what shows that the first of
+-- these isn't installable then, if sources come in. The question is known if all that it names can change.
 pub record IsToldOf (archs : List Text) (sources : List UploadIn) (unstable : List RowIn) (excuses : List Excuse) (t : Suite) (run : ℕ) (q : Question) (told : BreaksText) : Type 0 where
   pub shown : Text
   pub why : IsWhyBroken archs sources unstable excuses t (coming sources t q.change) shown
@@ -51,7 +51,7 @@ pub record IsBreaksAfter (setup : Lists) (kept : Kept) (k : ℕ) (q : Question) 
   pub dated : latest_day (orders_to setup kept k) ≡ Some date
   pub is : IsTold setup.archs (covered_items setup kept k) (testing_after setup kept k) k date q told
 
--- which rows a change would break where run k left testing, which is the last finished one; none where no run is finished
+-- which rows a change would break where run k, the last finished one, left testing; none if no run is finished
 abbrev pub IsBreaks : Lists → Kept → ℕ → Question → Option BreaksText → Type 0
 IsBreaks setup kept k q None = k ≡ 0
 IsBreaks setup kept k q (Some told) = IsBreaksAfter setup kept k q told

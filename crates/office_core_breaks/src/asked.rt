@@ -9,7 +9,7 @@ ghost use Rattle.office_core_breaks.specs.Asked as rules;
 
 use deb_control::{Text, is_package_name};
 use office_core_facts::release::release_place;
-use office_core_orders::name_at;
+use office_core_replies::name_at;
 use office_mail::{Body, MailFault, Message, Setup, read_message};
 use office_mail_setup::Field;
 use std::alloc::{AllocError, Global};

@@ -1,11 +1,9 @@
 //! Which rows a change would break beside the testing that the last finished run of an office left.
-#![tactic(auto, using(office_core_orders::proofs::LastFacts::lasting))]
+#![tactic(auto, using(office_core_store::proofs::LastFacts::lasting))]
 
-ghost use Rattle.std.specs.Prelude.{is_ok, ◌≡◌, ℕ, IfOk, IfSome, length};
+ghost use Rattle.std.specs.Prelude.{◌≡◌, ℕ, IfOk, IfSome, length};
 ghost use Rattle.office_mail.specs.Kept.{Kept};
-ghost use Rattle.office_core_orders.specs.Counted.{Counted};
-ghost use Rattle.office_core_orders.specs.steps.ReadsStore.{ReadsStore};
-ghost use Rattle.office_core_orders.specs.StaysTrusted.{StaysTrusted};
+ghost use Rattle.office_core_store.specs.ReadsStore.{ReadsStore};
 ghost use Rattle.office_core_facts.specs.Known.{AreKnown};
 ghost use Rattle.office_core_facts.specs.State.{IsOffice};
 ghost use Rattle.office_core_facts.specs.steps.Last.{IsLoaded, OfRuns};
@@ -19,7 +17,7 @@ use office_core_facts::covered::KnownFacts;
 use office_core_facts::last_run::{
     FinishedRuns, LastRun, facts_of, finished_runs, give_back, load_last_run, testing_of,
 };
-use office_core_orders::StoreFault;
+use office_core_store::StoreFault;
 use office_mail::Setup;
 use office_store_keeper::Keeper;
 use std::alloc::Global;
@@ -65,13 +63,13 @@ fn breaks_after<K: Keeper>(
     Ok(Some(told?))
 }
 
-/// Which rows the change that is asked about would break beside the testing that the last finished run of an office with this
-/// store left; none where no run is finished. They are told by architecture: how many there are, and the first hundred, each
-/// with how it stands with what unstable has in its place. Before them is told what can't change, and behind them what
-/// shows that the first of them isn't installable then, if sources come in. What is known of the mail is used, or else
+/// Which rows a change would break beside the testing that the last finished run of an office with this store left;
+/// none if no run is finished. By architecture the text has the number of these rows and the first hundred of them,
+/// each with how it stands with unstable's row of its name. Before them it tells what can't change, and after them, if
+/// sources come in, why the first of the rows isn't installable then. What is known of the mail is used, or else
 /// recalled from the store and known from then on. Each architecture's rows are judged twice.
 ///
-/// It fails for want of memory or of the store alone.
+/// It fails only if memory runs out or the store fails.
 pub fn breaks_text<K: Keeper>(
     alloc: Global,
     setup: &Setup,
@@ -82,12 +80,7 @@ pub fn breaks_text<K: Keeper>(
     requires known { K.is_trusted keeper.old → IfSome known.old (λ known. AreKnown setup.now (K.content keeper.old) known) }
     ensures breaks { K.is_trusted keeper.new → K.is_legible keeper.old → IsOffice setup.now (K.content keeper.old) → IfOk result (IsBreaks setup.now (K.content keeper.old).kept (length (K.content keeper.old).reports) question.now) }
     ensures known { K.is_trusted keeper.new → IfSome known.new (λ known. AreKnown setup.now (K.content keeper.new) known) }
-    ensures same { K.is_trusted keeper.new → K.content keeper.new ≡ K.content keeper.old }
-    ensures setup { K.setup keeper.new ≡ K.setup keeper.old }
-    ensures before { K.is_trusted keeper.new → K.is_trusted keeper.old }
-    ensures legible { K.is_trusted keeper.new → K.is_legible keeper.old → K.is_legible keeper.new }
-    ensures lasts { StaysTrusted K.Keeper keeper.old keeper.new (is_ok result) }
-    ensures counted { Counted (K.refusals keeper.old) (K.refusals keeper.new) result }
+    ensures looks { ReadsStore K.Keeper keeper.old keeper.new result }
 {
     let finished = finished_runs(alloc, setup, keeper, known)?;
     breaks_after(alloc, setup, keeper, known, &finished, question)

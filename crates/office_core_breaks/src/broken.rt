@@ -133,8 +133,8 @@ fn failing<'a>(
     Ok(rows)
 }
 
-/// The rows that a change from the old rows to the new ones breaks on the architecture, where a group came in. It costs two
-/// judgements of the architecture's rows. The one error is want of memory.
+/// The rows that a change from the old rows to the new ones breaks on the architecture, where a group came in. It costs
+/// two judgements of the architecture's rows. The only error is running out of memory.
 pub(crate) fn broken_on<'a>(
     alloc: Global,
     arch: u32,

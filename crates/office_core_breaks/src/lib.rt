@@ -1,5 +1,5 @@
-//! Which rows of testing would break if a source moved, if a group moved as one, or if versions left testing: all of them, by
-//! architecture, beside the testing that the last finished run of an office left.
+//! Which rows of testing would break if a source moved, if a group moved as one, or if versions left testing: all of
+//! them, by architecture, beside the testing that the last finished run of an office left.
 #![tactic(auto)]
 
 mod asked;

@@ -2,7 +2,6 @@
 
 ghost use Rattle.std.specs.Prelude.{◌≡◌, ◌++◌, ◌∷◌, [], OnOk, codes, string_bytes};
 ghost use Rattle.std.specs.List.{flat_map};
-ghost use Rattle.testing_rules_excuses.specs.States as states;
 ghost use Rattle.testing_rules_model.specs.Boxed.{unboxed};
 ghost use Rattle.testing_rules_model.specs.FactOrder.{AreBySource};
 ghost use Rattle.testing_rules_model.specs.JudgedRows.{lent, row_of};
@@ -21,8 +20,8 @@ use testing_rules_model::{Excuse, LentRow, Reason};
 use testing_rules_refusals::push_package;
 use testing_rules_reports::push_reason_words;
 
-/// What is known where a change is told of: the architectures, unstable, the excuses of the run, and the sources that come
-/// in.
+/// What is known where a change is told of: the architectures, unstable, the excuses of the run, and the sources that
+/// come in.
 #[derive(Clone, Copy)]
 pub(crate) struct OfferInput<'g, 'a> {
     pub archs: &'g Archs,

@@ -226,8 +226,8 @@ fn told_by(
     })
 }
 
-/// What is told of a question behind the run of this number and date, which left this testing, over the messages that the
-/// facts stand for.
+/// What is told of a question behind the run of this number and date, which left this testing, over the messages that
+/// the facts stand for.
 pub(crate) fn told_after(
     alloc: Global,
     archs: &Archs,

@@ -8,12 +8,12 @@ use Rattle.office_store_keeper.specs.declared.faults.Cause.TheVariants.{BadRow}
 use Rattle.office_store_keeper.specs.declared.faults.KeepFault.{KeepFault}
 use Rattle.office_store_keeper.specs.declared.faults.KeepFault.TheVariants as keep
 use Rattle.office_store_keeper.specs.declared.keeper.Keeper.{Ghosts}
-use Rattle.office_core_orders.specs.Counted.{Counted}
-use Rattle.office_core_orders.specs.declared.faults.StoreFault.{StoreFault}
-use Rattle.office_core_orders.specs.declared.faults.StoreFault.TheVariants as store
-use Rattle.office_core_orders.specs.steps.ReadsStore.{ReadsStore}
-use Rattle.office_core_orders.specs.StaysTrusted.{StaysTrusted}
-use Rattle.office_core_orders.proofs.LastFacts.{risen_after, risen_before}
+use Rattle.office_core_store.specs.Counted.{Counted}
+use Rattle.office_core_store.specs.declared.faults.StoreFault.{StoreFault}
+use Rattle.office_core_store.specs.declared.faults.StoreFault.TheVariants as store
+use Rattle.office_core_store.specs.ReadsStore.{ReadsStore}
+use Rattle.office_core_store.specs.StaysTrusted.{StaysTrusted}
+use Rattle.office_core_store.proofs.LastFacts.{risen_after, risen_before}
 use Rattle.office_core_facts.specs.State.{IsOffice}
 use Rattle.office_core_check.specs.steps.Unread.{Asks, IsEnd, IsReadable, IsTold}
 use Rattle.office_core_check.specs.Whole.{CountedCheck, IsFound, is_read}

@@ -96,7 +96,3 @@ kept_rows f g s t one other r few less =
     let uploads : times r (map upload_row f.uploads) ≡ times r (map upload_row g.uploads) =
     at_most_once (times r (map upload_row f.uploads)) (times r (map upload_row g.uploads)) (kept_row f g s t one other r) (kept_row g f s t other one r) (omega (arith, all_f, few)) (omega (arith, all_g, less)) in
     omega (arith, all_f, all_g, sources, rows, drops, bugs, hints, unhints, delays, uploads)
-
-bit_low : (b : Bool) → cond b 1 0 ≤ 1
-bit_low true = omega arith
-bit_low false = omega arith

@@ -62,21 +62,6 @@ front_more kept made s from letter so next = record {
       put_other made (s, letter.number) p letter.text (λ e. let same : p.0 ≡ s = ap (λ (q : Place). q.0) e in omega (arith, low, same)) ∙ so.behind p low;
 }
 
--- behind the last letter of a sender the next one's mail follows
-pub front_next : (kept made : Kept) (s from : ℕ) → IsFront kept s from made → IsNextLetter kept s from None → IsFront kept (s + 1) 0 made
-front_next kept made s from so none = record {
-  before = λ p low. ⊎_elim
-      (λ (lt : p.0 < s). so.before p lt)
-      (λ (le : s ≤ p.0).
-      let is : s ≡ p.0 = omega (arith, low, le) in
-      subst (λ k. get made (k, p.1) ≡ get kept (k, p.1)) is
-      (⊎_elim (λ (under : p.1 < from). so.below p.1 under) (λ (over : from ≤ p.1). so.above p.1 over ∙ sym (none p.1 over)) (cases_lt p.1 from)))
-      (cases_lt p.0 s);
-  below = λ n low. absurd (omega (arith, low));
-  above = λ n low. so.behind (s + 1, n) (omega arith);
-  behind = λ p low. so.behind p (omega (arith, low));
-}
-
 of_sender : (setup : Lists) (kept : Kept) (p : Place) (o : Option (List ℕ)) → get kept p ≡ o → length setup.senders ≤ p.0 → AreOfSenders setup kept → None ≡ o
 of_sender setup kept p None e high are = refl
 of_sender setup kept p (Some text) e high are =

@@ -10,9 +10,9 @@ use Rattle.office_mail.specs.Lists.{Lists}
 use Rattle.office_mail.specs.Read.{read}
 use Rattle.office_mail.specs.steps.ReadSteps.{placed_as}
 use Rattle.office_mail.proofs.KeptFacts.{kept_from-free}
-use Rattle.office_core_orders.specs.declared.faults.DeliverFault.{DeliverFault}
-use Rattle.office_core_orders.specs.declared.faults.DeliverFault.TheVariants.{OtherText}
-use Rattle.office_core_orders.specs.declared.faults.Held.{Held}
+use Rattle.office_core_replies.specs.declared.faults.DeliverFault.{DeliverFault}
+use Rattle.office_core_replies.specs.declared.faults.DeliverFault.TheVariants.{OtherText}
+use Rattle.office_core_replies.specs.declared.faults.Held.{Held}
 use Rattle.office_core_facts.specs.State.{AnswersDelivery, answer_at, answer_by, answer_to, held_at}
 use Rattle.office_core_check.specs.steps.Reading.{IsOther}
 use Rattle.office_core_check.proofs.FrontFacts.{put_here}

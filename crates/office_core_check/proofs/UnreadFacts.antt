@@ -10,7 +10,7 @@ use Rattle.office_store_keeper.specs.declared.faults.Cause.TheVariants.{BadRow}
 use Rattle.office_store_keeper.specs.declared.faults.KeepFault.{KeepFault}
 use Rattle.office_store_keeper.specs.declared.faults.KeepFault.TheVariants.{NoMemory, Store}
 use Rattle.office_store_keeper.specs.declared.keeper.Keeper.{Ghosts}
-use Rattle.office_core_orders.proofs.LastFacts.{risen_after, risen_before}
+use Rattle.office_core_store.proofs.LastFacts.{risen_after, risen_before}
 use Rattle.office_core_check.specs.steps.Unread.{Asks, IsReadable}
 
 counted_keeps : {T : Type 0} (old new : ℕ) (r : Result T KeepFault) → Counted old new r → (n : ℕ) → HasRisen n old → HasRisen n new
@@ -30,18 +30,6 @@ asks_by keeper old new r reads = record {
   faults = reads.keeps.faults;
   shut = reads.keeps.shut;
   counts = counted_keeps (keeper.refusals old) (keeper.refusals new) r reads.keeps.counted;
-}
-
-pub asks_none : {K : Type 0} (keeper : Ghosts K) (k : K) → Asks keeper k k
-asks_none keeper k = record {
-  same = λ trusted. refl;
-  setup = refl;
-  before = λ trusted. trusted;
-  legible = λ trusted was. was;
-  clean = λ clean. clean;
-  faults = omega arith;
-  shut = λ clean trusted. inl trusted;
-  counts = λ n rose. rose;
 }
 
 pub asks_then : {K : Type 0} (keeper : Ghosts K) (old mid new : K) → Asks keeper old mid → Asks keeper mid new → Asks keeper old new

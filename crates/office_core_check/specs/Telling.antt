@@ -1,7 +1,7 @@
 -- The line with the result of a check of a store, and the exit status.
 use Rattle.std.specs.Prelude.{ℕ, List, [], ◌∷◌, ◌++◌, codes, decimal}
 use Rattle.office_mail.specs.Lists.{Lists}
-use Rattle.office_core_orders.specs.Replies.{name_at}
+use Rattle.office_core_replies.specs.Replies.{name_at}
 use Rattle.office_core_check.specs.declared.Checked.{Checked}
 use Rattle.office_core_check.specs.declared.Checked.TheVariants.{Whole, Differs, Unread}
 use Rattle.office_core_check.specs.declared.Difference.{Difference}

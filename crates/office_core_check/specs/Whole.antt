@@ -1,4 +1,5 @@
--- What a check finds of a store: that it is legible and holds what an office leaves, or where it doesn't. That a store is checked is this office's own.
+-- What a check finds of a store: that it is legible and holds what an office leaves, or where it doesn't. That a store
+-- is checked is this office's own.
 use Rattle.std.specs.Prelude.{◌≡◌, ◌≢◌, ℕ, ◌<◌, ◌≤◌, Bool, true, false, List, length, Option, Some, IsSome, Result, Ok, Err, option_map}
 use Rattle.std.specs.FinMap.{get}
 use Rattle.office_mail.specs.Counts.{HasRisen}
@@ -46,9 +47,9 @@ IsDifference setup content legible Testing = content.testing ≢ testing_after s
 IsDifference setup content legible Facts = KeepsFacts setup content → ⊥
 IsDifference setup content legible Tables = legible → ⊥
 
--- What is found of a store, which was legible before or not, and is after it or not: it is legible and holds what an office
--- leaves; or there is a difference, where its mail is of senders of the setup; or a row doesn't read, as in no legible store
--- that an office left.
+-- What is found of a store, which was legible before or not, and is after it or not: it is legible and holds what an
+-- office leaves; or there is a difference, if its mail is of senders of the setup; or a row doesn't read, as in no
+-- legible store that an office left.
 abbrev pub IsFound : Lists → Content → Type 0 → Type 0 → Checked → Type 0
 IsFound setup content was legible (Whole runs) = (runs ≡ length content.reports) × legible × IsOffice setup content
 IsFound setup content was legible (Differs difference) = AreOfSenders setup content.kept → IsDifference setup content legible difference

@@ -1,18 +1,18 @@
 //! What a store holds of its runs, compared with what a rebuilt office holds.
-#![tactic(auto, using(office_core_orders::proofs::LastFacts::lasting))]
+#![tactic(auto, using(office_core_store::proofs::LastFacts::lasting))]
 
 ghost use Rattle.std.specs.Prelude.{◌≡◌, ◌↔◌, ◌+◌, IsTrue, Ok, IfOk, IfErr};
 ghost use Rattle.office_store_keeper.specs.Content.{item_from_one};
 ghost use Rattle.office_store_keeper.specs.FactSet.{rows_in};
 ghost use Rattle.office_store_keeper.specs.MemoryState.{content_of};
 ghost use Rattle.office_store_keeper.specs.declared.faults.KeepFault.{KeepFault};
-ghost use Rattle.office_core_orders.specs.declared.faults.StoreFault.TheVariants.{NoMemory};
-ghost use Rattle.office_core_orders.specs.steps.ReadsStore.{ReadsStore};
+ghost use Rattle.office_core_store.specs.declared.faults.StoreFault.TheVariants.{NoMemory};
+ghost use Rattle.office_core_store.specs.ReadsStore.{ReadsStore};
 ghost use Rattle.office_core_check.specs.steps.Comparing.{AreRunsCompared, IsCompared, IsRunDifference};
 
 use crate::Difference;
 use crate::memory::Bounded;
-use office_core_orders::StoreFault;
+use office_core_store::StoreFault;
 use office_store_keeper::{KeepFault, Keeper, Reports};
 use testing_rules_model::{Same, are_same};
 use testing_rules_suites::Testing;

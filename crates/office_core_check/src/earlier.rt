@@ -1,14 +1,14 @@
 //! An office in memory as an earlier run of a store left it, and what offices report on a run.
-#![tactic(auto, using(office_core_orders::proofs::LastFacts::lasting))]
+#![tactic(auto, using(office_core_store::proofs::LastFacts::lasting))]
 
 ghost use Rattle.std.specs.Prelude.{◌≡◌, ◌↔◌, ◌≤◌, ℕ, List, Option, Some, IsTrue, is_ok, IfOk, IfErr, OnOk, length};
 ghost use Rattle.office_mail.specs.Lists.{Lists};
 ghost use Rattle.office_store_keeper.specs.Content.{Content};
 ghost use Rattle.office_store_keeper.specs.MemoryState.{content_of};
-ghost use Rattle.office_core_orders.specs.Counted.{Counted};
-ghost use Rattle.office_core_orders.specs.declared.faults.StoreFault.TheVariants as fault;
-ghost use Rattle.office_core_orders.specs.steps.ReadsStore.{ReadsStore};
-ghost use Rattle.office_core_orders.specs.StaysTrusted.{StaysTrusted};
+ghost use Rattle.office_core_store.specs.Counted.{Counted};
+ghost use Rattle.office_core_store.specs.declared.faults.StoreFault.TheVariants as fault;
+ghost use Rattle.office_core_store.specs.ReadsStore.{ReadsStore};
+ghost use Rattle.office_core_store.specs.StaysTrusted.{StaysTrusted};
 ghost use Rattle.office_core.specs.Preserves.{AsksOffice, Holds};
 ghost use Rattle.office_core_facts.specs.State.{state_of};
 ghost use Rattle.office_core_why.specs.declared.WhyText.{WhyText};
@@ -21,7 +21,7 @@ ghost use Rattle.office_core_check.specs.declared.memory.Bounded.{Bounded};
 use crate::memory::Bounded;
 use crate::rebuilt::{make_anew, new_office};
 use office_core::Office;
-use office_core_orders::StoreFault;
+use office_core_store::StoreFault;
 use office_core_why::WhyText;
 use office_mail::Setup;
 use office_store_keeper::Keeper;

@@ -1,12 +1,12 @@
 //! The kept mail of a store, text by text.
-#![tactic(auto, using(office_core_orders::proofs::LastFacts::lasting))]
+#![tactic(auto, using(office_core_store::proofs::LastFacts::lasting))]
 
 ghost use Rattle.std.specs.Prelude.{◌≡◌, IfOk};
 ghost use Rattle.office_store_keeper.specs.Content.{IsNextNumber, letter_at};
-ghost use Rattle.office_core_orders.specs.steps.ReadsStore.{ReadsStore};
+ghost use Rattle.office_core_store.specs.ReadsStore.{ReadsStore};
 ghost use Rattle.office_core_check.specs.steps.Reading.{IsFrom, IsLetterFrom, IsNextLetter};
 
-use office_core_orders::StoreFault;
+use office_core_store::StoreFault;
 use office_store_keeper::{Keeper, Letter};
 
 /// A number, if it isn't below another.

@@ -1,6 +1,6 @@
-//! Whether a store's tables hold what an office leaves, and no row more: all its runs are made anew from the mail that it keeps,
-//! and what it holds of them is compared. And an office in memory as an earlier run of a store left it, which is made of the same
-//! mail; and what an office tells of a source for a run.
+//! Whether a store's tables hold what an office leaves, and no row more: all its runs are made anew from the mail that
+//! it keeps, and what it holds of them is compared. And an office in memory as an earlier run of a store left it, which
+//! is made of the same mail; and what an office tells of a source for a run.
 #![tactic(auto)]
 
 mod comparison;

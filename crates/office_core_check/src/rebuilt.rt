@@ -1,13 +1,13 @@
 //! An office that is rebuilt from the mail of a store.
-#![tactic(auto, using(office_core_orders::proofs::LastFacts::lasting))]
+#![tactic(auto, using(office_core_store::proofs::LastFacts::lasting))]
 
 ghost use Rattle.std.specs.Prelude.{◌≡◌, ◌≢◌, ◌≤◌, IsTrue, false, Some, None, Ok, IfOk, IfErr, IfSome};
 ghost use Rattle.std.specs.FinMap.{get, insert};
 ghost use Rattle.office_mail.specs.Kept.{placed};
 ghost use Rattle.office_store_keeper.specs.Content.{no_content};
 ghost use Rattle.office_store_keeper.specs.MemoryState.{content_of};
-ghost use Rattle.office_core_orders.specs.declared.faults.StoreFault.TheVariants as fault;
-ghost use Rattle.office_core_orders.specs.steps.ReadsStore.{ReadsStore};
+ghost use Rattle.office_core_store.specs.declared.faults.StoreFault.TheVariants as fault;
+ghost use Rattle.office_core_store.specs.ReadsStore.{ReadsStore};
 ghost use Rattle.office_core_check.specs.steps.Comparing.{IsAnew, IsTaken, IsAllTaken, IsShort, IsMade};
 ghost use Rattle.office_core_check.specs.steps.Reading.{IsFront, IsOther};
 
@@ -16,7 +16,8 @@ use crate::letters::letter_from;
 use crate::memory::Bounded;
 use deb_control::NoMemory;
 use office_core::Office;
-use office_core_orders::{DeliverFault, Held, StoreFault};
+use office_core_replies::{DeliverFault, Held};
+use office_core_store::StoreFault;
 use office_mail::{MAX_NUMBER, MailFault, Setup};
 use office_store_keeper::{Keeper, Letter};
 use std::alloc::Global;

@@ -4,7 +4,7 @@ ghost use Rattle.office_core_check.specs.Telling.{checked_text, checked_words, d
 
 use crate::{Checked, Difference, Part};
 use deb_control::{NoMemory, Text};
-use office_core_orders::name_at;
+use office_core_replies::name_at;
 use office_mail::Setup;
 use std::alloc::{AllocError, Global};
 
@@ -65,9 +65,9 @@ fn checked_words(alloc: Global, setup: &Setup, checked: Checked) -> Result<Strin
     }
 }
 
-/// The line that tells what a check found: `whole N runs`, or else the difference as `mail SENDER NUMBER`, `run K mail`,
-/// `run K excuses`, `run K update`, `testing`, `facts` or `tables`; or `unread` and the part of which a row doesn't read, as
-/// `office`, `mail SENDER`, `run K`, `testing` or `facts`.
+/// The line that tells what a check found: `whole N runs`, or else the difference as `mail SENDER NUMBER`, `run K
+/// mail`, `run K excuses`, `run K update`, `testing`, `facts` or `tables`; or `unread` and the part of which a row
+/// doesn't read, as `office`, `mail SENDER`, `run K`, `testing` or `facts`.
 #[tactic(auto, unfolding(crate::specs::Telling::checked_text))]
 pub fn checked_text(alloc: Global, setup: &Setup, checked: Checked) -> Result<Text, NoMemory>
     ensures { IfOk result (λ text. text ≡ checked_text setup.now checked) }

@@ -1,11 +1,11 @@
 //! Whether a store holds what an office leaves.
-#![tactic(auto, using(office_core_orders::proofs::LastFacts::lasting))]
+#![tactic(auto, using(office_core_store::proofs::LastFacts::lasting))]
 
 ghost use Rattle.std.specs.Prelude.{◌≡◌, ◌≢◌, ◌≤◌, None, Err, IfOk, length};
 ghost use Rattle.std.specs.FinMap.{len};
 ghost use Rattle.office_store_keeper.specs.MemoryState.{content_of};
-ghost use Rattle.office_core_orders.specs.steps.ReadsStore.{ReadsStore};
-ghost use Rattle.office_core_orders.specs.StaysTrusted.{StaysTrusted};
+ghost use Rattle.office_core_store.specs.ReadsStore.{ReadsStore};
+ghost use Rattle.office_core_store.specs.StaysTrusted.{StaysTrusted};
 ghost use Rattle.office_core_facts.specs.State.{IsOffice};
 ghost use Rattle.office_core_check.specs.steps.Comparing.{IsAnew, IsMade, IsReadAs};
 ghost use Rattle.office_core_check.specs.steps.Reading.{IsFront};
@@ -19,7 +19,7 @@ use crate::rebuilt::{make_anew, new_office};
 use crate::unread::unread_part;
 use crate::{Checked, Difference};
 use office_core::Office;
-use office_core_orders::StoreFault;
+use office_core_store::StoreFault;
 use office_mail::Setup;
 use office_store_keeper::{Cause, KeepFault, Keeper};
 use sqlite::Error;
@@ -96,8 +96,7 @@ fn check_anew<K: Keeper>(
     check_beside(keeper, &mut made, unmade?, runs)
 }
 
-/// What is found of a store of which every row reads. A store that refuses is one of which a row doesn't, or whose database
-/// failed.
+/// What is found of a store whose rows all read. A store that refuses has a row that doesn't, or its database failed.
 fn check_read<K: Keeper>(
     alloc: Global,
     setup: &Setup,
@@ -143,12 +142,13 @@ fn tell_fault<K: Keeper>(
     }
 }
 
-/// Makes all finished runs of a store anew, in memory, from the mail that it keeps, and finds where it differs first from what
-/// an office leaves that took this mail: a text that isn't a message of its sender and number, a run that isn't ready, the
-/// reports of each run, testing, or the rows of facts; and then whether the store keeps any row more. Where a row doesn't read,
-/// it finds of which part. The store stays as it is, but for what it has in memory to speed the next run.
+/// Makes all finished runs of a store anew, in memory, from the mail that it keeps, and finds where it differs first
+/// from what an office leaves that took this mail: a text that isn't a message of its sender and number, a run that
+/// isn't ready, the reports of each run, testing, or the rows of facts; and then whether the store keeps any row more.
+/// If a row doesn't read, it finds the part that has it. The store stays as it is, but for what it has in memory to
+/// speed the next run.
 ///
-/// It fails for want of memory or of the database alone.
+/// It fails only if memory runs out or the database fails.
 pub fn check<K: Keeper>(alloc: Global, setup: &Setup, keeper: &mut K) -> Result<Checked, KeepFault>
     requires lists { K.setup keeper.old ≡ setup.now }
     // What an office leaves is found whole.

@@ -125,8 +125,8 @@ fn unread_before<K: Keeper>(keeper: &mut K, senders: u32) -> Option<Part>
     unread_mail(keeper, senders)
 }
 
-/// The first part of a store with so many senders of which a row doesn't read: of the office's row, mail, the reports of
-/// runs, testing and facts.
+/// The first part of a store with so many senders that has a row that doesn't read: the office's row, mail, the reports
+/// of runs, testing or facts.
 pub(crate) fn unread_part<K: Keeper>(keeper: &mut K, senders: u32) -> Option<Part>
     ensures { LooksForPart K.Keeper keeper.old keeper.new result }
 {

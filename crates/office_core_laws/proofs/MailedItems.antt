@@ -24,7 +24,7 @@ use Rattle.testing_rules_model.specs.Unstable.{build_order, is_above_drops, row_
 use Rattle.testing_rules_model.proofs.Least.{to_filter}
 use Rattle.testing_rules_model.proofs.MoreMail.{nat_tied, then_equal}
 use Rattle.testing_rules_model.proofs.Orders.{build_total}
-use Rattle.testing_rules_model.proofs.SameFacts.{builds_bear, one_build}
+use Rattle.testing_rules_model.proofs.SameFacts.{builds_numbered, one_build}
 use Rattle.testing_rules_model.proofs.Sets.{given_by, gives, mapped_from, maps, spread_from, spreads}
 use Rattle.office_core_laws.specs.FromUnstable.{AreAmong, package_item}
 use Rattle.office_core_laws.specs.Mailed.{IsToldBy, SaysDue, build_item, built_items, drop_item, dropped_items}
@@ -38,8 +38,8 @@ tied_builds s one x y c d e =
     let l = then_equal (nat_cmp x.number y.number) (nat_cmp x.place y.place) j.1 in
     let m = spread_from builds_of s x c in
     let o = spread_from builds_of s y d in
-    let bm = builds_bear m.0.sender m.0.number m.0.item x m.2 in
-    let bo = builds_bear o.0.sender o.0.number o.0.item y o.2 in
+    let bm = builds_numbered m.0.sender m.0.number m.0.item x m.2 in
+    let bo = builds_numbered o.0.sender o.0.number o.0.item y o.2 in
     let same = one m.0 o.0 m.1 o.1 (sym bm.0 ∙ nat_tied x.sender y.sender j.0 ∙ bo.0) (sym bm.1 ∙ nat_tied x.number y.number l.0 ∙ bo.1) in
     one_build m.0.sender m.0.number m.0.item x y m.2 (subst (λ w. Contains (builds_of w) y) (sym same) o.2) (nat_tied x.place y.place l.1)
 

@@ -30,7 +30,7 @@ use Rattle.office_mail.proofs.KeptFacts.{kept_from-Within, kept_from-free, place
 use Rattle.office_mail.proofs.RunFacts.{IsReady-later}
 use Rattle.deb_control.specs.Text.{trim_white}
 use Rattle.office_core_orders.specs.Ready.{HasEach, HasNumbers, HasPlaces}
-use Rattle.office_core_orders.specs.Replies.{name_at}
+use Rattle.office_core_replies.specs.Replies.{name_at}
 use Rattle.office_core_orders.proofs.ReadyCount.{ready_more}
 use Rattle.office_core.specs.Unbroken.{AreUnbroken}
 use Rattle.office_core_queries.specs.Listing.{listed_words, stated_at, stated_to, stated_words}

@@ -6,13 +6,8 @@ use Rattle.std.specs.List.{flat_map, list_all, list_any}
 use Rattle.std.specs.Str.{bytes_eq}
 use Rattle.std.proofs.lemmas.Bool.{false≢true}
 use Rattle.std.proofs.lemmas.Slice.Eq.{bytes_eq-Decides}
-use Rattle.jiff_core.specs.declared.civil.date.Date.{Date}
 use Rattle.testing_rules_items.specs.Words.{Text}
 use Rattle.testing_rules_items.proofs.Members.{none_among, head_of}
-use Rattle.testing_rules_model.specs.Covered.{Covered}
-use Rattle.testing_rules_model.specs.FactLists.{FactLists}
-use Rattle.testing_rules_model.specs.StandsFor.{StandsFor}
-use Rattle.testing_rules_model.specs.Suite.{Suite}
 use Rattle.testing_rules_model.specs.declared.update.Decision.{Decision}
 use Rattle.testing_rules_model.specs.declared.update.Decision.TheVariants.{RemoveDone, RemoveRefused, EasyDone, EasyNotCandidate, EasyRefused, Accept, Wait}
 use Rattle.testing_rules_model.specs.declared.update.Moved.{Moved}
@@ -20,9 +15,8 @@ use Rattle.testing_rules_model.proofs.Sets.{first_or_rest, mapped_from, maps, sp
 use Rattle.testing_rules_refusals.proofs.Coming.{any_of, has_named, some_of}
 use Rattle.testing_rules_refusals.proofs.Failings.{first_of_both, second_of_both}
 use Rattle.testing_rules_reports.specs.steps.LentLines.{has_line}
-use Rattle.office_mail.specs.Lists.{Lists}
-use Rattle.office_core_outcome.specs.Proposal.{KeepsMoves, decisions_by, is_moved}
-use Rattle.office_core_outcome.specs.steps.Settled.{KeepsRun, names_in}
+use Rattle.office_core_outcome.specs.Proposal.{KeepsMoves, is_moved}
+use Rattle.office_core_outcome.specs.steps.Settled.{names_in}
 
 -- what is moved is named
 moved_named : (d : Decision) (source : Text) → is_moved source d ≡ true → Contains (names_in d) source
@@ -68,7 +62,3 @@ kept_by one other keys names after before behind has all = λ source moves.
     let there : list_any (bytes_eq source) after ≡ true = sym (has source) ∙ each_of (has_line keys) names source all (subst (λ (ns : List Text). Contains ns source) (sym before) named) in
     let e = spread_from names_in other source (subst (λ (ns : List Text). Contains ns source) behind (has_named after source there)) in
     any_of (is_moved source) other e.0 e.1 (named_moved e.0 source e.2)
-
--- what a run over the facts moves is kept
-pub kept_run : (setup : Lists) (date : Date) (facts : FactLists) (t : Suite) (base ds : List Decision) → ((s : Covered) → StandsFor facts s t → base ≡ decisions_by setup date s t) → KeepsMoves base ds → KeepsRun setup date facts t ds
-kept_run setup date facts t base ds by keeps = λ s stands. subst (λ (b : List Decision). KeepsMoves b ds) (by s stands) keeps

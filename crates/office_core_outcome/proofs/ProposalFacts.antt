@@ -15,7 +15,7 @@ use Rattle.office_core_outcome.specs.declared.TrialOptions.{TrialOptions}
 use Rattle.office_core_outcome.specs.declared.proposal.Proposal.{Proposal}
 use Rattle.office_core_outcome.specs.Hints.{first_refused, hint_letters, with_letters}
 use Rattle.office_core_outcome.specs.Proposal.{AreAnswers, IsProposed, KeepsMoves, are_done, decisions_by, tried_decisions}
-use Rattle.office_core_outcome.specs.steps.Settled.{AreAnswersOver, IsSettled, KeepsRun}
+use Rattle.office_core_outcome.specs.steps.Settled.{AreAnswersOver, IsSettled, KeepsMovesOver}
 use Rattle.office_core_facts.specs.Outcome.{outcome, testing_after}
 use Rattle.testing_rules_reports.specs.Reports.{update_text}
 use Rattle.office_core_outcome.specs.declared.Trial.TheVariants.{Told}
@@ -67,7 +67,7 @@ module _ (setup : Lists) (kept : Kept) (k : ℕ) (date : Date) (covers : ℕ →
       ∙ settled.done
 
   -- and move all that the run moves without the hints
-  pub keeps_over : KeepsRun setup date facts t ds
+  pub keeps_over : KeepsMovesOver setup date facts t ds
       → KeepsMoves (decisions_by setup date mail (testing_after setup kept k)) (tried_decisions setup kept k date covers hints)
   keeps_over keeps =
       subst (λ (old : Suite). KeepsMoves (decisions_by setup date mail old) (tried_decisions setup kept k date covers hints)) before

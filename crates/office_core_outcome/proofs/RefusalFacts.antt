@@ -16,7 +16,7 @@ use Rattle.testing_rules_model.specs.declared.update.Decision.{Decision}
 use Rattle.testing_rules_reports.specs.Reports as texts
 use Rattle.testing_rules_reports.specs.declared.hint_lines.Decided.{Decided}
 use Rattle.office_mail.specs.Lists.{Lists}
-use Rattle.office_core_orders.specs.Replies.{name_at}
+use Rattle.office_core_replies.specs.Replies.{name_at}
 use Rattle.office_core_facts.specs.Seen.{release}
 use Rattle.office_core_facts.specs.Outcome.{outcome, testing_text}
 use Rattle.office_core_outcome.specs.declared.rules.Ruled.{Ruled}

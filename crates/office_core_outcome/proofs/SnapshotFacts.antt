@@ -8,15 +8,15 @@ use Rattle.office_core_outcome.specs.declared.TrialOptions.{TrialOptions}
 use Rattle.office_core_outcome.specs.declared.Trial.TheVariants.{NoDate}
 use Rattle.office_core_outcome.specs.declared.snapshot.Snapshot.{Snapshot}
 use Rattle.office_core_outcome.specs.Trial.{IsTrial, trial_date}
-use Rattle.office_core_outcome.specs.steps.Snapshot.{IsFound, IsTrialRun}
+use Rattle.office_core_outcome.specs.steps.Snapshot.{IsFoundSnapshot, IsTrialSnapshot}
 use Rattle.office_core_outcome.proofs.TryFacts.{is_trial}
 
 -- a snapshot that is found is one of the trial's run
-pub trial_run : (setup : Lists) (content : Content) (legible : Type 0) (terms : TrialOptions) (o : Snapshot) → IsFound setup content legible terms (Some o) → legible → IsTrialRun setup content.kept (length content.reports) terms o
-trial_run setup content legible terms o found so = record { covers = found.covers; are = found.are; few = found.few; dated = found.dated; is = found.is so }
+pub found_trial : (setup : Lists) (content : Content) (legible : Type 0) (terms : TrialOptions) (o : Snapshot) → IsFoundSnapshot setup content legible terms (Some o) → legible → IsTrialSnapshot setup content.kept (length content.reports) terms o
+found_trial setup content legible terms o found so = record { covers = found.covers; are = found.are; few = found.few; dated = found.dated; is = found.is so }
 
 -- where none is, the trial has no date
-pub no_date : (setup : Lists) (content : Content) (legible : Type 0) (terms : TrialOptions) (hints : List (List ℕ)) → IsFound setup content legible terms None → IsTrial setup content.kept (length content.reports) terms hints NoDate
+pub no_date : (setup : Lists) (content : Content) (legible : Type 0) (terms : TrialOptions) (hints : List (List ℕ)) → IsFoundSnapshot setup content legible terms None → IsTrial setup content.kept (length content.reports) terms hints NoDate
 no_date setup content legible terms hints found =
     is_trial setup content.kept (length content.reports) terms hints found.covers None NoDate [] found.are found.dated refl tt
 
@@ -25,6 +25,6 @@ none_mapped None = refl
 none_mapped (Some o) = refl
 
 -- and only there
-pub found_dated : (setup : Lists) (content : Content) (legible : Type 0) (terms : TrialOptions) (found : Option Snapshot) → IsFound setup content legible terms found
+pub found_dated : (setup : Lists) (content : Content) (legible : Type 0) (terms : TrialOptions) (found : Option Snapshot) → IsFoundSnapshot setup content legible terms found
     → is_none found ≡ is_none (trial_date (latest_day (orders_to setup content.kept (length content.reports))) terms.day)
 found_dated setup content legible terms found is = none_mapped found ∙ ap is_none is.dated

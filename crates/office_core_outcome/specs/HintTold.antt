@@ -14,7 +14,7 @@ use Rattle.testing_rules_reports.specs.Changes.{behind}
 use Rattle.office_mail.specs.Lists.{Lists}
 use Rattle.office_mail.specs.Kept.{Kept}
 use Rattle.office_mail.specs.Runs.{cover, latest_day, orders_to}
-use Rattle.office_core_orders.specs.Replies.{name_at}
+use Rattle.office_core_replies.specs.Replies.{name_at}
 use Rattle.office_core_facts.specs.Outcome.{outcome, testing_after}
 use Rattle.office_core_facts.specs.Seen.{items_within, release}
 use Rattle.office_core_outcome.specs.declared.HintText.{HintText}

@@ -7,7 +7,7 @@ use Rattle.office_mail.specs.declared.message.MailFault.TheVariants.{BadNumber}
 use Rattle.office_mail.specs.Lists.{Lists}
 use Rattle.office_mail.specs.Read.{read}
 use Rattle.office_store_keeper.specs.declared.values.Letter.{Letter}
-use Rattle.office_core_orders.specs.Replies.{name_at}
+use Rattle.office_core_replies.specs.Replies.{name_at}
 use Rattle.office_core_facts.specs.Outcome.{item_at}
 use Rattle.office_core_facts.specs.Seen.{release}
 use Rattle.office_core_outcome.specs.declared.RefusedHint.{RefusedHint}

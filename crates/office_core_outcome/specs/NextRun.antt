@@ -25,8 +25,8 @@ AreSaid setup kept sender letters = (letter : Letter) → Contains letters lette
 abbrev pub covers_with : Lists → (ℕ → ℕ) → ℕ → ℕ → ℕ
 covers_with setup covers count sender = if sender == release setup then covers sender + count else covers sender
 
--- Later mail holds what is kept, messages that say the hints, and the order of run k + 1, which has the date of a trial and covers what
--- the trial did, and the hints.
+-- Later mail holds what is kept, messages that say the hints, and the order of run k + 1, which has the date of a trial
+-- and covers what the trial did, and the hints.
 pub record HasCome (setup : Lists) (kept late : Kept) (k : ℕ) (date : Date) (covers : ℕ → ℕ) (hints : List (List ℕ)) : Type 0 where
   pub within : Within kept late
   pub letters : AreSaid setup late (release setup) (hint_letters setup (covers (release setup)) hints)

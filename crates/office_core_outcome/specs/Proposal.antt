@@ -86,14 +86,14 @@ abbrev pub IsAnswer : Option Text → (Text → Type 0) → Option Text → Type
 IsAnswer (Some line) Shows text = text ≡ Some line
 IsAnswer None Shows text = IfSome text Shows
 
--- that is told of each of the sources: the text shows that no group frees the source, and there is none for one that moved
+-- that is told of each of the sources: the text shows that no group frees it, and there is none for one that moved
 abbrev pub AreAnswers : List Text → Date → Covered → Suite → List Decision → List Text → List (Option Text) → Type 0
 AreAnswers archs date mail t ds sources texts =
     AllZip (λ source text. IsAnswer (line_of archs date mail t source) (λ shown. (list_any (is_moved source) ds ≡ false) × IsShownStuck archs date mail t source shown) text) sources texts
 
--- Proposed behind k finished runs: a trial on these terms takes the hints, its run moves the group of each, and all that moves without the
--- hints. Those of the sources that are said to be freed are those that it moves. The answers tell of each of the sources whether it is
--- a candidate, and what shows that no group frees it.
+-- Proposed behind k finished runs: a trial on these terms takes the hints, its run moves the group of each, and all
+-- that moves without the hints. Those of the sources that are said to be freed are those that it moves. The answers
+-- tell of each of the sources whether it is a candidate, and what shows that no group frees it.
 pub record IsProposed (setup : Lists) (kept : Kept) (k : ℕ) (terms : TrialOptions) (sources : List Text) (p : Proposal) : Type 0 where
   pub covers : ℕ → ℕ
   pub are : AreTrialCovers setup kept k terms.all covers

@@ -9,7 +9,7 @@ use Rattle.testing_rules_model.specs.Unstable.{hints_by_number, unhints_by_numbe
 use Rattle.office_mail.specs.Lists.{Lists}
 use Rattle.office_mail.specs.Kept.{Kept}
 use Rattle.office_mail.specs.Runs.{later, latest_day, orders_to}
-use Rattle.office_core_orders.specs.Replies.{name_at}
+use Rattle.office_core_replies.specs.Replies.{name_at}
 use Rattle.office_core_facts.specs.Outcome.{Outcome, outcome, testing_after, testing_text}
 use Rattle.office_core_facts.specs.Seen.{AreTrialCovers, items_within, release}
 use Rattle.testing_rules_reports.specs.declared.hint_lines.Decided.{Decided}

@@ -20,7 +20,7 @@ use jiff_core::civil::Date;
 use office_core_facts::choice::Choice;
 use office_core_facts::release::release_place;
 use office_core_facts::walk::take_letters;
-use office_core_orders::name_at;
+use office_core_replies::name_at;
 use office_mail::Setup;
 use office_store_keeper::Letter;
 use std::alloc::Global;

@@ -1,5 +1,5 @@
 //! What a run makes of one hint, in lines.
-#![tactic(auto, using(office_core_orders::proofs::LastFacts::lasting))]
+#![tactic(auto, using(office_core_store::proofs::LastFacts::lasting))]
 
 ghost use Rattle.std.specs.Prelude.{is_none, ◌≡◌, ◌+◌, ◌++◌, ℕ, [], IfOk, IfSome, OnOk, filter, length, option_copied, string_bytes};
 ghost use Rattle.std.specs.List.{flat_map};
@@ -10,12 +10,12 @@ ghost use Rattle.testing_rules_reports.specs.Changes.{behind};
 ghost use Rattle.testing_rules_reports.specs.steps.LentLines.{lent_lines};
 ghost use Rattle.office_mail.specs.Kept.{Kept};
 ghost use Rattle.office_mail.specs.Runs.{order_at};
-ghost use Rattle.office_core_orders.specs.steps.ReadsStore.{ReadsStore};
+ghost use Rattle.office_core_store.specs.ReadsStore.{ReadsStore};
 ghost use Rattle.office_core_facts.specs.Known.{AreKnown};
 ghost use Rattle.office_core_facts.specs.State.{IsOffice};
 ghost use Rattle.office_core_outcome.specs.HintTold.{IsHintText, IsHintTold, begins_with_either, front, hint_text, lines_on_hint, lines_or_standing, standing_of};
 ghost use Rattle.office_core_outcome.specs.steps.RuleSteps.{IsRuled};
-ghost use Rattle.office_core_outcome.specs.steps.Snapshot.{IsOrderedRun};
+ghost use Rattle.office_core_outcome.specs.steps.Snapshot.{IsOrderedSnapshot};
 
 use crate::HintText;
 use crate::hint_trials::keep_suites;
@@ -29,7 +29,8 @@ use jiff_core::civil::Date;
 use office_core_facts::covered::KnownFacts;
 use office_core_facts::last_run::give_back;
 use office_core_facts::release::release_place;
-use office_core_orders::{StoreFault, name_at};
+use office_core_replies::name_at;
+use office_core_store::StoreFault;
 use office_mail::Setup;
 use office_store_keeper::Keeper;
 use std::alloc::{AllocError, Global};
@@ -201,7 +202,7 @@ fn told_of(
     number: u32,
 ) -> Result<(Testing, HintText), NoMemory>
     ensures before { IfOk result (λ o. o.0 ≡ snapshot.testing) }
-    ensures told { IfOk result (λ o. (kept : Kept) (k : ℕ) → IsOrderedRun setup.now kept k snapshot → IsHintTold setup.now kept k number o.1) }
+    ensures told { IfOk result (λ o. (kept : Kept) (k : ℕ) → IsOrderedSnapshot setup.now kept k snapshot → IsHintTold setup.now kept k number o.1) }
 {
     let Snapshot {
         run,

@@ -8,7 +8,7 @@ ghost use Rattle.testing_rules_model.specs.StandsFor.{StandsFor};
 ghost use Rattle.office_core_facts.specs.Seen.{release};
 ghost use Rattle.office_core_outcome.specs.Hints.{with_letters};
 ghost use Rattle.office_core_outcome.specs.Proposal.{KeepsMoves, decisions_by, freed_by, is_moved};
-ghost use Rattle.office_core_outcome.specs.steps.Settled.{IsSettledFor, KeepsRunFor};
+ghost use Rattle.office_core_outcome.specs.steps.Settled.{IsSettledFor, KeepsMovesFor};
 
 use crate::asked::Asked;
 use crate::decisions::take_all;
@@ -355,7 +355,7 @@ pub(crate) fn settle(
     requires base { (s : Covered) → StandsFor asked.now.facts.now s testing.old → base ≡ decisions_by asked.now.setup.now asked.now.date s testing.old }
     ensures same { testing.new ≡ testing.old }
     ensures settled { IfOk result (λ o. IsSettledFor asked.now testing.old o.0.items o.1) }
-    ensures keeps { IfOk result (λ o. KeepsRunFor asked.now testing.old o.1) }
+    ensures keeps { IfOk result (λ o. KeepsMovesFor asked.now testing.old o.1) }
 {
     if hints.is_empty() {
         return Ok((Vec::new(alloc), base));

@@ -8,7 +8,7 @@ ghost use Rattle.office_core_outcome.specs.Hints.{hint_text, hint_letter, hint_l
 use crate::RefusedHint;
 use deb_control::{NoMemory, Text};
 use office_core_facts::release::release_place;
-use office_core_orders::name_at;
+use office_core_replies::name_at;
 use office_mail::{MAX_NUMBER, MailFault, Setup, read_message};
 use office_store_keeper::{Letter, MailText};
 use std::alloc::{AllocError, Global};

@@ -96,14 +96,8 @@ fn push_kept_out_by(
     text.push('\n')
 }
 
-/// Adds the line on a source that a removal of the run has taken out of testing.
-fn push_removed(text: &mut String, name: &str, upload: &UploadIn) -> Result<(), AllocError>
-    ensures { OnOk result (string_bytes text.new ≡ string_bytes text.old ++ lines.kept_out_line name.now upload.now.version (codes "removal asked")) }
-{
-    push_kept_out_by(text, name, &upload.version, "removal asked")
-}
-
-/// Adds the line on a source with nothing to move, by its version in testing.
+/// Adds the line on a source with nothing to move, by its version in testing. A removal of the run has taken one without
+/// a version there out of testing.
 fn push_standing(
     text: &mut String,
     name: &str,
@@ -114,7 +108,7 @@ fn push_standing(
 {
     match version {
         Some(version) => push_there(text, name, version),
-        None => push_removed(text, name, upload),
+        None => push_kept_out_by(text, name, &upload.version, "removal asked"),
     }
 }
 

@@ -1,16 +1,16 @@
 //! The search for hints that the next run does.
-#![tactic(auto, using(office_core_orders::proofs::LastFacts::lasting))]
+#![tactic(auto, using(office_core_store::proofs::LastFacts::lasting))]
 
 ghost use Rattle.std.specs.Prelude.{◌≡◌, ℕ, IfOk, IfSome, is_none, length};
 ghost use Rattle.office_mail.specs.Kept.{Kept};
 ghost use Rattle.office_mail.specs.Runs.{latest_day, orders_to};
-ghost use Rattle.office_core_orders.specs.steps.ReadsStore.{ReadsStore};
+ghost use Rattle.office_core_store.specs.ReadsStore.{ReadsStore};
 ghost use Rattle.office_core_facts.specs.Known.{AreKnown};
 ghost use Rattle.office_core_facts.specs.State.{IsOffice};
 ghost use Rattle.office_core_outcome.specs.declared.TrialOptions.{TrialOptions};
 ghost use Rattle.office_core_outcome.specs.Proposal.{IsProposed, freed_by};
-ghost use Rattle.office_core_outcome.specs.steps.Settled.{AreAnswersFor, IsSettledFor, KeepsRunFor};
-ghost use Rattle.office_core_outcome.specs.steps.Snapshot.{IsTrialRun};
+ghost use Rattle.office_core_outcome.specs.steps.Settled.{AreAnswersFor, IsSettledFor, KeepsMovesFor};
+ghost use Rattle.office_core_outcome.specs.steps.Snapshot.{IsTrialSnapshot};
 ghost use Rattle.office_core_outcome.specs.Trial.{trial_date};
 
 use crate::TrialOptions;
@@ -23,7 +23,7 @@ use crate::stuck::stuck_texts;
 use deb_control::{NoMemory, Text};
 use office_core_facts::covered::KnownFacts;
 use office_core_facts::last_run::give_back;
-use office_core_orders::StoreFault;
+use office_core_store::StoreFault;
 use office_mail::Setup;
 use office_store_keeper::Keeper;
 use std::alloc::Global;
@@ -73,7 +73,7 @@ fn settled_hints(
 ) -> Result<SettledHints, NoMemory>
     ensures same { testing.new ≡ testing.old }
     ensures settled { IfOk result (λ o. IsSettledFor asked.now testing.old o.hints.items o.update) }
-    ensures keeps { IfOk result (λ o. KeepsRunFor asked.now testing.old o.update) }
+    ensures keeps { IfOk result (λ o. KeepsMovesFor asked.now testing.old o.update) }
     ensures freed { IfOk result (λ o. o.freed.items ≡ freed_by o.update asked.now.sources.now) }
     ensures answers { IfOk result (λ o. AreAnswersFor asked.now testing.old o.update o.answers.items) }
 {
@@ -103,7 +103,7 @@ fn proposal_of(
     sources: &[Text],
 ) -> Result<(Testing, Proposal), NoMemory>
     ensures before { IfOk result (λ o. o.0 ≡ snapshot.testing) }
-    ensures proposed { IfOk result (λ o. (kept : Kept) (k : ℕ) (terms : TrialOptions) → IsTrialRun setup.now kept k terms snapshot → IsProposed setup.now kept k terms sources.now o.1) }
+    ensures proposed { IfOk result (λ o. (kept : Kept) (k : ℕ) (terms : TrialOptions) → IsTrialSnapshot setup.now kept k terms snapshot → IsProposed setup.now kept k terms sources.now o.1) }
 {
     let Snapshot {
         run,

@@ -1,15 +1,15 @@
-//! A snapshot of the next run: what a question thinks about once the store has been asked.
-#![tactic(auto, using(office_core_orders::proofs::LastFacts::lasting))]
+//! A snapshot of the next run: what is read from the store before a question about that run is answered.
+#![tactic(auto, using(office_core_store::proofs::LastFacts::lasting))]
 
 ghost use Rattle.std.specs.Prelude.{◌≡◌, ◌+◌, ◌≤◌, ◌<◌, ℕ, Some, IfOk, IfSome, is_none, length, slice_index};
 ghost use Rattle.office_mail.specs.Runs.{cover_of, latest_day, order_at};
-ghost use Rattle.office_core_orders.specs.steps.ReadsStore.{ReadsStore};
+ghost use Rattle.office_core_store.specs.ReadsStore.{ReadsStore};
 ghost use Rattle.office_core_facts.specs.Known.{AreKnown};
 ghost use Rattle.office_core_facts.specs.State.{IsOffice};
 ghost use Rattle.office_core_facts.specs.steps.Last.{OfRuns};
 ghost use Rattle.office_core_facts.specs.steps.Stands.{OfNext};
 ghost use Rattle.office_core_outcome.specs.Trial.{trial_date};
-ghost use Rattle.office_core_outcome.specs.steps.Snapshot.{HasTesting, IsFound, IsOrderedRun, IsSnapshot};
+ghost use Rattle.office_core_outcome.specs.steps.Snapshot.{HasTesting, IsFoundSnapshot, IsOrderedSnapshot, IsSnapshot};
 
 use crate::TrialOptions;
 use jiff_core::civil::Date;
@@ -21,7 +21,7 @@ use office_core_facts::last_run::{FinishedRuns, finished_runs};
 use office_core_facts::release::release_place;
 use office_core_facts::taken::cover_of;
 use office_core_orders::orders::read_orders;
-use office_core_orders::{StoreFault, stored};
+use office_core_store::{StoreFault, stored};
 use office_mail::{RunOrder, Setup, latest_day};
 use office_store_keeper::Keeper;
 use std::alloc::Global;
@@ -65,8 +65,8 @@ fn trial_date(last: Option<Date>, day: Option<Date>) -> Option<Date>
     }
 }
 
-/// The testing before a run.
-pub(crate) fn testing_of(snapshot: Snapshot) -> Testing
+/// The testing before the run of a snapshot.
+pub(crate) fn testing_before(snapshot: Snapshot) -> Testing
     ensures { result ≡ snapshot.testing }
 {
     let Snapshot {
@@ -121,7 +121,7 @@ fn snapshot_after<K: Keeper>(
     terms: TrialOptions,
 ) -> Result<Option<Snapshot>, StoreFault>
     ensures kept { K.is_trusted keeper.new → K.is_legible keeper.new → IfOk result (HasTesting (K.content keeper.old)) }
-    ensures found { K.is_trusted keeper.new → OfRuns setup.now (K.content keeper.old) finished.now known.now (IfOk result (IsFound setup.now (K.content keeper.old) (K.is_legible keeper.new) terms)) }
+    ensures found { K.is_trusted keeper.new → OfRuns setup.now (K.content keeper.old) finished.now known.now (IfOk result (IsFoundSnapshot setup.now (K.content keeper.old) (K.is_legible keeper.new) terms)) }
     ensures looks { ReadsStore K.Keeper keeper.old keeper.new result }
 {
     let orders: &[RunOrder] = &finished.orders;
@@ -150,7 +150,7 @@ pub(crate) fn trial_snapshot<K: Keeper>(
 ) -> Result<Option<Snapshot>, StoreFault>
     requires known { K.is_trusted keeper.old → IfSome known.old (λ known. AreKnown setup.now (K.content keeper.old) known) }
     ensures kept { K.is_trusted keeper.new → K.is_legible keeper.new → IfOk result (HasTesting (K.content keeper.old)) }
-    ensures found { K.is_trusted keeper.new → IsOffice setup.now (K.content keeper.old) → IfOk result (IsFound setup.now (K.content keeper.old) (K.is_legible keeper.new) terms) }
+    ensures found { K.is_trusted keeper.new → IsOffice setup.now (K.content keeper.old) → IfOk result (IsFoundSnapshot setup.now (K.content keeper.old) (K.is_legible keeper.new) terms) }
     ensures known { K.is_trusted keeper.new → IfSome known.new (λ known. AreKnown setup.now (K.content keeper.new) known) }
     ensures looks { ReadsStore K.Keeper keeper.old keeper.new result }
 {
@@ -169,7 +169,7 @@ fn ordered_over<K: Keeper>(
     requires known { K.is_trusted keeper.old → IfSome before (λ known. AreKnown setup.now (K.content keeper.old) known) }
     ensures kept { K.is_trusted keeper.new → K.is_legible keeper.new → IfOk result (λ o. o.testing ≡ (K.content keeper.old).testing) }
     ensures is { K.is_trusted keeper.new → K.is_legible keeper.new → OfNext setup.now (K.content keeper.old) next.now.orders.now
-        (next.now.run ≡ length next.now.orders.now → latest_day next.now.orders.now ≡ Some next.now.date → IfOk result (IsOrderedRun setup.now (K.content keeper.old).kept (length (K.content keeper.old).reports))) }
+        (next.now.run ≡ length next.now.orders.now → latest_day next.now.orders.now ≡ Some next.now.date → IfOk result (IsOrderedSnapshot setup.now (K.content keeper.old).kept (length (K.content keeper.old).reports))) }
     ensures looks { ReadsStore K.Keeper keeper.old keeper.new result }
 {
     let left = facts(alloc, setup, keeper, before, next.orders)?;
@@ -197,7 +197,7 @@ pub(crate) fn ordered_snapshot<K: Keeper>(
     requires known { K.is_trusted keeper.old → IfSome before (λ known. AreKnown setup.now (K.content keeper.old) known) }
     ensures kept { K.is_trusted keeper.new → K.is_legible keeper.new → IfOk result (HasTesting (K.content keeper.old)) }
     ensures is { K.is_trusted keeper.new → K.is_legible keeper.new → IsOffice setup.now (K.content keeper.old)
-        → IfOk result (λ found. IfSome found (IsOrderedRun setup.now (K.content keeper.old).kept (length (K.content keeper.old).reports))) }
+        → IfOk result (λ found. IfSome found (IsOrderedSnapshot setup.now (K.content keeper.old).kept (length (K.content keeper.old).reports))) }
     ensures ordered { K.is_trusted keeper.new → IsOffice setup.now (K.content keeper.old)
         → IfOk result (λ found. is_none found ≡ is_none (order_at setup.now (K.content keeper.old).kept (length (K.content keeper.old).reports + 1))) }
     ensures looks { ReadsStore K.Keeper keeper.old keeper.new result }

@@ -1,26 +1,26 @@
 //! The trial of hints.
-#![tactic(auto, using(office_core_orders::proofs::LastFacts::lasting))]
+#![tactic(auto, using(office_core_store::proofs::LastFacts::lasting))]
 
 ghost use Rattle.std.specs.Prelude.{◌≡◌, ◌≤◌, ℕ, List, IfOk, IfSome, length};
 ghost use Rattle.office_mail.specs.Kept.{Kept};
-ghost use Rattle.office_core_orders.specs.steps.ReadsStore.{ReadsStore};
+ghost use Rattle.office_core_store.specs.ReadsStore.{ReadsStore};
 ghost use Rattle.office_core_facts.specs.Known.{AreKnown};
 ghost use Rattle.office_core_facts.specs.Seen.{release};
 ghost use Rattle.office_core_facts.specs.State.{IsOffice};
 ghost use Rattle.office_core_outcome.specs.declared.TrialOptions.{TrialOptions};
 ghost use Rattle.office_core_outcome.specs.Hints.{hint_letters};
 ghost use Rattle.office_core_outcome.specs.Trial.{IsTrial, trial_text};
-ghost use Rattle.office_core_outcome.specs.steps.Snapshot.{IsSnapshot, IsTrialRun};
+ghost use Rattle.office_core_outcome.specs.steps.Snapshot.{IsSnapshot, IsTrialSnapshot};
 ghost use Rattle.office_core_outcome.specs.steps.TrialSteps.{IsTried};
 
 use crate::decisions::{ToldRun, TriedRun, decide_both};
 use crate::hints::take_hints;
-use crate::snapshot::{Snapshot, testing_of, trial_snapshot};
+use crate::snapshot::{Snapshot, testing_before, trial_snapshot};
 use crate::{Trial, TrialOptions};
 use deb_control::{NoMemory, Text};
 use office_core_facts::covered::KnownFacts;
 use office_core_facts::last_run::give_back;
-use office_core_orders::StoreFault;
+use office_core_store::StoreFault;
 use office_mail::Setup;
 use office_store_keeper::{Keeper, Letter};
 use std::alloc::Global;
@@ -93,12 +93,12 @@ fn trial_of(
     hints: &[Text],
 ) -> Result<(Testing, Trial), NoMemory>
     ensures before { IfOk result (λ o. o.0 ≡ snapshot.testing) }
-    ensures tried { IfOk result (λ o. (kept : Kept) (k : ℕ) (terms : TrialOptions) → IsTrialRun setup.now kept k terms snapshot → IsTrial setup.now kept k terms hints.now o.1) }
+    ensures tried { IfOk result (λ o. (kept : Kept) (k : ℕ) (terms : TrialOptions) → IsTrialSnapshot setup.now kept k terms snapshot → IsTrial setup.now kept k terms hints.now o.1) }
 {
     let mut letters = Vec::new(alloc);
     let number = snapshot.behind;
     if let Some(refused) = take_hints(alloc, setup, &mut letters, number, hints)? {
-        return Ok((testing_of(snapshot), Trial::Refused(refused)));
+        return Ok((testing_before(snapshot), Trial::Refused(refused)));
     }
     let (before, report, reasons) = trial_of_letters(alloc, setup, snapshot, &letters)?;
     Ok((before, Trial::Told(report, reasons)))

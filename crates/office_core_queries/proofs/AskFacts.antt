@@ -1,11 +1,11 @@
 -- Questions to an office, one after another, with what is written meanwhile.
 use Rattle.std.proofs.Common.{◌≡◌, ℕ, Bool, true, Result, Ok, is_ok, refl, subst}
 use Rattle.office_store_keeper.specs.declared.keeper.Keeper.{Ghosts}
-use Rattle.office_core_orders.specs.Counted.{Counted}
-use Rattle.office_core_orders.specs.declared.faults.StoreFault.{StoreFault}
+use Rattle.office_core_store.specs.Counted.{Counted}
+use Rattle.office_core_store.specs.declared.faults.StoreFault.{StoreFault}
 use Rattle.office_core.specs.Preserves.{Asks, AsksOffice, Holds}
 use Rattle.office_core.proofs.CarryFacts.{asks_none, asks_twice}
-use Rattle.office_core_orders.proofs.LastFacts.{lasts_none, lasts_then}
+use Rattle.office_core_store.proofs.LastFacts.{lasts_none, lasts_then}
 use Rattle.office_core_queries.specs.declared.faults.AskFault.{AskFault}
 use Rattle.office_core_queries.specs.Asking.{AsksBoth, CountsBoth}
 use Rattle.office_core_queries.specs.steps.Asking.{CountsWrites}

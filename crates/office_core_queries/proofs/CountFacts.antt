@@ -90,9 +90,6 @@ count_all kept c so next few =
 
 -- the counts of senders, one after another
 
-pub counts_none : (kept : Kept) (counts : List MailCount) → counts ≡ [] → AreMailCounts kept 0 counts
-counts_none kept counts e = subst (AreMailCounts kept 0) (sym e) (record { senders = refl; each = tt })
-
 each_pushed : (P : MailCount → Type 0) (xs : List MailCount) (x : MailCount) → AllByRecursion P xs → P x → AllByRecursion P (xs ++ x ∷ [])
 each_pushed P [] x each h = (h, tt)
 each_pushed P (y ∷ ys) x each h = (each.0, each_pushed P ys x each.1 h)

@@ -16,9 +16,9 @@ use Rattle.office_mail.specs.Runs.{IsReadyCount}
 use Rattle.office_mail.specs.steps.ReadSteps.{placed_as}
 use Rattle.office_mail.proofs.KeptFacts.{kept_from-Within, kept_from-append, kept_from-free, kept_from-taken, places_total, same_kept}
 use Rattle.office_store_keeper.specs.Content.{Content}
-use Rattle.office_core_orders.specs.declared.faults.DeliverFault.{DeliverFault}
-use Rattle.office_core_orders.specs.declared.faults.DeliverFault.TheVariants.{OtherText}
-use Rattle.office_core_orders.specs.declared.faults.Held.{Held}
+use Rattle.office_core_replies.specs.declared.faults.DeliverFault.{DeliverFault}
+use Rattle.office_core_replies.specs.declared.faults.DeliverFault.TheVariants.{OtherText}
+use Rattle.office_core_replies.specs.declared.faults.Held.{Held}
 use Rattle.office_core_facts.specs.Outcome.{reports_to, testing_after}
 use Rattle.office_core_facts.specs.State.{IsOffice, answer_at, answer_by, answer_to}
 use Rattle.office_core.specs.Together.{answers_to}

@@ -1,5 +1,5 @@
 -- What covers state, sender by sender.
-use Rattle.std.proofs.Common.{◌≡◌, ℕ, zero, suc, ◌+◌, ◌<◌, Bool, false, cond, ◌==◌, List, [], ◌∷◌, ◌++◌, Option, Some, None, filter_map, sym, ap, ◌∙◌, refl, arith}
+use Rattle.std.proofs.Common.{◌≡◌, ℕ, zero, suc, ◌+◌, ◌<◌, Bool, false, cond, ◌==◌, List, [], ◌∷◌, ◌++◌, Option, Some, None, filter_map, sym, ap, ◌∙◌, arith}
 use Rattle.std.specs.List.{cons_option, range_with_len}
 use Rattle.std.proofs.Math.Dec.{eqb-suc-zero}
 use Rattle.std.proofs.lemmas.Bool.{eq-eqb}
@@ -8,10 +8,6 @@ use Rattle.std.proofs.lemmas.List.Elements.{filter_map-append}
 use Rattle.office_core_queries.specs.declared.covers.Stated.{Stated}
 use Rattle.office_core_queries.specs.Listing.{stated_at, stated_to}
 use Rattle.office_core_queries.proofs.LetterLists.{range_joined}
-
-pub stated_none : (covers : ℕ → ℕ) → [] ≡ stated_to covers 0
-unfolding stated_to
-stated_none covers = refl
 
 stated_next : (covers : ℕ → ℕ) (n : ℕ) → stated_to covers (n + 1) ≡ stated_to covers n ++ cons_option (stated_at covers n) []
 unfolding stated_to

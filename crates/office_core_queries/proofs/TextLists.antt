@@ -10,8 +10,8 @@ use Rattle.office_mail.specs.Kept.{Kept}
 use Rattle.office_mail.specs.Lists.{Lists}
 use Rattle.office_store_keeper.specs.declared.values.Letter.{Letter}
 use Rattle.office_store_keeper.specs.Content.{letters_within}
-use Rattle.office_core_orders.specs.Written.{AppendsFront}
-use Rattle.office_core_orders.proofs.WrittenFacts.{front_after, front_before}
+use Rattle.office_mail.specs.Written.{AppendsFront}
+use Rattle.office_mail.proofs.WrittenFacts.{front_after, front_before}
 use Rattle.office_core_queries.specs.Export.{sender_texts, texts_to}
 use Rattle.office_core_queries.specs.steps.Walk.{told_as}
 use Rattle.office_core_queries.specs.declared.walk.Form.{Form}

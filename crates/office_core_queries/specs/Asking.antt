@@ -2,9 +2,9 @@
 use Rattle.std.specs.Prelude.{◌≡◌, ℕ, Result, Err, is_ok}
 use Rattle.office_mail.specs.Counts.{HasRisen}
 use Rattle.office_store_keeper.specs.declared.keeper.Keeper.{Ghosts}
-use Rattle.office_core_orders.specs.declared.faults.StoreFault.{StoreFault}
+use Rattle.office_core_store.specs.declared.faults.StoreFault.{StoreFault}
 use Rattle.office_core.specs.Preserves.{Asks}
-use Rattle.office_core_orders.specs.StaysTrusted.{StaysTrusted}
+use Rattle.office_core_store.specs.StaysTrusted.{StaysTrusted}
 use Rattle.office_core_queries.specs.declared.faults.AskFault.{AskFault}
 use Rattle.office_core_queries.specs.declared.faults.AskFault.TheVariants.{NoMemory, Store, Write}
 

@@ -3,7 +3,7 @@ ghost use Rattle.std.specs.Prelude.{◌≡◌, ◌++◌, IfOk, OnOk, codes, leng
 ghost use Rattle.std.specs.List.{flat_map};
 ghost use Rattle.office_core_queries.specs.Listing.{listed_words, stated_to, stated_words};
 
-use office_core_orders::name_at;
+use office_core_replies::name_at;
 use office_mail::Setup;
 use std::alloc::{AllocError, Global};
 

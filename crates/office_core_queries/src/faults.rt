@@ -4,7 +4,8 @@ ghost use Rattle.office_core_queries.specs.Asking.{told};
 ghost use Rattle.office_core_queries.specs.declared.faults.AskFault.TheVariants as fault;
 
 use deb_control::NoMemory;
-use office_core_orders::{StoreFault, WriteFault};
+use office_core_store::StoreFault;
+use office_mail::WriteFault;
 use std::alloc::AllocError;
 use thiserror::Error;
 

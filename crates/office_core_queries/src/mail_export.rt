@@ -1,7 +1,7 @@
 //! The bag of all kept mail.
 ghost use Rattle.std.specs.Prelude.{OnOk, OnErr};
 ghost use Rattle.std.specs.Io.KnownBytes.{Appends};
-ghost use Rattle.office_core_orders.specs.Written.{AppendsFront};
+ghost use Rattle.office_mail.specs.Written.{AppendsFront};
 ghost use Rattle.office_core.specs.Preserves.{Holds};
 ghost use Rattle.office_core_queries.specs.Asking.{AsksBoth};
 ghost use Rattle.office_core_queries.specs.Export.{kept_bag};

@@ -5,7 +5,7 @@ ghost use Rattle.office_core_queries.specs.Listing.{body_words, message_line, or
 use crate::covers::{push_listed, stated_covers};
 use crate::hints::push_hint;
 use jiff::civil::Date;
-use office_core_orders::name_at;
+use office_core_replies::name_at;
 use office_mail::{Body, MailFault, Message, RunOrder, Setup, read_message};
 use std::alloc::{AllocError, Global};
 use testing_rules_items::Item;

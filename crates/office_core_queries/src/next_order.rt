@@ -2,7 +2,7 @@
 ghost use Rattle.std.specs.Prelude.{◌≡◌, ◌==◌, ◌+◌, ◌++◌, ◌∷◌, [], IfOk, OnOk, codes, decimal, length, slice_index, string_bytes};
 ghost use Rattle.jiff.specs.Words.{date_text};
 ghost use Rattle.office_mail.specs.Runs.{runs};
-ghost use Rattle.office_core_orders.specs.Replies.{name_at};
+ghost use Rattle.office_core_replies.specs.Replies.{name_at};
 ghost use Rattle.office_core_queries.specs.Listing.{listed_words, stated_to};
 ghost use Rattle.office_core_queries.specs.NextOrder.{order_cover, order_text};
 
@@ -10,7 +10,7 @@ use crate::covers::{Stated, number_at, push_listed};
 use deb_control::{NoMemory, Text};
 use jiff::civil;
 use jiff_core::civil::Date;
-use office_core_orders::name_at;
+use office_core_replies::name_at;
 use office_mail::Setup;
 use std::alloc::{AllocError, Global};
 

@@ -5,7 +5,7 @@ ghost use Rattle.office_core.specs.Preserves.{AsksOffice, Holds};
 ghost use Rattle.office_core_queries.specs.steps.Numbers.{IsAbove, IsLetterAbove, HasNumber, IsNextLetter};
 
 use office_core::Office;
-use office_core_orders::StoreFault;
+use office_core_store::StoreFault;
 use office_mail::MAX_NUMBER;
 use office_store_keeper::{Keeper, Letter};
 

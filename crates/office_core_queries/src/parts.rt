@@ -8,8 +8,8 @@ ghost use Rattle.office_core_queries.specs.BagPart.{bag_part, fitting, letters_f
 
 use crate::numbers::letter_above;
 use office_core::Office;
-use office_core_orders::{Digits, StoreFault};
-use office_mail::MAX_NUMBER;
+use office_core_store::StoreFault;
+use office_mail::{Digits, MAX_NUMBER};
 use office_store_keeper::{Keeper, MailText};
 use std::alloc::AllocError;
 

@@ -1,14 +1,14 @@
 //! The lines on the finished runs.
 
 ghost use Rattle.std.specs.Prelude.{◌≡◌, ◌++◌, ◌≤◌, [], IfOk, OnOk, string_bytes, unwrap_or};
-ghost use Rattle.office_core_orders.specs.Counted.{Counted};
+ghost use Rattle.office_core_store.specs.Counted.{Counted};
 ghost use Rattle.office_core.specs.Preserves.{Asks, Holds};
 ghost use Rattle.office_core_facts.specs.State.{state_of};
 ghost use Rattle.office_core_queries.specs.RunLines.{word_at, has_word, is_line, count_of, date_of, excuse_counts, update_counts, run_line, line_on, runs_text};
 
 use deb_control::Text;
 use office_core::Office;
-use office_core_orders::StoreFault;
+use office_core_store::StoreFault;
 use office_store_keeper::Keeper;
 use std::alloc::AllocError;
 

@@ -3,7 +3,7 @@ ghost use Rattle.std.specs.Prelude.{OnOk, OnErr};
 ghost use Rattle.std.specs.List.{flat_map};
 ghost use Rattle.std.specs.Io.KnownBytes.{Appends};
 ghost use Rattle.office_mail.specs.Bag.{framed};
-ghost use Rattle.office_core_orders.specs.Written.{AppendsFront};
+ghost use Rattle.office_mail.specs.Written.{AppendsFront};
 ghost use Rattle.office_core.specs.Preserves.{Holds};
 ghost use Rattle.office_core_queries.specs.Asking.{AsksBoth};
 ghost use Rattle.office_core_queries.specs.steps.Asking.{CountsWrites};
@@ -15,8 +15,7 @@ use crate::faults::AskFault;
 use crate::message_line::text_line;
 use crate::numbers::letter_above;
 use office_core::Office;
-use office_core_orders::{Digits, write_all, write_parts};
-use office_mail::{Setup, Sink};
+use office_mail::{Digits, Setup, Sink, write_all, write_parts};
 use office_store_keeper::Keeper;
 use std::alloc::Global;
 

@@ -13,14 +13,14 @@ use Rattle.office_mail.specs.Reading.{Reading}
 use Rattle.office_mail.specs.Kept.{Kept, kept_from}
 use Rattle.office_mail.specs.Runs.{IsReady}
 use Rattle.office_mail.proofs.KeptFacts.{kept_from-nil, kept_from-append}
-use Rattle.office_core_orders.specs.declared.faults.DeliverFault.{DeliverFault}
-use Rattle.office_core_orders.specs.declared.faults.Held.{Held}
-use Rattle.office_core_orders.specs.declared.replies.Delivery.{Delivery}
-use Rattle.office_core_orders.specs.declared.replies.Mark.{Mark}
-use Rattle.office_core_orders.specs.declared.replies.Mark.TheVariants.{Taken, LostForMemory, LostForStore}
-use Rattle.office_core_orders.specs.Replies.{reply_line, if_taken, not_lost, is_lost, any_lost}
-use Rattle.office_core_orders.specs.Written.{AppendsFront}
-use Rattle.office_core_orders.proofs.WrittenFacts.{front_after, front_before}
+use Rattle.office_core_replies.specs.declared.faults.DeliverFault.{DeliverFault}
+use Rattle.office_core_replies.specs.declared.faults.Held.{Held}
+use Rattle.office_core_replies.specs.declared.replies.Delivery.{Delivery}
+use Rattle.office_core_replies.specs.declared.replies.Mark.{Mark}
+use Rattle.office_core_replies.specs.declared.replies.Mark.TheVariants.{Taken, LostForMemory, LostForStore}
+use Rattle.office_core_replies.specs.Replies.{reply_line, if_taken, not_lost, is_lost, any_lost}
+use Rattle.office_mail.specs.Written.{AppendsFront}
+use Rattle.office_mail.proofs.WrittenFacts.{front_after, front_before}
 use Rattle.office_core_facts.specs.OfficeState.{OfficeState}
 use Rattle.office_core_facts.specs.State.{answer_to}
 use Rattle.office_core_replay.specs.Output.{reply_to, reply_lines}

@@ -6,17 +6,17 @@ use Rattle.office_mail.specs.Kept.{Kept}
 use Rattle.office_mail.specs.Lists.{Lists}
 use Rattle.office_mail.specs.Reading.{Reading}
 use Rattle.office_mail.specs.Runs.{IsReady, IsReadyCount}
-use Rattle.office_core_orders.specs.declared.faults.Progress.{Progress}
-use Rattle.office_core_orders.specs.declared.faults.StoreFault.{StoreFault}
-use Rattle.office_core_orders.specs.declared.faults.StoreFault.TheVariants.{NoMemory}
-use Rattle.office_core_orders.specs.declared.replies.Delivery.{Delivery}
-use Rattle.office_core_orders.specs.Replies.{any_lost}
-use Rattle.office_core_orders.proofs.WrittenFacts.{front_before}
+use Rattle.office_core_orders.specs.declared.wait_lines.Progress.{Progress}
+use Rattle.office_core_store.specs.declared.faults.StoreFault.{StoreFault}
+use Rattle.office_core_store.specs.declared.faults.StoreFault.TheVariants.{NoMemory}
+use Rattle.office_core_replies.specs.declared.replies.Delivery.{Delivery}
+use Rattle.office_core_replies.specs.Replies.{any_lost}
+use Rattle.office_mail.proofs.WrittenFacts.{front_before}
 use Rattle.office_core_facts.specs.OfficeState.{OfficeState}
 use Rattle.office_core_facts.specs.State.{state_of}
 use Rattle.office_store_keeper.specs.declared.keeper.Keeper.{Ghosts}
 use Rattle.office_core_replay.specs.declared.replays.Replayed.{Replayed}
-use Rattle.office_core_orders.specs.Written.{AppendsFront}
+use Rattle.office_mail.specs.Written.{AppendsFront}
 use Rattle.office_core_replay.specs.Output.{Marks, output}
 use Rattle.office_core_replay.specs.Losses.{MarksEnd, MarksCounted, is_short, has_refusal}
 use Rattle.office_core_replay.specs.steps.BlockSteps.{DeliversLastFront}

@@ -13,20 +13,20 @@ use Rattle.office_mail.specs.BagSteps.{TakesMessage, Stops}
 use Rattle.office_mail.specs.Kept.{Kept, kept_from}
 use Rattle.office_mail.specs.Runs.{IsReady}
 use Rattle.office_mail.proofs.KeptFacts.{kept_from-nil, kept_from-append}
-use Rattle.office_core_orders.specs.declared.replies.Delivery.{Delivery}
-use Rattle.office_core_orders.specs.declared.replies.Mark.{Mark}
-use Rattle.office_core_orders.specs.declared.replies.Mark.TheVariants.{Taken, LostForMemory, LostForStore}
+use Rattle.office_core_replies.specs.declared.replies.Delivery.{Delivery}
+use Rattle.office_core_replies.specs.declared.replies.Mark.{Mark}
+use Rattle.office_core_replies.specs.declared.replies.Mark.TheVariants.{Taken, LostForMemory, LostForStore}
 use Rattle.office_core_facts.specs.OfficeState.{OfficeState}
 use Rattle.office_core_facts.specs.State.{answer_to}
-use Rattle.office_core_orders.specs.Replies.{reply_line, reply_by, if_taken, not_lost, is_lost, any_lost}
+use Rattle.office_core_replies.specs.Replies.{reply_line, reply_by, if_taken, not_lost, is_lost, any_lost}
 use Rattle.office_core_replay.specs.Output.{reply_to, reply_lines}
-use Rattle.office_core_orders.specs.Written.{AppendsFront}
+use Rattle.office_mail.specs.Written.{AppendsFront}
 use Rattle.office_core_replay.specs.Losses.{DeliveryCounted}
 use Rattle.office_core_replay.specs.Delivered.{CameFrom, CameFirst, KeepsMail, DeliversFront}
 use Rattle.office_core_replay.specs.steps.DeliverySteps.{Delivers, DeliversAll, DeliversOne, DeliversOneFront}
 use Rattle.office_core.proofs.GatherFacts.{each_push}
 use Rattle.office_core_replay.proofs.RiseFacts.{delivery_weaker, deliveries_weaker}
-use Rattle.office_core_orders.proofs.WrittenFacts.{front_after}
+use Rattle.office_mail.proofs.WrittenFacts.{front_after}
 
 -- a flag that isn't set
 pub not_true : (b : Bool) → (IsTrue b → ⊥) → b ≡ false

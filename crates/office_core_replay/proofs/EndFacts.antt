@@ -5,25 +5,25 @@ use Rattle.std.specs.Option.{option_map}
 use Rattle.std.specs.Io.KnownBytes.{Appends}
 use Rattle.std.proofs.lemmas.List.{append_assoc, append-nil, length-append}
 use Rattle.office_mail.specs.Runs.{IsReadyCount}
-use Rattle.office_core_orders.specs.declared.faults.Progress.{Progress}
-use Rattle.office_core_orders.specs.declared.faults.StoreFault.{StoreFault}
-use Rattle.office_core_orders.specs.declared.faults.StoreFault.TheVariants.{NoMemory, Store}
+use Rattle.office_core_orders.specs.declared.wait_lines.Progress.{Progress}
+use Rattle.office_core_store.specs.declared.faults.StoreFault.{StoreFault}
+use Rattle.office_core_store.specs.declared.faults.StoreFault.TheVariants.{NoMemory, Store}
 use Rattle.office_store_keeper.specs.declared.values.Reports.{Reports}
 use Rattle.office_mail.specs.Lists.{Lists}
 use Rattle.office_mail.specs.Kept.{Kept}
 use Rattle.office_core_facts.specs.OfficeState.{OfficeState}
 use Rattle.office_core_facts.specs.State.{reports_at}
 use Rattle.office_core_facts.specs.Outcome.{reports_of}
-use Rattle.office_core_orders.specs.Written.{AppendsFront}
+use Rattle.office_mail.specs.Written.{AppendsFront}
 use Rattle.office_core_replay.specs.Output.{ReportMarks, or_refused, report_lines}
-use Rattle.office_core_orders.specs.Replies.{status_line}
+use Rattle.office_core_replies.specs.Replies.{status_line}
 use Rattle.office_core_replay.specs.Losses.{is_missing, is_report_missing, TextCounted, ReportsCounted}
 use Rattle.office_core_replay.specs.steps.Ending.{status_shown, text_shown, mark_in, report_shown, run_lines, WritesRun, WritesRunFront, WritesReports, WritesReportsFront}
 use Rattle.std.proofs.KnownBytes.{Appends-nil, Appends-trans}
 use Rattle.office_core.proofs.GatherFacts.{each_push}
 use Rattle.office_core_facts.proofs.ReportFacts.{reports_there}
 use Rattle.office_core_replay.proofs.RiseFacts.{text_weaker, reports_weaker}
-use Rattle.office_core_orders.proofs.WrittenFacts.{front_after, front_before}
+use Rattle.office_mail.proofs.WrittenFacts.{front_after, front_before}
 
 pub shown_excuses : (s : OfficeState) (run : ℕ) (r : Result (Option (List ℕ)) StoreFault) → 1 ≤ run → run ≤ s.finished → IfOk r (λ t. t ≡ option_map (λ (o : Reports). o.excuses) (reports_at s run)) → report_shown r ≡ or_refused (mark_in r) (reports_of s.setup s.kept run).excuses
 shown_excuses s run (Err NoMemory) h k e = refl

@@ -9,23 +9,24 @@ use Rattle.office_mail.specs.Kept.{Kept, place_of, kept_from}
 use Rattle.office_mail.specs.Read.{read}
 use Rattle.office_mail.proofs.KeptFacts.{kept_from-nil, kept_from-taken, kept_from-fault}
 use Rattle.office_mail.specs.Runs.{IsReady, IsReadyCount}
-use Rattle.office_core_orders.specs.declared.faults.Progress.{Progress}
-use Rattle.office_core_orders.specs.declared.faults.StoreFault.{StoreFault}
+use Rattle.office_core_orders.specs.declared.wait_lines.Progress.{Progress}
+use Rattle.office_core_store.specs.declared.faults.StoreFault.{StoreFault}
 use Rattle.office_core_replay.specs.steps.Ending.{mark_in}
 use Rattle.office_core_replay.proofs.EndFacts.{settled_unmet}
-use Rattle.office_core_orders.specs.declared.faults.DeliverFault.{DeliverFault}
-use Rattle.office_core_orders.specs.declared.faults.DeliverFault.TheVariants.{Mail, OtherText, Store}
-use Rattle.office_core_orders.specs.declared.faults.Held.{Held}
-use Rattle.office_core_orders.specs.declared.replies.Mark.{Mark}
-use Rattle.office_core_orders.specs.declared.replies.Mark.TheVariants.{Taken, LostForMemory, LostForStore}
+use Rattle.office_core_replies.specs.declared.faults.DeliverFault.{DeliverFault}
+use Rattle.office_core_replies.specs.declared.faults.DeliverFault.TheVariants.{Mail, OtherText, Store}
+use Rattle.office_core_replies.specs.declared.faults.Held.{Held}
+use Rattle.office_core_replies.specs.declared.replies.Mark.{Mark}
+use Rattle.office_core_replies.specs.declared.replies.Mark.TheVariants.{Taken, LostForMemory, LostForStore}
 use Rattle.office_core_facts.specs.State.{AnswersDelivery, answer_to, answer_by, answer_at, IsSound, state_of}
-use Rattle.office_core_orders.specs.Replies.{reply_by, mark_of, if_taken, reply_line}
+use Rattle.office_core_replies.specs.Replies.{reply_by, mark_of, if_taken, reply_line}
 use Rattle.office_core_replay.specs.Losses.{DeliveryCounted}
 use Rattle.office_core.specs.Preserves.{StoreRefused}
-use Rattle.office_core_orders.specs.Counted.{Counted, CountedDelivery}
+use Rattle.office_core_store.specs.Counted.{Counted}
+use Rattle.office_core_replies.specs.Answered.{CountedDelivery}
 use Rattle.office_core_replay.specs.steps.DeliverySteps.{DeliversOne, DeliversOneFront, Settles}
 use Rattle.office_core_facts.specs.OfficeState.{OfficeState}
-use Rattle.office_core_orders.specs.Written.{AppendsFront}
+use Rattle.office_mail.specs.Written.{AppendsFront}
 use Rattle.office_store_keeper.specs.Content.{Content}
 use Rattle.office_store_keeper.specs.declared.keeper.Keeper.{Ghosts}
 use Rattle.std.proofs.lemmas.Result.{on_err_weaker}

@@ -1,10 +1,10 @@
 -- What the store loses is counted: what holds of a smaller rise of its count holds of a greater one.
 use Rattle.std.proofs.Common.{◌≡◌, List, [], ◌∷◌, Option, Some, None, Result, Ok, Err, refl}
-use Rattle.office_core_orders.specs.declared.faults.StoreFault.{StoreFault}
-use Rattle.office_core_orders.specs.declared.faults.StoreFault.TheVariants.{NoMemory, Store}
-use Rattle.office_core_orders.specs.declared.replies.Delivery.{Delivery}
-use Rattle.office_core_orders.specs.declared.replies.Mark.{Mark}
-use Rattle.office_core_orders.specs.declared.replies.Mark.TheVariants.{Taken, LostForMemory, LostForStore}
+use Rattle.office_core_store.specs.declared.faults.StoreFault.{StoreFault}
+use Rattle.office_core_store.specs.declared.faults.StoreFault.TheVariants.{NoMemory, Store}
+use Rattle.office_core_replies.specs.declared.replies.Delivery.{Delivery}
+use Rattle.office_core_replies.specs.declared.replies.Mark.{Mark}
+use Rattle.office_core_replies.specs.declared.replies.Mark.TheVariants.{Taken, LostForMemory, LostForStore}
 use Rattle.office_core_replay.specs.Output.{Marks, ReportMarks}
 use Rattle.office_core_replay.specs.steps.Ending.{mark_in}
 use Rattle.office_core_replay.specs.Losses.{DeliveryCounted, TextCounted, ReportsCounted, DeliveriesCounted, MarksCounted}

@@ -6,13 +6,13 @@ use Rattle.office_mail.specs.Reading.{Reading}
 use Rattle.office_mail.proofs.KeptFacts.{kept_from-Within}
 use Rattle.office_store_keeper.specs.declared.keeper.Keeper.{Ghosts}
 use Rattle.office_core_replay.specs.declared.replays.Replayed.{Replayed}
-use Rattle.office_core_orders.specs.declared.replies.Delivery.{Delivery}
-use Rattle.office_core_orders.specs.declared.replies.WriteFault.{WriteFault}
+use Rattle.office_core_replies.specs.declared.replies.Delivery.{Delivery}
+use Rattle.office_mail.specs.declared.writer.WriteFault.{WriteFault}
 use Rattle.office_core.specs.Preserves.{Preserves, Holds}
 use Rattle.office_core_replay.specs.Delivered.{KeepsMail}
 use Rattle.office_core.specs.Laws.{RunsStand}
 use Rattle.office_core_replay.specs.Replay.{Replays, StopsReplay}
-use Rattle.office_core_orders.specs.Replies.{not_lost}
+use Rattle.office_core_replies.specs.Replies.{not_lost}
 use Rattle.office_core_facts.specs.OfficeState.{OfficeState}
 use Rattle.office_core_facts.specs.State.{IsOffice, state_of}
 use Rattle.office_core.proofs.LawFacts.{runs_stand}

@@ -3,9 +3,9 @@ use Rattle.std.proofs.Common.{◌≡◌, ℕ, ◌≤◌, List, Option, Result, I
 use Rattle.std.specs.Option.{option_map}
 use Rattle.office_store_keeper.specs.declared.keeper.Keeper.{Ghosts}
 use Rattle.office_store_keeper.specs.declared.values.Reports.{Reports}
-use Rattle.office_core_orders.specs.declared.faults.StoreFault.{StoreFault}
+use Rattle.office_core_store.specs.declared.faults.StoreFault.{StoreFault}
 use Rattle.office_core.specs.Preserves.{Asks, Holds, StoreRefused}
-use Rattle.office_core_orders.specs.Counted.{Counted}
+use Rattle.office_core_store.specs.Counted.{Counted}
 use Rattle.office_core_replay.specs.steps.Ending.{mark_in, report_shown}
 use Rattle.office_core_replay.specs.Losses.{TextCounted}
 use Rattle.office_core_facts.specs.Outcome.{reports_of}

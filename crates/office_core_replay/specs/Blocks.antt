@@ -1,8 +1,8 @@
 -- Texts that are delivered and answered, however they are kept.
 use Rattle.std.specs.Prelude.{◌≡◌, ℕ, Bool, List, map, Option}
 use Rattle.std.specs.Io.KnownBytes.{Appends}
-use Rattle.office_core_orders.specs.declared.replies.Delivery.{Delivery}
-use Rattle.office_core_orders.specs.Replies.{any_lost}
+use Rattle.office_core_replies.specs.declared.replies.Delivery.{Delivery}
+use Rattle.office_core_replies.specs.Replies.{any_lost}
 use Rattle.office_core_facts.specs.OfficeState.{OfficeState}
 use Rattle.office_core_replay.specs.Output.{reply_lines}
 use Rattle.office_core_replay.specs.Losses.{DeliveriesCounted}

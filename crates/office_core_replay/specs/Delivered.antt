@@ -8,10 +8,10 @@ use Rattle.office_mail.specs.Reading.{Reading}
 use Rattle.office_mail.specs.BagSteps.{MeetsEnd}
 use Rattle.office_mail.specs.Kept.{kept_from}
 use Rattle.office_mail.specs.Runs.{IsReady}
-use Rattle.office_core_orders.specs.declared.replies.Delivery.{Delivery}
+use Rattle.office_core_replies.specs.declared.replies.Delivery.{Delivery}
 use Rattle.office_core_facts.specs.OfficeState.{OfficeState}
-use Rattle.office_core_orders.specs.Written.{AppendsFront}
-use Rattle.office_core_orders.specs.Replies.{not_lost}
+use Rattle.office_mail.specs.Written.{AppendsFront}
+use Rattle.office_core_replies.specs.Replies.{not_lost}
 use Rattle.office_core_replay.specs.Output.{reply_lines}
 use Rattle.office_core_replay.specs.Losses.{DeliveriesCounted}
 

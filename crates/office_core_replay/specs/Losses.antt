@@ -4,11 +4,11 @@ use Rattle.std.specs.List.{AllByRecursion}
 use Rattle.office_mail.specs.declared.bag.BagFault.{BagFault}
 use Rattle.office_mail.specs.declared.bag.BagFault.TheVariants as bag
 use Rattle.office_mail.specs.Runs.{IsReadyCount}
-use Rattle.office_core_orders.specs.declared.faults.StoreFault.{StoreFault}
-use Rattle.office_core_orders.specs.declared.faults.StoreFault.TheVariants.{Store}
-use Rattle.office_core_orders.specs.declared.replies.Delivery.{Delivery}
-use Rattle.office_core_orders.specs.declared.replies.Mark.{Mark}
-use Rattle.office_core_orders.specs.declared.replies.Mark.TheVariants.{LostForStore}
+use Rattle.office_core_store.specs.declared.faults.StoreFault.{StoreFault}
+use Rattle.office_core_store.specs.declared.faults.StoreFault.TheVariants.{Store}
+use Rattle.office_core_replies.specs.declared.replies.Delivery.{Delivery}
+use Rattle.office_core_replies.specs.declared.replies.Mark.{Mark}
+use Rattle.office_core_replies.specs.declared.replies.Mark.TheVariants.{LostForStore}
 use Rattle.office_core_facts.specs.OfficeState.{OfficeState}
 use Rattle.office_core_replay.specs.Output.{Marks, ReportMarks}
 

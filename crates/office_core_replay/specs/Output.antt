@@ -3,14 +3,14 @@ use Rattle.std.specs.Prelude.{ℕ, ◌+◌, List, [], ◌∷◌, ◌++◌, codes
 use Rattle.office_mail.specs.declared.bag.BagFault.{BagFault}
 use Rattle.office_mail.specs.Lists.{Lists}
 use Rattle.office_mail.specs.Kept.{Kept, kept_from}
-use Rattle.office_core_orders.specs.declared.faults.DeliverFault.{DeliverFault}
-use Rattle.office_core_orders.specs.declared.faults.Held.{Held}
-use Rattle.office_core_orders.specs.declared.faults.StoreFault.{StoreFault}
-use Rattle.office_core_orders.specs.declared.faults.StoreFault.TheVariants.{NoMemory, Store}
-use Rattle.office_core_orders.specs.declared.replies.Delivery.{Delivery}
+use Rattle.office_core_replies.specs.declared.faults.DeliverFault.{DeliverFault}
+use Rattle.office_core_replies.specs.declared.faults.Held.{Held}
+use Rattle.office_core_store.specs.declared.faults.StoreFault.{StoreFault}
+use Rattle.office_core_store.specs.declared.faults.StoreFault.TheVariants.{NoMemory, Store}
+use Rattle.office_core_replies.specs.declared.replies.Delivery.{Delivery}
 use Rattle.office_core_facts.specs.OfficeState.{OfficeState}
 use Rattle.office_core_facts.specs.Outcome.{reports_of, testing_after, testing_text}
-use Rattle.office_core_orders.specs.Replies.{reply_line, reply_by, not_lost, bag_line, status_line}
+use Rattle.office_core_replies.specs.Replies.{reply_line, reply_by, not_lost, bag_line, status_line}
 use Rattle.office_core_facts.specs.State.{answer_to}
 
 -- the answer to a delivery of a replay

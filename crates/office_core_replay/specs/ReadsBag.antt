@@ -5,8 +5,8 @@ use Rattle.office_mail.specs.Reading.{Reading}
 use Rattle.office_mail.specs.declared.bag.BagFault.{BagFault}
 use Rattle.office_mail.specs.declared.bag.BagFault.TheVariants.{ReadFault}
 
--- A read failed exactly if the bag is refused for it, except for the last of the reads. Each counted read was a call of
--- the reader.
+-- If the bag is refused for a read, one failed, or the last of 1,000,000 didn't meet the end. If it isn't, none failed.
+-- Each call of the reader is a read that the bag counts.
 pub record ReadsBag {T E : Type 0} (start now : Reading) (result : Result T E) (end : T → Option BagFault) : Type 0 where
   pub cause : IfOk result (λ r. end r ≡ Some ReadFault → ReadFails start now)
   pub clean : IfOk result (λ r. (end r ≡ Some ReadFault) ⊎ (now.failures ≡ start.failures))

@@ -6,15 +6,15 @@ use Rattle.office_mail.specs.declared.feed.Sink.{Ghosts as Writer}
 use Rattle.office_mail.specs.Reading.{Reading}
 use Rattle.office_mail.specs.Runs.{IsReady, IsReadyCount}
 use Rattle.office_store_keeper.specs.declared.keeper.Keeper.{Ghosts}
-use Rattle.office_core_orders.specs.declared.faults.StoreFault.{StoreFault}
-use Rattle.office_core_orders.specs.declared.replies.Delivery.{Delivery}
-use Rattle.office_core_orders.specs.declared.replies.WriteFault.{WriteFault}
+use Rattle.office_core_store.specs.declared.faults.StoreFault.{StoreFault}
+use Rattle.office_core_replies.specs.declared.replies.Delivery.{Delivery}
+use Rattle.office_mail.specs.declared.writer.WriteFault.{WriteFault}
 use Rattle.office_core_replay.specs.declared.replays.Replayed.{Replayed}
 use Rattle.office_core_facts.specs.OfficeState.{OfficeState}
 use Rattle.office_core_facts.specs.State.{state_of}
 use Rattle.office_core.specs.Preserves.{Holds, StoreRefused}
-use Rattle.office_core_orders.specs.Written.{AppendsFront}
-use Rattle.office_core_orders.specs.Replies.{any_lost}
+use Rattle.office_mail.specs.Written.{AppendsFront}
+use Rattle.office_core_replies.specs.Replies.{any_lost}
 use Rattle.office_core_replay.specs.Output.{Marks, output, or_refused}
 use Rattle.office_core_replay.specs.Losses.{is_short, has_refusal, MarksEnd, TextCounted, MarksCounted, DeliveriesCounted}
 use Rattle.office_core_replay.specs.Delivered.{CameFrom, KeepsMail, DeliversFront}

@@ -2,9 +2,9 @@
 ghost use Rattle.std.specs.Prelude.{◌≡◌, ◌+◌, ◌<◌, ◌≤◌, ◌⊎◌, [], None, Some, false, flat_map, length, vec_len, vec_capacity, IfErr, IfSome, OnErr, OnOk};
 ghost use Rattle.office_mail.specs.BagSteps.{ReadFails, CountsEach};
 ghost use Rattle.office_mail.specs.Kept.{kept_from};
-ghost use Rattle.office_core_orders.specs.Counted.{CountsFailure};
-ghost use Rattle.office_core_orders.specs.Replies.{reply_line};
-ghost use Rattle.office_core_orders.specs.Written.{Writes};
+ghost use Rattle.office_mail.specs.Counts.{CountsFailure};
+ghost use Rattle.office_core_replies.specs.Replies.{reply_line};
+ghost use Rattle.office_mail.specs.Written.{Writes};
 ghost use Rattle.office_core.specs.Together.{AreHeldHere, answers_to};
 ghost use Rattle.office_core_replay.specs.steps.BlockSteps.{TakesLast, TakesTexts};
 ghost use Rattle.office_core_replay.specs.Delivered.{KeepsMail};
@@ -17,8 +17,8 @@ use crate::end::either;
 use crate::replays::{Delivered, deliver_each, deliver_one};
 use crate::watcher::Watcher;
 use office_core::{Office, Reply};
-use office_core_orders::{WriteFault, write_reply};
-use office_mail::{Bag, BagFault, Feed, Setup, Sink};
+use office_core_replies::write_reply;
+use office_mail::{Bag, BagFault, Feed, Setup, Sink, WriteFault};
 use office_store_keeper::{Keeper, MailText};
 use std::alloc::Global;
 
@@ -230,8 +230,8 @@ pub(crate) fn deliver_all<K: Keeper, R: Feed, W: Sink, V: Watcher>(
     // What a writer that fails leaves: the bag may have stopped already, after the last block.
     ensures front { StopsBag K.Keeper W.Sink office.old office.new bag.old bag.new writer.old writer.new result }
 
-    // A read failed exactly if the bag is refused for it, except for the last of the reads. Each counted read was a call
-    // of the reader.
+    // If the bag is refused for a read, one failed, or the last of 1,000,000 didn't meet the end. If it isn't, none
+    // failed. Each counted read was a call of the reader.
     ensures read { ReadsBag bag.old bag.new result (λ delivered. delivered.end) }
     ensures reads { bag.new.reads ≤ 1_000_000 }
     ensures counts { CountsEach bag.old bag.new }

@@ -1,17 +1,18 @@
 //! The texts at the end of a replay.
-ghost use Rattle.std.specs.Prelude.{◌≡◌, [], is_err, ◌+◌, ◌≤◌, ◌++◌, ◌||◌, Option, Some, None, OnErr, IfOk};
+ghost use Rattle.std.specs.Prelude.{◌≡◌, [], is_err, ◌+◌, ◌≤◌, ◌++◌, ◌||◌, Some, OnErr, IfOk};
 ghost use Rattle.office_core.specs.Preserves.{Asks, Holds, StoreRefused};
-ghost use Rattle.office_core_orders.specs.Counted.{CountsFailure};
-ghost use Rattle.office_core_orders.specs.Replies.{bag_line};
-ghost use Rattle.office_core_orders.specs.Written.{Writes};
+ghost use Rattle.office_mail.specs.Counts.{CountsFailure};
+ghost use Rattle.office_core_replies.specs.Replies.{bag_line};
+ghost use Rattle.office_mail.specs.Written.{Writes};
 ghost use Rattle.office_core_replay.specs.Output.{or_refused};
 ghost use Rattle.office_core_replay.specs.steps.Ending.{status_shown, text_shown, report_shown, WritesRun, WritesRunFront, WritesReports, WritesReportsFront, WritesNews, WritesNewsFront, WritesEnd, WritesEndFront};
 ghost use Rattle.office_core_facts.specs.State.{state_of};
 
 use deb_control::Text;
 use office_core::Office;
-use office_core_orders::{Digits, Progress, StoreFault, WriteFault, write_all, write_parts};
-use office_mail::{BagFault, Sink};
+use office_core_orders::Progress;
+use office_core_store::StoreFault;
+use office_mail::{BagFault, Digits, Sink, WriteFault, write_all, write_parts};
 use office_store_keeper::Keeper;
 
 /// The line for a bag that is refused.

@@ -1,8 +1,8 @@
 //! What is true of every replay.
 ghost use Rattle.std.specs.Prelude.{◌≡◌, ◌-◌, ⊤, ℕ, List, Option, false, length};
 ghost use Rattle.office_mail.specs.Runs.{IsReadyCount};
-ghost use Rattle.office_core_orders.specs.Replies.{not_lost};
-ghost use Rattle.office_core_orders.specs.declared.replies.Delivery.{Delivery};
+ghost use Rattle.office_core_replies.specs.Replies.{not_lost};
+ghost use Rattle.office_core_replies.specs.declared.replies.Delivery.{Delivery};
 ghost use Rattle.office_core_facts.specs.OfficeState.{OfficeState};
 ghost use Rattle.office_core_facts.specs.State.{IsSound, state_of};
 ghost use Rattle.office_core.specs.History.{Leads, Looked, Settled, coming};

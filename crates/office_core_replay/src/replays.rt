@@ -1,5 +1,5 @@
 //! Replays of bags of mail.
-ghost use Rattle.std.specs.Prelude.{◌≡◌, ◌≤◌, ◌⊎◌, false, Some, IfOk, OnErr, is_ok};
+ghost use Rattle.std.specs.Prelude.{◌≡◌, ◌≤◌, ◌⊎◌, false, IfOk, OnErr, is_ok};
 ghost use Rattle.office_mail.specs.BagSteps.{CountsEach};
 ghost use Rattle.office_core_replay.specs.ReadsBag.{ReadsBag};
 ghost use Rattle.office_core_replay.specs.steps.Calls.{DeliversBag};
@@ -10,15 +10,15 @@ ghost use Rattle.office_core.specs.Laws.{RunsStand};
 ghost use Rattle.office_core_replay.specs.Losses.{is_short};
 ghost use Rattle.office_core_replay.specs.Replay.{ReplaysIn, StopsIn, ReplaysAll, ReplaysFront, StopsEarly, status_of};
 ghost use Rattle.office_core_facts.specs.State.{state_of};
-ghost use Rattle.office_core_orders.specs.Counted.{CountsFailure};
-ghost use Rattle.office_core_orders.specs.Replies.{mark_of};
+ghost use Rattle.office_mail.specs.Counts.{CountsFailure};
+ghost use Rattle.office_core_replies.specs.Replies.{mark_of};
 
 use crate::blocks::deliver_all;
 use crate::end::{either, write_bag, write_end, write_refusal};
 use crate::watcher::{Unwatched, Watcher};
 use office_core::Office;
-use office_core_orders::{DeliverFault, Held, Mark, WriteFault, write_reply};
-use office_mail::{Bag, BagFault, Feed, MailFault, Sink};
+use office_core_replies::{DeliverFault, Held, Mark, write_reply};
+use office_mail::{Bag, BagFault, Feed, MailFault, Sink, WriteFault};
 use office_store_keeper::Keeper;
 
 /// What an answer says of a delivery.
@@ -32,16 +32,8 @@ fn mark_of(reply: &Result<Held, DeliverFault>) -> Mark
     }
 }
 
-/// Settles after a delivery that is held. Nobody reports a fault of that settle: the next one continues.
-pub fn settle_behind<K: Keeper>(office: &mut Office<K>, reply: &Result<Held, DeliverFault>)
-    ensures carries { Preserves K.Keeper office.old office.new }
-    ensures settles { Holds K.Keeper office.old office.new → Settles (state_of K.Keeper office.old) (state_of K.Keeper office.new) (is_ok reply.now) (StoreRefused K.Keeper office.old office.new) }
-{
-    settle_watched(office, reply, &mut Unwatched);
-}
-
-/// Settles after a delivery that is held, and shows the result to a watcher.
-fn settle_watched<K: Keeper, V: Watcher>(
+/// Settles after a delivery that is held. Only the watcher learns of a fault of that settle: the next one continues.
+pub fn settle_behind<K: Keeper, V: Watcher>(
     office: &mut Office<K>,
     reply: &Result<Held, DeliverFault>,
     watcher: &mut V,
@@ -71,7 +63,7 @@ pub(crate) fn deliver_one<K: Keeper, W: Sink, V: Watcher>(
     let reply = office.deliver(text);
     watcher.delivered(text, &reply);
     write_reply(office.setup(), &reply, writer)?;
-    settle_watched(office, &reply, watcher);
+    settle_behind(office, &reply, watcher);
     Ok(mark_of(&reply))
 }
 
@@ -94,8 +86,8 @@ pub(crate) fn deliver_each<K: Keeper, R: Feed, W: Sink, V: Watcher>(
     ensures all { DeliversBag K.Keeper W.Sink office.old office.new bag.old bag.new writer.old writer.new result }
     ensures front { Holds K.Keeper office.old office.new → OnErr result (DeliversFront (state_of K.Keeper office.old) (state_of K.Keeper office.new) bag.old bag.new (W.written writer.old) (W.written writer.new) (StoreRefused K.Keeper office.old office.new)) }
 
-    // A read failed exactly if the bag is refused for it, except for the last of the reads. Each counted read was a call
-    // of the reader.
+    // If the bag is refused for a read, one failed, or the last of 1,000,000 didn't meet the end. If it isn't, none
+    // failed. Each counted read was a call of the reader.
     ensures read { ReadsBag bag.old bag.new result (λ delivered. delivered.end) }
     ensures reads { bag.new.reads ≤ 1_000_000 }
     ensures counts { CountsEach bag.old bag.new }
@@ -144,8 +136,8 @@ pub fn replay<K: Keeper, R: Feed, W: Sink>(
     // Finished runs stay: their reports, and testing unless another run finished.
     ensures runs { Holds K.Keeper office.old office.new → RunsStand (K.content office.old) (K.content office.new) }
 
-    // A read failed exactly if the bag is refused for it, except for the last of the reads. Each counted read was a call
-    // of the reader.
+    // If the bag is refused for a read, one failed, or the last of 1,000,000 didn't meet the end. If it isn't, none
+    // failed. Each counted read was a call of the reader.
     ensures read { ReadsBag bag.old bag.new result (λ replayed. replayed.bag) }
 
     // At most 1,000,000 reads are made, of at most 8,192 bytes each.

@@ -1,6 +1,8 @@
 //! A watcher of a replay: it sees each delivery, and influences none.
 
-use office_core_orders::{DeliverFault, Held, Progress, StoreFault};
+use office_core_orders::Progress;
+use office_core_replies::{DeliverFault, Held};
+use office_core_store::StoreFault;
 
 /// Sees each delivery of a replay. Nothing that it does changes what the replay does.
 pub trait Watcher {

@@ -16,7 +16,7 @@ use Rattle.testing_rules_reports.specs.Reports.{line}
 use Rattle.office_mail_setup.specs.Lists.{Lists}
 use Rattle.office_mail.specs.Kept.{Kept}
 use Rattle.office_mail.specs.Runs.{cover}
-use Rattle.office_core_orders.specs.Replies.{name_at}
+use Rattle.office_core_replies.specs.Replies.{name_at}
 use Rattle.office_core_facts.specs.Outcome.{testing_after}
 use Rattle.office_core_facts.specs.Seen.{IsSeen}
 
@@ -62,7 +62,7 @@ hint_front setup covers h =
 abbrev pub hint_lines : Lists → (ℕ → ℕ) → List UploadIn → Suite → HintIn → Text
 hint_lines setup covers sources t h = named_lines (hint_front setup covers h) sources t h.hint
 
--- the number of finished runs, and the lines on each hint in force, by number; these are the covers of the finished runs
+-- the number of finished runs, and the lines on each hint in force, by number, for the covers of these runs
 unfoldable pub hints_text : Lists → ℕ → (ℕ → ℕ) → Covered → Suite → Text
 hints_text setup finished covers s t = line (codes "hints" ∷ decimal finished ∷ []) ++ flat_map (hint_lines setup covers (unstable_sources s) t) (in_force s)
 

@@ -11,7 +11,7 @@ ghost use Rattle.office_core_why.specs.Hints.{asked_words, hint_front, hint_line
 use deb_control::{NoMemory, Text};
 use deb_version::Version;
 use office_core_facts::taken::cover_of;
-use office_core_orders::name_at;
+use office_core_replies::name_at;
 use office_mail::{RunOrder, Setup};
 use std::alloc::{AllocError, Global};
 use testing_rules_facts::{Facts, Unhints, is_in_force, is_same_version, source_in};

@@ -1,12 +1,10 @@
 //! The rows of unstable that came after their source's move to testing, in lines.
 
-ghost use Rattle.std.specs.Prelude.{◌≡◌, ◌++◌, List, Bool, false, codes, length, OnOk, option_copied, string_bytes};
-ghost use Rattle.std.specs.List.{filter, flat_map};
+ghost use Rattle.std.specs.Prelude.{◌≡◌, ◌++◌, length, OnOk, option_copied, string_bytes};
 ghost use Rattle.std.specs.List.Sorted.{IsBinarySearchResult, IsSearchInRange};
 ghost use Rattle.testing_rules_excuses.specs.Lines as lines;
 ghost use Rattle.testing_rules_model.specs.JudgedRows.{lent, row_of};
 ghost use Rattle.testing_rules_model.specs.Moves.{row_cmp, row_key};
-ghost use Rattle.testing_rules_model.specs.Unstable as unstable;
 ghost use Rattle.office_core_why.specs.Later as rules;
 
 use crate::told::AnswerInput;

@@ -1,13 +1,11 @@
 //! The texts over all mail that an office keeps without a gap.
-#![tactic(auto, using(office_core_orders::proofs::LastFacts::lasting))]
+#![tactic(auto, using(office_core_store::proofs::LastFacts::lasting))]
 
-ghost use Rattle.std.specs.Prelude.{is_ok, ◌≡◌, IfOk, IfSome, length};
+ghost use Rattle.std.specs.Prelude.{◌≡◌, IfOk, IfSome, length};
 ghost use Rattle.testing_rules_model.specs.Covered.{Covered};
 ghost use Rattle.testing_rules_model.specs.StandsFor.{StandsFor};
 ghost use Rattle.office_mail.specs.Runs.{cover_of};
-ghost use Rattle.office_core_orders.specs.Counted.{Counted};
-ghost use Rattle.office_core_orders.specs.steps.ReadsStore.{ReadsStore};
-ghost use Rattle.office_core_orders.specs.StaysTrusted.{StaysTrusted};
+ghost use Rattle.office_core_store.specs.ReadsStore.{ReadsStore};
 ghost use Rattle.office_core_facts.specs.Known.{AreKnown};
 ghost use Rattle.office_core_facts.specs.State.{IsOffice};
 ghost use Rattle.office_core_facts.specs.steps.Last.{OfRuns};
@@ -20,7 +18,7 @@ use deb_control::Text;
 use office_core_facts::covered::KnownFacts;
 use office_core_facts::last_run::{FinishedRuns, finished_runs, give_back};
 use office_core_facts::seen::seen_facts;
-use office_core_orders::{StoreFault, stored};
+use office_core_store::{StoreFault, stored};
 use office_mail::Setup;
 use office_store_keeper::Keeper;
 use std::alloc::Global;
@@ -95,12 +93,7 @@ pub fn hints_text<K: Keeper>(
     requires known { K.is_trusted keeper.old → IfSome known.old (λ known. AreKnown setup.now (K.content keeper.old) known) }
     ensures text { K.is_trusted keeper.new → K.is_legible keeper.old → IsOffice setup.now (K.content keeper.old) → IfOk result (IsHintsText setup.now (K.content keeper.old).kept (length (K.content keeper.old).reports)) }
     ensures known { K.is_trusted keeper.new → IfSome known.new (λ known. AreKnown setup.now (K.content keeper.new) known) }
-    ensures same { K.is_trusted keeper.new → K.content keeper.new ≡ K.content keeper.old }
-    ensures setup { K.setup keeper.new ≡ K.setup keeper.old }
-    ensures before { K.is_trusted keeper.new → K.is_trusted keeper.old }
-    ensures legible { K.is_trusted keeper.new → K.is_legible keeper.old → K.is_legible keeper.new }
-    ensures lasts { StaysTrusted K.Keeper keeper.old keeper.new (is_ok result) }
-    ensures counted { Counted (K.refusals keeper.old) (K.refusals keeper.new) result }
+    ensures looks { ReadsStore K.Keeper keeper.old keeper.new result }
 {
     let finished = finished_runs(alloc, setup, keeper, known)?;
     hints_seen(alloc, setup, keeper, known, &finished)
@@ -119,12 +112,7 @@ pub fn unstable_text<K: Keeper>(
     requires known { K.is_trusted keeper.old → IfSome known.old (λ known. AreKnown setup.now (K.content keeper.old) known) }
     ensures text { K.is_trusted keeper.new → K.is_legible keeper.old → IsOffice setup.now (K.content keeper.old) → IfOk result (IsUnstableText setup.now (K.content keeper.old).kept (length (K.content keeper.old).reports)) }
     ensures known { K.is_trusted keeper.new → IfSome known.new (λ known. AreKnown setup.now (K.content keeper.new) known) }
-    ensures same { K.is_trusted keeper.new → K.content keeper.new ≡ K.content keeper.old }
-    ensures setup { K.setup keeper.new ≡ K.setup keeper.old }
-    ensures before { K.is_trusted keeper.new → K.is_trusted keeper.old }
-    ensures legible { K.is_trusted keeper.new → K.is_legible keeper.old → K.is_legible keeper.new }
-    ensures lasts { StaysTrusted K.Keeper keeper.old keeper.new (is_ok result) }
-    ensures counted { Counted (K.refusals keeper.old) (K.refusals keeper.new) result }
+    ensures looks { ReadsStore K.Keeper keeper.old keeper.new result }
 {
     let finished = finished_runs(alloc, setup, keeper, known)?;
     unstable_seen(alloc, setup, keeper, known, &finished)

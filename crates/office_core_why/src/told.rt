@@ -2,7 +2,6 @@
 
 ghost use Rattle.std.specs.Prelude.{◌≡◌, ◌++◌, [], Some, IfOk, option_copied};
 ghost use Rattle.testing_rules_model.specs.Covered.{Covered};
-ghost use Rattle.testing_rules_model.specs.Excuses as rules;
 ghost use Rattle.testing_rules_model.specs.Moves as moves;
 ghost use Rattle.testing_rules_model.specs.StandsFor.{StandsFor};
 ghost use Rattle.testing_rules_excuses.specs.Lines.{IsOriginText};

@@ -1,11 +1,9 @@
 //! Why a source is where the last finished run of an office left it.
-#![tactic(auto, using(office_core_orders::proofs::LastFacts::lasting))]
+#![tactic(auto, using(office_core_store::proofs::LastFacts::lasting))]
 
-ghost use Rattle.std.specs.Prelude.{is_ok, ◌≡◌, ℕ, IfOk, IfSome, length};
+ghost use Rattle.std.specs.Prelude.{◌≡◌, ℕ, IfOk, IfSome, length};
 ghost use Rattle.office_mail.specs.Kept.{Kept};
-ghost use Rattle.office_core_orders.specs.Counted.{Counted};
-ghost use Rattle.office_core_orders.specs.steps.ReadsStore.{ReadsStore};
-ghost use Rattle.office_core_orders.specs.StaysTrusted.{StaysTrusted};
+ghost use Rattle.office_core_store.specs.ReadsStore.{ReadsStore};
 ghost use Rattle.office_core_facts.specs.Known.{AreKnown};
 ghost use Rattle.office_core_facts.specs.Outcome.{reports_of};
 ghost use Rattle.office_core_facts.specs.State.{IsOffice};
@@ -19,7 +17,7 @@ use office_core_facts::covered::KnownFacts;
 use office_core_facts::last_run::{
     FinishedRuns, LastRun, facts_of, finished_runs, give_back, load_last_run, testing_of,
 };
-use office_core_orders::{StoreFault, stored};
+use office_core_store::{StoreFault, stored};
 use office_mail::Setup;
 use office_store_keeper::{Keeper, Reports};
 use std::alloc::Global;
@@ -84,12 +82,7 @@ pub fn why_text<K: Keeper>(
     requires known { K.is_trusted keeper.old → IfSome known.old (λ known. AreKnown setup.now (K.content keeper.old) known) }
     ensures why { K.is_trusted keeper.new → K.is_legible keeper.old → IsOffice setup.now (K.content keeper.old) → IfOk result (IsWhy setup.now (K.content keeper.old).kept (length (K.content keeper.old).reports) source.now) }
     ensures known { K.is_trusted keeper.new → IfSome known.new (λ known. AreKnown setup.now (K.content keeper.new) known) }
-    ensures same { K.is_trusted keeper.new → K.content keeper.new ≡ K.content keeper.old }
-    ensures setup { K.setup keeper.new ≡ K.setup keeper.old }
-    ensures before { K.is_trusted keeper.new → K.is_trusted keeper.old }
-    ensures legible { K.is_trusted keeper.new → K.is_legible keeper.old → K.is_legible keeper.new }
-    ensures lasts { StaysTrusted K.Keeper keeper.old keeper.new (is_ok result) }
-    ensures counted { Counted (K.refusals keeper.old) (K.refusals keeper.new) result }
+    ensures looks { ReadsStore K.Keeper keeper.old keeper.new result }
 {
     let finished = finished_runs(alloc, setup, keeper, known)?;
     why_after(alloc, setup, keeper, known, &finished, source)

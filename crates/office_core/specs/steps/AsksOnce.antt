@@ -1,8 +1,8 @@
 -- What a search among kept texts leaves, which asks each sender once for its next number.
 use Rattle.std.specs.Prelude.{List, Result, OnOk}
 use Rattle.office_store_keeper.specs.declared.keeper.Keeper.{Ghosts}
-use Rattle.office_core_orders.specs.declared.faults.StoreFault.{StoreFault}
-use Rattle.office_core_orders.specs.steps.ReadsStore.{ReadsStore}
+use Rattle.office_core_store.specs.declared.faults.StoreFault.{StoreFault}
+use Rattle.office_core_store.specs.ReadsStore.{ReadsStore}
 use Rattle.office_core.specs.declared.asked.NextFree.{NextFree}
 use Rattle.office_core.specs.steps.Asked.{AreFreeFrom}
 

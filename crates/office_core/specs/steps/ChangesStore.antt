@@ -1,10 +1,10 @@
 -- What a call that may change a store leaves of what is known of it.
 use Rattle.std.specs.Prelude.{◌≡◌, Bool, Result, is_ok}
 use Rattle.office_store_keeper.specs.declared.keeper.Keeper.{Ghosts}
-use Rattle.office_core_orders.specs.Counted.{CountedDelivery}
-use Rattle.office_core_orders.specs.StaysTrusted.{StaysTrusted}
-use Rattle.office_core_orders.specs.declared.faults.DeliverFault.{DeliverFault}
-use Rattle.office_core_orders.specs.declared.faults.Held.{Held}
+use Rattle.office_core_replies.specs.Answered.{CountedDelivery}
+use Rattle.office_core_store.specs.StaysTrusted.{StaysTrusted}
+use Rattle.office_core_replies.specs.declared.faults.DeliverFault.{DeliverFault}
+use Rattle.office_core_replies.specs.declared.faults.Held.{Held}
 
 -- The setup stays. If a store is trusted after the call, it was so before, and is legible if it was. If nobody else
 -- writes it, it stays trusted unless the disk failed.

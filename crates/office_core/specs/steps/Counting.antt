@@ -3,8 +3,8 @@ use Rattle.std.specs.Prelude.{List, Result, IfOk, IsSome}
 use Rattle.std.specs.List.{All}
 use Rattle.std.specs.FinMap.{get}
 use Rattle.office_mail.specs.Kept.{Kept}
-use Rattle.office_core_orders.specs.declared.faults.DeliverFault.{DeliverFault}
-use Rattle.office_core_orders.specs.declared.faults.Held.{Held}
+use Rattle.office_core_replies.specs.declared.faults.DeliverFault.{DeliverFault}
+use Rattle.office_core_replies.specs.declared.faults.Held.{Held}
 
 -- a message held by the answer is kept
 abbrev pub IsKept : Kept → Result Held DeliverFault → Type 0

@@ -5,8 +5,8 @@ use Rattle.office_mail.specs.Lists.{Lists}
 use Rattle.office_mail.specs.Kept.{Kept, IsPlace, kept_from}
 use Rattle.office_store_keeper.specs.NewMail.{AreFree, with_letters}
 use Rattle.office_store_keeper.specs.declared.values.NewLetter.{NewLetter}
-use Rattle.office_core_orders.specs.declared.faults.DeliverFault.{DeliverFault}
-use Rattle.office_core_orders.specs.declared.faults.Held.{Held}
+use Rattle.office_core_replies.specs.declared.faults.DeliverFault.{DeliverFault}
+use Rattle.office_core_replies.specs.declared.faults.Held.{Held}
 use Rattle.office_core_facts.specs.State.{answer_to}
 use Rattle.office_core.specs.Together.{answers_to}
 

@@ -6,8 +6,8 @@ use Rattle.office_store_keeper.specs.declared.faults.Cause.TheVariants.{BadRow}
 use Rattle.office_store_keeper.specs.declared.faults.KeepFault.{KeepFault}
 use Rattle.office_store_keeper.specs.declared.faults.KeepFault.TheVariants.{NoMemory, Store}
 use Rattle.office_store_keeper.specs.declared.keeper.Keeper.{Ghosts}
-use Rattle.office_core_orders.specs.declared.faults.StoreFault.{StoreFault}
-use Rattle.office_core_orders.specs.declared.faults.StoreFault.TheVariants as fault
+use Rattle.office_core_store.specs.declared.faults.StoreFault.{StoreFault}
+use Rattle.office_core_store.specs.declared.faults.StoreFault.TheVariants as fault
 use Rattle.office_core_check.specs.declared.Checked.{Checked}
 use Rattle.office_core_check.specs.declared.Checked.TheVariants.{Whole, Differs, Unread}
 

@@ -31,25 +31,27 @@ names_in d = elim d [
   | Wait name v offender ↦ []
 ]
 
--- hints behind a number are taken, and these are the decisions of the run with them, over all that the facts stand for, which does each
+-- Hints behind a number are taken, and these are the decisions of the run with them, over all that the facts stand for.
+-- The run does each of the hints.
 pub record IsSettled (setup : Lists) (date : Date) (number : ℕ) (facts : FactLists) (t : Suite) (hints : List (List ℕ)) (ds : List Decision) : Type 0 where
   pub taken : first_refused setup number 0 hints ≡ None
   pub done : are_done number hints ds ≡ true
   pub decided : (s : Covered) → StandsFor facts s t → ds ≡ decisions_by setup date (with_letters setup (release setup) (hint_letters setup number hints) s) t
 
 -- the decisions move all that the run moves without the hints, over all that the facts stand for
-abbrev pub KeepsRun : Lists → Date → FactLists → Suite → List Decision → Type 0
-KeepsRun setup date facts t ds = (s : Covered) → StandsFor facts s t → KeepsMoves (decisions_by setup date s t) ds
+abbrev pub KeepsMovesOver : Lists → Date → FactLists → Suite → List Decision → Type 0
+KeepsMovesOver setup date facts t ds = (s : Covered) → StandsFor facts s t → KeepsMoves (decisions_by setup date s t) ds
 
 -- hints and decisions are settled for what a search is asked
 abbrev pub IsSettledFor : Asked → Suite → List (List ℕ) → List Decision → Type 0
 IsSettledFor asked t hints ds = IsSettled asked.setup.now asked.date asked.number asked.facts.now t hints ds
 
 -- decisions move all that the run moves without hints, by what a search is asked
-abbrev pub KeepsRunFor : Asked → Suite → List Decision → Type 0
-KeepsRunFor asked t ds = KeepsRun asked.setup.now asked.date asked.facts.now t ds
+abbrev pub KeepsMovesFor : Asked → Suite → List Decision → Type 0
+KeepsMovesFor asked t ds = KeepsMovesOver asked.setup.now asked.date asked.facts.now t ds
 
--- by facts, excuses, and testing behind the hints that stand, a text shows that no group frees the source, which these decisions don't move
+-- by facts, excuses, and testing behind the hints that stand, a text shows that no group frees the source, which these
+-- decisions don't move
 abbrev pub IsStuckBehind : List Text → FactLists → List Excuse → Suite → List Decision → Text → Text → Type 0
 IsStuckBehind archs facts excuses behind ds source text =
     (list_any (is_moved source) ds ≡ false) × IsStuckText archs facts.sources (built_rows archs facts.rows) excuses behind source text

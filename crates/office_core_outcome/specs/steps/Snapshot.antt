@@ -1,4 +1,4 @@
--- A snapshot of the next run: what is thought about once the store has been asked.
+-- Snapshots of the next run: what those of a trial and of the run as ordered have.
 use Rattle.std.specs.Prelude.{◌≡◌, ◌≤◌, ℕ, ◌+◌, length, Option, Some, IfSome}
 use Rattle.std.specs.Option.{option_map}
 use Rattle.testing_rules_model.specs.StandsFor.{StandsFor}
@@ -20,7 +20,7 @@ pub record IsSnapshot (setup : Lists) (kept : Kept) (k : ℕ) (covers : ℕ → 
   pub before : o.testing ≡ testing_after setup kept k
 
 -- a snapshot of the run of a trial on these terms after k finished runs
-pub record IsTrialRun (setup : Lists) (kept : Kept) (k : ℕ) (terms : TrialOptions) (o : Snapshot) : Type 0 where
+pub record IsTrialSnapshot (setup : Lists) (kept : Kept) (k : ℕ) (terms : TrialOptions) (o : Snapshot) : Type 0 where
   pub covers : ℕ → ℕ
   pub are : AreTrialCovers setup kept k terms.all covers
   pub few : covers (release setup) ≤ 999_999_999
@@ -28,12 +28,13 @@ pub record IsTrialRun (setup : Lists) (kept : Kept) (k : ℕ) (terms : TrialOpti
   pub is : IsSnapshot setup kept k covers o
 
 -- a snapshot of run k + 1 as its order has it
-pub record IsOrderedRun (setup : Lists) (kept : Kept) (k : ℕ) (o : Snapshot) : Type 0 where
+pub record IsOrderedSnapshot (setup : Lists) (kept : Kept) (k : ℕ) (o : Snapshot) : Type 0 where
   pub dated : latest_day (orders_to setup kept (k + 1)) ≡ Some o.date
   pub is : IsSnapshot setup kept k (cover setup kept (k + 1)) o
 
--- what is found for a trial on these terms: a snapshot of its run, if the store is legible, or none if the run has no date
-pub record IsFound (setup : Lists) (content : Content) (legible : Type 0) (terms : TrialOptions) (found : Option Snapshot) : Type 0 where
+-- What is found for a trial on these terms: none if its run has no date, or else a snapshot. It is one of that run if
+-- the store is legible.
+pub record IsFoundSnapshot (setup : Lists) (content : Content) (legible : Type 0) (terms : TrialOptions) (found : Option Snapshot) : Type 0 where
   pub covers : ℕ → ℕ
   pub are : AreTrialCovers setup content.kept (length content.reports) terms.all covers
   pub few : covers (release setup) ≤ 999_999_999

@@ -6,8 +6,8 @@ use Rattle.office_mail.specs.declared.bag.BagFault.{BagFault}
 use Rattle.office_mail.specs.Bag.{framed, handed, HasHeader}
 use Rattle.office_mail.specs.BagSteps.{Stops}
 use Rattle.office_mail.specs.Reading.{Reading}
-use Rattle.office_core_orders.specs.declared.replies.Delivery.{Delivery}
-use Rattle.office_core_orders.specs.Written.{AppendsFront}
+use Rattle.office_core_replies.specs.declared.replies.Delivery.{Delivery}
+use Rattle.office_mail.specs.Written.{AppendsFront}
 use Rattle.office_core_facts.specs.OfficeState.{OfficeState}
 use Rattle.office_core_replay.specs.Output.{reply_lines}
 use Rattle.office_core_replay.specs.Losses.{DeliveriesCounted}

@@ -3,7 +3,7 @@ use Rattle.std.specs.Prelude.{◌⊎◌, ℕ, Bool, List, Result, IfOk, OnErr}
 use Rattle.office_mail.specs.Reading.{Reading}
 use Rattle.office_mail.specs.declared.feed.Sink.{Ghosts as Writer}
 use Rattle.office_store_keeper.specs.declared.keeper.Keeper.{Ghosts}
-use Rattle.office_core_orders.specs.declared.replies.WriteFault.{WriteFault}
+use Rattle.office_mail.specs.declared.writer.WriteFault.{WriteFault}
 use Rattle.office_core_facts.specs.State.{state_of}
 use Rattle.office_core.specs.Preserves.{Holds, StoreRefused}
 use Rattle.office_core_replay.specs.Blocks.{DeliversTexts}

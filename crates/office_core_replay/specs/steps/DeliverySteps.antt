@@ -5,13 +5,13 @@ use Rattle.office_mail.specs.declared.bag.BagFault.{BagFault}
 use Rattle.office_mail.specs.Reading.{Reading}
 use Rattle.office_mail.specs.Kept.{kept_from}
 use Rattle.office_mail.specs.Runs.{IsReady, IsReadyCount}
-use Rattle.office_core_orders.specs.declared.faults.StoreFault.{StoreFault}
-use Rattle.office_core_orders.specs.declared.replies.Delivery.{Delivery}
-use Rattle.office_core_orders.specs.declared.replies.Mark.{Mark}
+use Rattle.office_core_store.specs.declared.faults.StoreFault.{StoreFault}
+use Rattle.office_core_replies.specs.declared.replies.Delivery.{Delivery}
+use Rattle.office_core_replies.specs.declared.replies.Mark.{Mark}
 use Rattle.office_core_facts.specs.OfficeState.{OfficeState}
 use Rattle.office_core_facts.specs.State.{answer_to}
-use Rattle.office_core_orders.specs.Written.{AppendsFront}
-use Rattle.office_core_orders.specs.Replies.{if_taken, any_lost, reply_line, reply_by}
+use Rattle.office_mail.specs.Written.{AppendsFront}
+use Rattle.office_core_replies.specs.Replies.{if_taken, any_lost, reply_line, reply_by}
 use Rattle.office_core_replay.specs.Output.{reply_lines}
 use Rattle.office_core_replay.specs.Losses.{DeliveryCounted, TextCounted, DeliveriesCounted}
 use Rattle.office_core_replay.specs.Delivered.{CameFrom, CameFirst, KeepsMail}

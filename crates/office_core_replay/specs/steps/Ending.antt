@@ -1,13 +1,13 @@
 -- How the texts at the end of a replay are written, one after another.
 use Rattle.std.specs.Prelude.{◌≡◌, ℕ, ◌+◌, List, [], ◌++◌, Option, Some, None, Bool, ◌||◌, Result, Ok, Err, length}
 use Rattle.std.specs.Io.KnownBytes.{Appends}
-use Rattle.office_core_orders.specs.declared.faults.Progress.{Progress}
-use Rattle.office_core_orders.specs.declared.faults.StoreFault.{StoreFault}
+use Rattle.office_core_orders.specs.declared.wait_lines.Progress.{Progress}
+use Rattle.office_core_store.specs.declared.faults.StoreFault.{StoreFault}
 use Rattle.office_core_facts.specs.OfficeState.{OfficeState}
-use Rattle.office_core_orders.specs.Written.{AppendsFront}
+use Rattle.office_mail.specs.Written.{AppendsFront}
 use Rattle.office_core_facts.specs.Outcome.{reports_of}
 use Rattle.office_core_replay.specs.Output.{Marks, ReportMarks, or_refused, report_lines, new_reports, end_lines}
-use Rattle.office_core_orders.specs.Replies.{status_line}
+use Rattle.office_core_replies.specs.Replies.{status_line}
 use Rattle.office_core_replay.specs.Losses.{is_missing, is_report_missing, has_refusal, MarksEnd, TextCounted, ReportsCounted, MarksCounted}
 
 -- the mark of a text, from the answer of a call

@@ -1,6 +1,6 @@
 use Rattle.std.proofs.Common.{◌≡◌, Result, None, sym, subst, refl, ◌∙◌}
-use Rattle.office_core_orders.specs.declared.faults.DeliverFault.{DeliverFault}
-use Rattle.office_core_orders.specs.declared.faults.Held.{Held}
+use Rattle.office_core_replies.specs.declared.faults.DeliverFault.{DeliverFault}
+use Rattle.office_core_replies.specs.declared.faults.Held.{Held}
 use Rattle.office_core.specs.steps.GatherSteps.{TakesText, own_text}
 use Rattle.office_core.proofs.GatherFacts.{takes_answer, takes_kept, takes_free, none_own}
 use Rattle.office_core.proofs.batch.answer_message.Goals as goal

@@ -1,12 +1,12 @@
 use Rattle.std.proofs.Common.{◌≡◌, ◌<◌, ◌+◌, ◌++◌, ◌∷◌, [], List, ℕ, Result, IfOk, arith, length, take, sym, ap, subst, refl, ◌∙◌}
 use Rattle.std.proofs.lemmas.List.{take_more, length-append}
 use Rattle.office_store_keeper.specs.Content.{Content}
-use Rattle.office_core_orders.specs.declared.faults.DeliverFault.{DeliverFault}
-use Rattle.office_core_orders.specs.declared.faults.Held.{Held}
+use Rattle.office_core_replies.specs.declared.faults.DeliverFault.{DeliverFault}
+use Rattle.office_core_replies.specs.declared.faults.Held.{Held}
 use Rattle.office_core.specs.steps.Asked.{AreFreeFrom}
 use Rattle.office_core.specs.steps.GatherSteps.{TakesText}
 use Rattle.office_core.proofs.GatherFacts.{each_push, gathers_none, gathers_more}
-use Rattle.office_core_orders.proofs.LookFacts.{looked_none, looked_then}
+use Rattle.office_core_store.proofs.LookFacts.{looked_none, looked_then}
 use Rattle.office_core.proofs.batch.gather_all.Goals as goal
 
 pub texts-init : goal.texts-init

@@ -2,7 +2,7 @@ use Rattle.std.proofs.Common.{◌≡◌, length, take}
 use Rattle.office_core.specs.steps.GatherSteps.{ArePlaced, Gathers}
 use Rattle.office_core.specs.Together.{AreHeldHere}
 use Rattle.office_core.specs.steps.Asked.{AreFreeFrom}
-use Rattle.office_core_orders.proofs.LookFacts.{Looked}
+use Rattle.office_core_store.proofs.LookFacts.{Looked}
 use Rattle.office_core.proofs.batch.gather_all.Given as goal
 
 abbrev pub invariant-texts : goal.invariant-texts

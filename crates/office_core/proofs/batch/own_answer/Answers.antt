@@ -3,7 +3,7 @@ use Rattle.std.specs.Prelude.{bytes_eq, if◌then◌else◌}
 use Rattle.std.specs.Option.{option_map}
 use Rattle.std.proofs.lemmas.List.{take_more, take-append-drop}
 use Rattle.office_store_keeper.specs.declared.values.NewLetter.{NewLetter}
-use Rattle.office_core_orders.specs.declared.faults.DeliverFault.TheVariants.{OtherText}
+use Rattle.office_core_replies.specs.declared.faults.DeliverFault.TheVariants.{OtherText}
 use Rattle.office_core.specs.steps.GatherSteps.{own_text}
 use Rattle.office_core.proofs.GatherFacts.{own_less, own_more}
 use Rattle.office_core.proofs.batch.own_answer.Goals as goal

@@ -12,7 +12,7 @@ use Rattle.office_core_facts.specs.Known.{AreUnderWay}
 use Rattle.office_core_facts.specs.Outcome.{outcome}
 use Rattle.office_core_facts.specs.steps.Walk.{said_within}
 use Rattle.office_core_facts.proofs.GivenFacts.{given_by_mail, known_by_mail}
-use Rattle.office_core_orders.proofs.LookFacts.{looked_fails, looked_none, looked_then}
+use Rattle.office_core_store.proofs.LookFacts.{looked_fails, looked_none, looked_then}
 use Rattle.office_core.proofs.results.decide_run.Goals as goal
 
 pub returns-in-Ok-clause-outcome : goal.returns-in-Ok-clause-outcome

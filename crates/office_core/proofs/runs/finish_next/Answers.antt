@@ -22,7 +22,7 @@ use Rattle.office_core_facts.specs.State.{IsOffice, KeepsFacts}
 use Rattle.office_core_facts.specs.steps.Walk.{said_within}
 use Rattle.office_core_orders.proofs.CountFacts.{IsCounted-later}
 use Rattle.office_core.proofs.FinishFacts.{IsOffice-finished}
-use Rattle.office_core_orders.proofs.LastFacts.{lasts_then}
+use Rattle.office_core_store.proofs.LastFacts.{lasts_then}
 use Rattle.office_core.proofs.KeepingFacts.{Leaves, held_by_same, if_known-then, keeps_facts, leaves_over}
 use Rattle.office_core.proofs.runs.finish_next.Goals as goal
 

@@ -2,7 +2,7 @@ use Rattle.std.proofs.Common.{true, ◌≡◌, ◌-◌, ◌≤◌, IfSome, lengt
 use Rattle.office_core_facts.specs.Known.{AreKnown}
 use Rattle.office_core_orders.specs.steps.Ready.{IsCounted}
 use Rattle.office_core_facts.specs.State.{IsOffice}
-use Rattle.office_core_orders.specs.StaysTrusted.{StaysTrusted}
+use Rattle.office_core_store.specs.StaysTrusted.{StaysTrusted}
 use Rattle.office_core.proofs.runs.settle.Given as goal
 
 abbrev pub invariant-runs : goal.invariant-runs

@@ -2,7 +2,7 @@ use Rattle.std.proofs.Common.{◌≡◌, ℕ, length, ap, subst, arith}
 use Rattle.std.proofs.lemmas.Result.{err_from_is_err_and}
 use Rattle.office_store_keeper.specs.Content.{Content}
 use Rattle.office_core_orders.specs.Ready.{HasEach, HasPlaces}
-use Rattle.office_core_orders.proofs.LookFacts.{looked_fails, looked_none, looked_then}
+use Rattle.office_core_store.proofs.LookFacts.{looked_fails, looked_none, looked_then}
 use Rattle.office_core_facts.specs.Seen.{IsUnbroken}
 use Rattle.office_core_facts.proofs.CountFacts.{each_pushed, size_pushed}
 use Rattle.office_core.proofs.UnbrokenFacts.{all_counted}

@@ -1,7 +1,7 @@
 use Rattle.std.proofs.Common.{◌≡◌, ◌<◌, ℕ, length, slice_index}
 use Rattle.office_core_facts.specs.Seen.{IsUnbroken}
 use Rattle.office_core_orders.specs.Ready.{HasEach, HasPlaces}
-use Rattle.office_core_orders.proofs.LookFacts.{Looked}
+use Rattle.office_core_store.proofs.LookFacts.{Looked}
 use Rattle.office_core.proofs.unbroken.unbroken_counts.Given as goal
 
 abbrev pub invariant-senders : goal.invariant-senders

@@ -1,6 +1,6 @@
 use Rattle.std.proofs.Common.{rules, ◌≡◌, ◌++◌, List, ℕ, ap, ◌∙◌}
 use Rattle.std.specs.Prelude.{codes}
-use Rattle.office_core_orders.specs.Replies.{name_at}
+use Rattle.office_core_replies.specs.Replies.{name_at}
 use Rattle.office_core_facts.specs.Seen.{release}
 use Rattle.office_core_breaks.specs.Asked.{hint_text}
 use Rattle.office_core_breaks.proofs.asked.hint_text.Goals as goal

@@ -1,7 +1,7 @@
 use Rattle.std.proofs.Common.{◌-◌, ◌≡◌, ◌≤◌, ℕ}
 use Rattle.office_store_keeper.specs.Content.{item_from_one}
 use Rattle.office_store_keeper.specs.MemoryState.{content_of}
-use Rattle.office_core_orders.proofs.LookFacts.{Looked}
+use Rattle.office_core_store.proofs.LookFacts.{Looked}
 use Rattle.office_core_check.proofs.comparison.compare_runs.Given as goal
 
 -- the reports of the runs so far are the same

@@ -2,7 +2,7 @@ use Rattle.std.proofs.Common.{rules, ◌+◌, Some, sym, subst, ◌∙◌, arith
 use Rattle.office_store_keeper.specs.Content.{Content}
 use Rattle.office_store_keeper.specs.MemoryState.{content_of}
 use Rattle.office_store_keeper.specs.declared.values.Letter.{Letter}
-use Rattle.office_core_orders.proofs.LookFacts.{looked_then}
+use Rattle.office_core_store.proofs.LookFacts.{looked_then}
 use Rattle.office_core_check.specs.steps.Reading.{IsFront, IsNextLetter}
 use Rattle.office_core_check.proofs.FrontFacts.{front_more}
 use Rattle.office_core_check.proofs.rebuilt.take_sender.Goals as goal

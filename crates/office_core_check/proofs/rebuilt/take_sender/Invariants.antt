@@ -1,6 +1,6 @@
 use Rattle.std.proofs.Common.{◌-◌, ◌≡◌, ◌≤◌}
 use Rattle.office_store_keeper.specs.MemoryState.{content_of}
-use Rattle.office_core_orders.proofs.LookFacts.{Looked}
+use Rattle.office_core_store.proofs.LookFacts.{Looked}
 use Rattle.office_core_check.specs.steps.Comparing.{IsAnew}
 use Rattle.office_core_check.specs.steps.Reading.{IsFront}
 use Rattle.office_core_check.proofs.rebuilt.take_sender.Given as goal

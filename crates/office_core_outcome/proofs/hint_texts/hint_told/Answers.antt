@@ -2,7 +2,7 @@ use Rattle.std.proofs.Common.{length, is_none, sym, ap, subst, ◌∙◌}
 use Rattle.std.specs.Prelude.{Option, IfSome}
 use Rattle.office_store_keeper.specs.Content.{Content}
 use Rattle.office_core_outcome.specs.declared.snapshot.Snapshot.{Snapshot}
-use Rattle.office_core_outcome.specs.steps.Snapshot.{HasTesting, IsOrderedRun}
+use Rattle.office_core_outcome.specs.steps.Snapshot.{HasTesting, IsOrderedSnapshot}
 use Rattle.office_core_outcome.proofs.hint_texts.hint_told.Goals as goal
 
 pub give_back-requires : goal.give_back-requires
@@ -18,7 +18,7 @@ returns-clause-told g c = λ trusted legible office.
     let content : Content = g.K.Keeper.content c.args.keeper.now in
     let earlier = c.give_back.ensures.before trusted in
     c.in_ok-testing.ensures.told content.kept (length content.reports)
-    (subst (λ (found : Option Snapshot). IfSome found (IsOrderedRun setup content.kept (length content.reports))) c.in-Some.is
+    (subst (λ (found : Option Snapshot). IfSome found (IsOrderedSnapshot setup content.kept (length content.reports))) c.in-Some.is
     (c.in_ok-found.ensures.is earlier (c.in_ok-found.ensures.looks.legible earlier legible) office))
 
 pub returns-clause-ordered : goal.returns-clause-ordered

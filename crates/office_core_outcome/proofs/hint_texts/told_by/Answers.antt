@@ -7,7 +7,7 @@ use Rattle.testing_rules_model.specs.declared.facts.HintIn.{HintIn}
 use Rattle.testing_rules_model.specs.declared.facts.UnhintIn.{UnhintIn}
 use Rattle.testing_rules_model.specs.declared.update.Decision.{Decision}
 use Rattle.testing_rules_model.specs.Unstable.{hints_by_number, unhints_by_number}
-use Rattle.office_core_orders.specs.Replies.{name_at}
+use Rattle.office_core_replies.specs.Replies.{name_at}
 use Rattle.office_core_facts.specs.Outcome.{outcome}
 use Rattle.office_core_facts.specs.Seen.{release}
 use Rattle.office_core_outcome.specs.HintTold.{hint_text, is_of_hint, standing_of}

@@ -2,8 +2,8 @@ use Rattle.std.proofs.Common.{IfSome, is_none, length, sym, ap, subst, ◌∙◌
 use Rattle.office_store_keeper.specs.Content.{Content}
 use Rattle.office_core_facts.specs.declared.covered.KnownFacts.{KnownFacts}
 use Rattle.office_core_facts.specs.Known.{AreKnown}
-use Rattle.office_core_outcome.specs.steps.Snapshot.{HasTesting, IsFound}
-use Rattle.office_core_outcome.proofs.SnapshotFacts.{found_dated, trial_run}
+use Rattle.office_core_outcome.specs.steps.Snapshot.{HasTesting, IsFoundSnapshot}
+use Rattle.office_core_outcome.proofs.SnapshotFacts.{found_dated, found_trial}
 use Rattle.office_core_outcome.proofs.proposal_search.propose.Goals as goal
 
 pub give_back-requires : goal.give_back-requires
@@ -20,7 +20,7 @@ returns-clause-proposed g c = λ trusted legible office.
     let readable : Type 0 = g.K.Keeper.is_legible c.trial_snapshot.new.keeper in
     let earlier = c.give_back.ensures.before trusted in
     c.in_ok-before.ensures.proposed content.kept (length content.reports) c.args.terms
-    (trial_run setup content readable c.args.terms c.in-Some.snapshot (subst (IsFound setup content readable c.args.terms) c.in-Some.is (c.in_ok-found.ensures.found earlier office))
+    (found_trial setup content readable c.args.terms c.in-Some.snapshot (subst (IsFoundSnapshot setup content readable c.args.terms) c.in-Some.is (c.in_ok-found.ensures.found earlier office))
     (c.in_ok-found.ensures.looks.legible earlier legible))
 
 pub returns-in_default-clause-dated : goal.returns-in_default-clause-dated

@@ -4,7 +4,7 @@ use Rattle.testing_rules_model.specs.StandsFor.{StandsFor}
 use Rattle.testing_rules_model.specs.Suite.{Suite}
 use Rattle.testing_rules_model.specs.declared.update.Decision.{Decision}
 use Rattle.office_core_outcome.specs.Proposal.{decisions_by}
-use Rattle.office_core_outcome.specs.steps.Settled.{AreAnswersOver, IsSettled, KeepsRun}
+use Rattle.office_core_outcome.specs.steps.Settled.{AreAnswersOver, IsSettled, KeepsMovesOver}
 use Rattle.office_core_outcome.proofs.proposal_search.settled_hints.Goals as goal
 
 pub settle-requires : goal.settle-requires
@@ -22,7 +22,7 @@ returns-clause-settled c =
 pub returns-clause-keeps : goal.returns-clause-keeps
 returns-clause-keeps c =
     let a = c.args.asked.now in
-    subst (λ (t : Suite). KeepsRun a.setup.now a.date a.facts.now t c.in_ok-hints.update) c.in_ok-base.ensures.same c.in_ok-hints.ensures.keeps
+    subst (λ (t : Suite). KeepsMovesOver a.setup.now a.date a.facts.now t c.in_ok-hints.update) c.in_ok-base.ensures.same c.in_ok-hints.ensures.keeps
 
 pub returns-clause-answers : goal.returns-clause-answers
 returns-clause-answers c =

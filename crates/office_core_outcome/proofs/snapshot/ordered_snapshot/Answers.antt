@@ -7,7 +7,7 @@ use Rattle.office_core_orders.specs.steps.Ready.{FirstOrders}
 use Rattle.office_core_orders.proofs.ReadyCount.{ready_bound}
 use Rattle.office_core_facts.proofs.FinishedFacts.{first_none}
 use Rattle.office_core_facts.specs.steps.Stands.{OfNext}
-use Rattle.office_core_outcome.specs.steps.Snapshot.{IsOrderedRun}
+use Rattle.office_core_outcome.specs.steps.Snapshot.{IsOrderedSnapshot}
 use Rattle.office_core_outcome.proofs.HintTextFacts.{has_come, no_day, not_yet_come}
 use Rattle.office_core_outcome.proofs.snapshot.ordered_snapshot.Goals as goal
 
@@ -43,7 +43,7 @@ returns-clause-is g c = λ trusted legible office.
     let all : length orders ≡ run = omega (arith, c.if-len-run.false, c.len.ensures) in
     let count : length given ≡ run = ap (λ (os : List RunOrder). length os) lent ∙ all in
     let day : latest_day given ≡ Some date = ap latest_day (lent ∙ sym c.deref.ensures.value) ∙ sym c.latest_day.ensures ∙ c.in-Some.is in
-    subst (λ (m : Content). OfNext setup m given (run ≡ length given → latest_day given ≡ Some date → IsOrderedRun setup m.kept (length m.reports) c.in_ok-snapshot.snapshot))
+    subst (λ (m : Content). OfNext setup m given (run ≡ length given → latest_day given ≡ Some date → IsOrderedSnapshot setup m.kept (length m.reports) c.in_ok-snapshot.snapshot))
     (c.in_ok-read_orders.ensures.looks.same later ∙ at) (c.in_ok-snapshot.ensures.is trusted legible) office first (count ∙ next) (sym count) day
 
 pub returns-then-len-run-clause-ordered : goal.returns-then-len-run-clause-ordered

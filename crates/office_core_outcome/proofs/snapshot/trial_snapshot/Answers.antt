@@ -3,7 +3,7 @@ use Rattle.office_store_keeper.specs.Content.{Content}
 use Rattle.office_core_facts.specs.declared.covered.KnownFacts.{KnownFacts}
 use Rattle.office_core_facts.specs.Known.{AreKnown}
 use Rattle.office_core_facts.specs.steps.Last.{OfRuns}
-use Rattle.office_core_outcome.specs.steps.Snapshot.{HasTesting, IsFound}
+use Rattle.office_core_outcome.specs.steps.Snapshot.{HasTesting, IsFoundSnapshot}
 use Rattle.office_core_outcome.proofs.snapshot.trial_snapshot.Goals as goal
 
 pub returns-clause-kept : goal.returns-clause-kept
@@ -21,7 +21,7 @@ returns-clause-found g c = λ trusted office.
     let same = finished.looks.same earlier in
     let legible : Type 0 = g.K.Keeper.is_legible c.snapshot_after.new.keeper in
     let known : Option KnownFacts = c.finished_runs.new.known in
-    subst (λ (m : Content). OfRuns setup m c.in_ok-finished.finished known (IfOk c.snapshot_after.result (IsFound setup m legible a.terms))) same (after.found trusted) office (finished.finished earlier)
+    subst (λ (m : Content). OfRuns setup m c.in_ok-finished.finished known (IfOk c.snapshot_after.result (IsFoundSnapshot setup m legible a.terms))) same (after.found trusted) office (finished.finished earlier)
     (subst (λ (m : Content). IfSome known (λ (k : KnownFacts). AreKnown setup m k)) same (finished.known earlier))
 
 pub returns-clause-known : goal.returns-clause-known

@@ -2,8 +2,8 @@ use Rattle.std.proofs.Common.{IfSome, length, sym, ap, subst, ◌∙◌}
 use Rattle.office_store_keeper.specs.Content.{Content}
 use Rattle.office_core_facts.specs.declared.covered.KnownFacts.{KnownFacts}
 use Rattle.office_core_facts.specs.Known.{AreKnown}
-use Rattle.office_core_outcome.specs.steps.Snapshot.{HasTesting, IsFound}
-use Rattle.office_core_outcome.proofs.SnapshotFacts.{no_date, trial_run}
+use Rattle.office_core_outcome.specs.steps.Snapshot.{HasTesting, IsFoundSnapshot}
+use Rattle.office_core_outcome.proofs.SnapshotFacts.{no_date, found_trial}
 use Rattle.office_core_outcome.proofs.trials.try_hints.Goals as goal
 
 pub give_back-requires : goal.give_back-requires
@@ -18,7 +18,7 @@ returns-in_default-clause-tried g c = λ trusted legible office.
     let setup = c.args.setup.now in
     let content : Content = g.K.Keeper.content c.args.keeper.now in
     let readable : Type 0 = g.K.Keeper.is_legible c.trial_snapshot.new.keeper in
-    no_date setup content readable c.args.terms c.args.hints.now (subst (IsFound setup content readable c.args.terms) c.in_default.is (c.in_ok-found.ensures.found trusted office))
+    no_date setup content readable c.args.terms c.args.hints.now (subst (IsFoundSnapshot setup content readable c.args.terms) c.in_default.is (c.in_ok-found.ensures.found trusted office))
 
 pub returns-clause-tried : goal.returns-clause-tried
 returns-clause-tried g c = λ trusted legible office.
@@ -27,7 +27,7 @@ returns-clause-tried g c = λ trusted legible office.
     let readable : Type 0 = g.K.Keeper.is_legible c.trial_snapshot.new.keeper in
     let earlier = c.give_back.ensures.before trusted in
     c.in_ok-before.ensures.tried content.kept (length content.reports) c.args.terms
-    (trial_run setup content readable c.args.terms c.in-Some.snapshot (subst (IsFound setup content readable c.args.terms) c.in-Some.is (c.in_ok-found.ensures.found earlier office))
+    (found_trial setup content readable c.args.terms c.in-Some.snapshot (subst (IsFoundSnapshot setup content readable c.args.terms) c.in-Some.is (c.in_ok-found.ensures.found earlier office))
     (c.in_ok-found.ensures.looks.legible earlier legible))
 
 pub returns-clause-known : goal.returns-clause-known

@@ -4,7 +4,7 @@ use Rattle.jiff_core.specs.declared.civil.date.Date.{Date}
 use Rattle.jiff.specs.Words.{date_text}
 use Rattle.office_mail.specs.Lists.{Lists}
 use Rattle.office_mail.specs.Runs.{runs}
-use Rattle.office_core_orders.specs.Replies.{name_at}
+use Rattle.office_core_replies.specs.Replies.{name_at}
 use Rattle.office_core_queries.specs.Listing.{listed_words, stated_to}
 use Rattle.office_core_queries.specs.NextOrder.{order_cover, order_text}
 use Rattle.office_core_queries.proofs.next_order.order_text.Goals as goal

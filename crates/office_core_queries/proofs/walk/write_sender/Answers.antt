@@ -4,7 +4,7 @@ use Rattle.std.proofs.lemmas.Result.{err_from_is_err_and}
 use Rattle.office_mail.specs.Lists.{Lists}
 use Rattle.office_store_keeper.specs.Content.{Content}
 use Rattle.office_store_keeper.specs.declared.values.Letter.{Letter}
-use Rattle.office_core_orders.specs.Written.{AppendsFront}
+use Rattle.office_mail.specs.Written.{AppendsFront}
 use Rattle.office_core_queries.specs.steps.Numbers.{IsLetterAbove, IsNextLetter}
 use Rattle.office_core_queries.specs.steps.Walk.{told_as}
 use Rattle.office_core_queries.proofs.AskFacts.{both_asked, both_none, both_then, both_written, holds_before, holds_behind}

@@ -2,8 +2,8 @@ use Rattle.std.proofs.Common.{flat_map, sym, subst}
 use Rattle.std.specs.Io.KnownBytes.{Appends}
 use Rattle.std.proofs.lemmas.Result.{err_from_is_err_and}
 use Rattle.office_mail.specs.Lists.{Lists}
-use Rattle.office_core_orders.specs.Replies.{reply_line}
-use Rattle.office_core_orders.specs.Written.{AppendsFront}
+use Rattle.office_core_replies.specs.Replies.{reply_line}
+use Rattle.office_mail.specs.Written.{AppendsFront}
 use Rattle.office_core_replay.specs.steps.BlockSteps.{DeliversTextsFront}
 use Rattle.office_core.specs.Preserves.{StoreRefused}
 use Rattle.office_core_facts.specs.State.{state_of}

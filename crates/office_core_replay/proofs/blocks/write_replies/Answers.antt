@@ -1,7 +1,7 @@
 use Rattle.std.proofs.Common.{rules}
 use Rattle.std.proofs.lemmas.Result.{err_from_is_err_and}
-use Rattle.office_core_orders.specs.Replies.{reply_line}
-use Rattle.office_core_orders.proofs.WrittenFacts.{writes_front}
+use Rattle.office_core_replies.specs.Replies.{reply_line}
+use Rattle.office_mail.proofs.WrittenFacts.{writes_front}
 use Rattle.office_core_replay.proofs.BlockFacts.{lines_at}
 use Rattle.office_core_replay.proofs.blocks.write_replies.Goals as goal
 

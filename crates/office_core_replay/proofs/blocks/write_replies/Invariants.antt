@@ -1,6 +1,6 @@
 use Rattle.std.proofs.Common.{◌≡◌, flat_map, take}
 use Rattle.std.specs.Io.KnownBytes.{Appends}
-use Rattle.office_core_orders.specs.Replies.{reply_line}
+use Rattle.office_core_replies.specs.Replies.{reply_line}
 use Rattle.office_core_replay.proofs.blocks.write_replies.Given as goal
 
 abbrev pub invariant-lines : goal.invariant-lines

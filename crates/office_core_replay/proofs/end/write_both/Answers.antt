@@ -1,7 +1,7 @@
 use Rattle.std.proofs.Common.{rules, ◌∙◌}
 use Rattle.std.proofs.lemmas.Result.{err_from_is_err_and}
 use Rattle.std.proofs.KnownBytes.{Appends-trans}
-use Rattle.office_core_orders.proofs.WrittenFacts.{front_after, front_before, writes_front}
+use Rattle.office_mail.proofs.WrittenFacts.{front_after, front_before, writes_front}
 use Rattle.office_core_replay.proofs.end.write_both.Goals as goal
 
 pub returns-in_err-write_report-clause-writes : goal.returns-in_err-write_report-clause-writes

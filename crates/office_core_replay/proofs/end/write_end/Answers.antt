@@ -8,11 +8,11 @@ use Rattle.office_core_replay.specs.Losses.{is_missing, is_report_missing}
 use Rattle.office_core_facts.specs.Outcome.{testing_text, testing_after}
 use Rattle.office_core_facts.specs.OfficeState.{OfficeState}
 use Rattle.office_core_facts.specs.State.{state_of}
-use Rattle.office_core_orders.specs.Written.{AppendsFront}
+use Rattle.office_mail.specs.Written.{AppendsFront}
 use Rattle.office_core.proofs.CarryFacts.{asks_twice, holds_first, holds_next, refused_first, refused_next, risen, state_asked}
 use Rattle.office_core_replay.proofs.EndFacts.{count_in, shown_status, ready_counted, shown_text, fill, fill_all, counted-fill, missing_is}
 use Rattle.office_core_replay.proofs.RiseFacts.{text_counted, text_weaker, reports_weaker}
-use Rattle.office_core_orders.proofs.WrittenFacts.{front_after, front_before}
+use Rattle.office_mail.proofs.WrittenFacts.{front_after, front_before}
 use Rattle.office_core_replay.proofs.end.write_end.Goals as goal
 
 pub returns-in_err-write_status-clause-err : goal.returns-in_err-write_status-clause-err

@@ -1,6 +1,6 @@
 use Rattle.std.proofs.Common.{ℕ, Result, Some, Err, [], ap, refl}
 use Rattle.std.proofs.lemmas.Result.{err_from_is_err_and}
-use Rattle.office_core_orders.specs.declared.faults.StoreFault.{StoreFault}
+use Rattle.office_core_store.specs.declared.faults.StoreFault.{StoreFault}
 use Rattle.office_core.specs.Preserves.{StoreRefused}
 use Rattle.office_core.proofs.CarryFacts.{risen}
 use Rattle.office_core_replay.proofs.RiseFacts.{fault_counted}

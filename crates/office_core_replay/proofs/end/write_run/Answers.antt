@@ -1,7 +1,7 @@
 use Rattle.std.proofs.Common.{◌≡◌, Bool, ◌||◌, ◌++◌, ℕ, List, Result, Ok, Err, IfOk, OnOk, is_err, ap, subst, ◌∙◌}
 use Rattle.std.proofs.lemmas.Result.{on_err_weaker}
 use Rattle.std.specs.Io.KnownBytes.{Appends}
-use Rattle.office_core_orders.specs.Written.{AppendsFront}
+use Rattle.office_mail.specs.Written.{AppendsFront}
 use Rattle.office_core_replay.specs.Losses.{is_missing}
 use Rattle.office_core.specs.Preserves.{StoreRefused}
 use Rattle.office_core_replay.specs.steps.Ending.{WritesRun, mark_in, report_shown}

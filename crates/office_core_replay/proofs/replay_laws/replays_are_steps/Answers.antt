@@ -1,7 +1,7 @@
 use Rattle.std.proofs.Common.{length, subst}
 use Rattle.office_mail.specs.Lists.{Lists}
 use Rattle.office_mail.specs.Runs.{IsReadyCount}
-use Rattle.office_core_orders.specs.Replies.{not_lost}
+use Rattle.office_core_replies.specs.Replies.{not_lost}
 use Rattle.office_core_facts.specs.State.{IsOffice}
 use Rattle.office_core.proofs.HistoryFacts.{came_leads, came_settled}
 use Rattle.office_core_replay.proofs.replay_laws.replays_are_steps.Goals as goal

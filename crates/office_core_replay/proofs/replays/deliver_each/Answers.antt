@@ -8,7 +8,7 @@ use Rattle.office_core.proofs.CarryFacts.{carries_none, carries_twice, holds_fir
 use Rattle.office_core_replay.proofs.DeliverFacts.{not_true, unfailed, delivers_none, delivers_more, delivers_front, delivers_all}
 use Rattle.office_core_replay.proofs.replays.deliver_each.Goals as goal
 use Rattle.office_core_replay.proofs.replays.deliver_each.Goals.{then-lost, else-lost}
-use Rattle.office_core_orders.specs.Replies.{is_lost}
+use Rattle.office_core_replies.specs.Replies.{is_lost}
 
 lost_before : (a b : Bool) → a ≡ true → a ≡ (a || b)
 lost_before true b e = refl

@@ -1,7 +1,7 @@
 use Rattle.std.proofs.Common.{ℕ, Bool, ◌||◌, ◌-◌, ◌≤◌, not, Some, None, inl, inr, sym, ap, subst, ◌∙◌, arith}
 use Rattle.std.proofs.lemmas.Result.{err_from_is_err_and}
 use Rattle.std.proofs.KnownBytes.{Appends-trans}
-use Rattle.office_core_orders.specs.declared.faults.StoreFault.TheVariants.{NoMemory}
+use Rattle.office_core_store.specs.declared.faults.StoreFault.TheVariants.{NoMemory}
 use Rattle.office_core.specs.Preserves.{StoreRefused}
 use Rattle.office_core_replay.specs.Losses.{is_short}
 use Rattle.office_core_replay.specs.Output.{Marks}
@@ -9,7 +9,7 @@ use Rattle.office_core_replay.specs.steps.Ending.{WritesEnd, WritesEndFront}
 use Rattle.office_core_replay.specs.Replay.{ReplaysAll, ReplaysFront}
 use Rattle.office_core_facts.specs.OfficeState.{OfficeState}
 use Rattle.office_core_facts.specs.State.{state_of}
-use Rattle.office_core_orders.proofs.WrittenFacts.{front_after, front_before}
+use Rattle.office_mail.proofs.WrittenFacts.{front_after, front_before}
 use Rattle.office_core.proofs.CarryFacts.{carries_twice, holds_first, holds_next, refused_first, refused_next, state_asked}
 use Rattle.office_core_replay.proofs.EndFacts.{fill, fill_all, counted-fill}
 use Rattle.office_core_replay.proofs.CourseFacts.{settled_call, replays_all, replays_front, replays_last}

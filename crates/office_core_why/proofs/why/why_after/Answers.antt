@@ -1,4 +1,4 @@
-use Rattle.std.proofs.Common.{◌≡◌, ℕ, Option, Some, None, IfSome, length, sym, subst, ◌∙◌}
+use Rattle.std.proofs.Common.{◌≡◌, ℕ, Option, Some, IfSome, length, sym, subst, ◌∙◌}
 use Rattle.office_store_keeper.specs.Content.{Content}
 use Rattle.office_core_facts.specs.declared.last_run.LastRun.{LastRun}
 use Rattle.office_core_facts.specs.steps.Last.{IsLastRun, OfRuns}

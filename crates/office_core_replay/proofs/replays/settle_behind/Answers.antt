@@ -1,6 +1,6 @@
 use Rattle.std.proofs.Common.{◌∙◌, sym}
 use Rattle.office_core_replay.proofs.ReplayFacts.{settles_call}
-use Rattle.office_core_replay.proofs.replays.settle_watched.Goals as goal
+use Rattle.office_core_replay.proofs.replays.settle_behind.Goals as goal
 
 pub returns-then-is_ok-clause-settles : goal.returns-then-is_ok-clause-settles
 returns-then-is_ok-clause-settles g c =
