@@ -1,7 +1,6 @@
 //! Lists of what a suite has: a line `NAME VERSION ARCHITECTURE` for each binary package and each source.
 
 ghost use Rattle.std.specs.Prelude.{◌≡◌, ◌∷◌, ◌++◌, ◌<◌, IfOk, IfSome, IsPermutation};
-ghost use Rattle.archive_plan.specs.Items.{AreInOrder};
 ghost use Rattle.archive_lists.specs.List.{IsListOf, line_of, listed};
 
 use archive_plan::{Item, is_in_order, key_order};

@@ -1,6 +1,6 @@
 //! Three lists, of which a decision is made.
 
-ghost use Rattle.std.specs.Prelude.{◌≡◌, IfOk};
+ghost use Rattle.std.specs.Prelude.{IfOk};
 ghost use Rattle.archive_lists.specs.List.{AreLists};
 
 use crate::list::{ListFault, read_list};

@@ -1,8 +1,7 @@
 //! Which items of a list stand in a relation to one of another list, in one pass over both.
 
-ghost use Rattle.std.specs.Prelude.{◌≡◌, ◌≢◌, ◌≤◌, ◌<◌, ℕ, true, length, slice_index_or, IfOk};
-ghost use Rattle.std.specs.declared.cmp.Ordering.TheVariants.{Less};
-ghost use Rattle.archive_plan.specs.Items.{AreInOrder, key_cmp, meets, picked_from};
+ghost use Rattle.std.specs.Prelude.{◌≡◌, true, IfOk};
+ghost use Rattle.archive_plan.specs.Items.{AreInOrder, meets, picked_from};
 ghost use Rattle.archive_plan.specs.steps.Merge.{IsPlaceFor, ArePassed};
 
 use crate::items::{Item, Relation, is_fit, key_order};

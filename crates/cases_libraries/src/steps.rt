@@ -51,12 +51,12 @@ fn take_packages(
         "changes" => put_changes(rt.alloc(), suite, step.text, came),
         "install" => put_told(rt.alloc(), None, step.text, came),
         "counted" => put_told(rt.alloc(), Some(step.number), step.text, came),
-        _ => take_text(rt, step, came),
+        _ => take_whole(rt, step, came),
     }
 }
 
 /// Takes a step whose text is read as a whole, or another one.
-fn take_text(rt: &HostRuntime, step: Step<'_>, came: &mut String) -> Result<(), AllocError> {
+fn take_whole(rt: &HostRuntime, step: Step<'_>, came: &mut String) -> Result<(), AllocError> {
     match step.what {
         "control" => put_paragraphs(rt.alloc(), step.bytes, came),
         "binary" => put_first_binary(rt.alloc(), step.bytes, came),

@@ -2,7 +2,7 @@
 ghost use Rattle.std.specs.Prelude.{◌≡◌};
 
 use crate::office_over::REOPEN;
-use crate::sessions::{setup_in, sit};
+use crate::sessions::{setup_in, take_session};
 use office_http::Office;
 use office_mail::Setup;
 use office_store::{Finished, KeepFault, Keeper, Letter, MailText, Plain, Reports, Tables};
@@ -138,9 +138,9 @@ fn put_noted_in_plain(
 ) -> Result<(), AllocError> {
     match Plain::new(alloc, &setup) {
         Ok(plain) => {
-            let (plain, sat) = sit_noted(alloc, setup, plain, row, came);
+            let (plain, taken) = take_noted(alloc, setup, plain, row, came);
             drop(plain);
-            sat
+            taken
         }
         Err(_) => {
             drop(setup);
@@ -158,9 +158,9 @@ fn put_noted_in_file(
 ) -> Result<(), AllocError> {
     match Connection::open_in_memory(alloc) {
         Ok(conn) => {
-            let (conn, sat) = sit_noted_over(alloc, setup, conn, row, came);
+            let (conn, taken) = take_noted_over(alloc, setup, conn, row, came);
             drop(conn);
-            sat
+            taken
         }
         Err(_) => {
             drop(setup);
@@ -170,7 +170,7 @@ fn put_noted_in_file(
 }
 
 /// Adds the result of a row in an office over tables in this connection, which are closed afterwards.
-fn sit_noted_over<S: Alter + Drop>(
+fn take_noted_over<S: Alter + Drop>(
     alloc: Global,
     setup: Setup,
     conn: Connection<S>,
@@ -179,8 +179,8 @@ fn sit_noted_over<S: Alter + Drop>(
 ) -> (Connection<S>, Result<(), AllocError>) {
     match Tables::open(alloc, conn, &setup) {
         Ok(tables) => {
-            let (tables, sat) = sit_noted(alloc, setup, tables, row, came);
-            (tables.into_connection(), sat)
+            let (tables, taken) = take_noted(alloc, setup, tables, row, came);
+            (tables.into_connection(), taken)
         }
         Err((_, conn)) => {
             drop(setup);
@@ -191,7 +191,7 @@ fn sit_noted_over<S: Alter + Drop>(
 
 /// Adds the result of a row in an office over a store, which is returned; and of each sender the least number that was
 /// asked for.
-fn sit_noted<K: Keeper>(
+fn take_noted<K: Keeper>(
     alloc: Global,
     setup: Setup,
     keeper: K,
@@ -205,19 +205,19 @@ fn sit_noted<K: Keeper>(
         now: NOTHING,
         before: NOTHING,
     };
-    let (noting, sat) = sit_in_turn(alloc, Office::new(alloc, setup, noting), row, came);
+    let (noting, taken) = take_in_turn(alloc, Office::new(alloc, setup, noting), row, came);
     let Noting {
         keeper,
         now: _,
         before,
     } = noting;
     let told = put_notes(&before, came);
-    (keeper, sat.and(told))
+    (keeper, taken.and(told))
 }
 
-/// Takes the steps of each sitting in an office that knows nothing yet, each over the store of the one before. The last
+/// Takes the steps of each session in an office that knows nothing yet, each over the store of the one before. The last
 /// one's store is returned.
-fn sit_in_turn<K: Keeper>(
+fn take_in_turn<K: Keeper>(
     alloc: Global,
     office: Office<K>,
     row: &str,
@@ -225,26 +225,26 @@ fn sit_in_turn<K: Keeper>(
 ) -> (K, Result<(), AllocError>) {
     let mut office = office;
     let mut all = Ok(());
-    for sitting in row.split(REOPEN) {
-        let (anew, sat) = sit_anew(alloc, office, sitting, came);
+    for session in row.split(REOPEN) {
+        let (anew, taken) = take_anew(alloc, office, session, came);
         office = anew;
-        all = all.and(sat);
+        all = all.and(taken);
     }
     (office.into_keeper(), all)
 }
 
-/// Takes a sitting's steps in an office that knows nothing yet, over the store of another.
-fn sit_anew<K: Keeper>(
+/// Takes a session's steps in an office that knows nothing yet, over the store of another.
+fn take_anew<K: Keeper>(
     alloc: Global,
     office: Office<K>,
-    sitting: &str,
+    session: &str,
     came: &mut String,
 ) -> (Office<K>, Result<(), AllocError>) {
     match office.setup().copy(alloc) {
         Ok(setup) => {
             let mut anew = Office::new(alloc, setup, office.into_keeper());
-            let sat = sit(alloc, &mut anew, sitting, came);
-            (anew, sat)
+            let taken = take_session(alloc, &mut anew, session, came);
+            (anew, taken)
         }
         Err(_) => (office, Err(AllocError)),
     }

@@ -2,7 +2,7 @@
 ghost use Rattle.std.specs.Prelude.{◌≡◌};
 
 use crate::checks::check_in;
-use crate::sessions::{setup_in, sit, tells_check, tells_facts};
+use crate::sessions::{setup_in, take_session, tells_check, tells_facts};
 use crate::steps::facts_in;
 use office_http::Office;
 use office_mail::{Setup, SetupFault};
@@ -10,7 +10,7 @@ use office_store::{Keeper, OpenFault, Plain, Tables};
 use sqlite::{Alter, Connection, Error};
 use std::alloc::{AllocError, Global};
 
-/// Separates the sittings of a row.
+/// Separates the sessions of a row.
 pub const REOPEN: &str = "\n> reopen";
 
 /// Begins a statement of SQL that changes tables before they are opened.
@@ -34,9 +34,9 @@ fn put_over_plain(
 ) -> Result<(), AllocError> {
     match Plain::new(alloc, &setup) {
         Ok(plain) => {
-            let (plain, sat) = sit_in(alloc, setup, plain, row, came);
+            let (plain, taken) = take_in_store(alloc, setup, plain, row, came);
             drop(plain);
-            sat
+            taken
         }
         Err(_) => {
             drop(setup);
@@ -45,36 +45,36 @@ fn put_over_plain(
     }
 }
 
-/// Takes the steps of each sitting in an office over a store, which is returned.
-fn sit_in<K: Keeper>(
+/// Takes the steps of each session in an office over a store, which is returned.
+fn take_in_store<K: Keeper>(
     alloc: Global,
     setup: Setup,
     keeper: K,
-    sittings: &str,
+    sessions: &str,
     came: &mut String,
 ) -> (K, Result<(), AllocError>)
     requires { K.setup keeper ≡ setup }
 {
     let mut office = Office::new(alloc, setup, keeper);
-    let sat = sit_each(alloc, &mut office, sittings, came);
-    let (keeper, told) = told_over(alloc, office, sittings, came);
-    (keeper, sat.and(told))
+    let taken = take_sessions(alloc, &mut office, sessions, came);
+    let (keeper, told) = told_over(alloc, office, sessions, came);
+    (keeper, taken.and(told))
 }
 
-/// Takes the steps of each sitting in an office.
-fn sit_each<K: Keeper>(
+/// Takes the steps of each session in an office.
+fn take_sessions<K: Keeper>(
     alloc: Global,
     office: &mut Office<K>,
-    sittings: &str,
+    sessions: &str,
     came: &mut String,
 ) -> Result<(), AllocError> {
-    for sitting in sittings.split(REOPEN) {
-        sit(alloc, office, sitting, came)?;
+    for session in sessions.split(REOPEN) {
+        take_session(alloc, office, session, came)?;
     }
     Ok(())
 }
 
-/// Adds the result of a row over tables, which each sitting opens again.
+/// Adds the result of a row over tables, which each session opens again.
 pub fn put_in_tables(alloc: Global, row: &str, came: &mut String) -> Result<(), AllocError> {
     match Connection::open_in_memory(alloc) {
         Ok(conn) => put_over_tables(alloc, conn, row, came),
@@ -82,7 +82,7 @@ pub fn put_in_tables(alloc: Global, row: &str, came: &mut String) -> Result<(), 
     }
 }
 
-/// Adds the result of a row over tables in this connection, which each sitting opens again.
+/// Adds the result of a row over tables in this connection, which each session opens again.
 fn put_over_tables<S: Alter + Drop>(
     alloc: Global,
     conn: Connection<S>,
@@ -91,23 +91,23 @@ fn put_over_tables<S: Alter + Drop>(
 ) -> Result<(), AllocError> {
     let mut conn = conn;
     let mut all = Ok(());
-    for sitting in row.split(REOPEN) {
-        let changed = change_all(&mut conn, sitting, came);
-        let (left, sat) = sit_over(alloc, conn, sitting, came);
+    for session in row.split(REOPEN) {
+        let changed = change_all(&mut conn, session, came);
+        let (left, taken) = take_in_tables(alloc, conn, session, came);
         conn = left;
-        all = all.and(changed).and(sat);
+        all = all.and(changed).and(taken);
     }
     drop(conn);
     all
 }
 
-/// Takes a sitting's statements.
+/// Takes a session's statements.
 fn change_all<S: Alter>(
     conn: &mut Connection<S>,
-    sitting: &str,
+    session: &str,
     came: &mut String,
 ) -> Result<(), AllocError> {
-    let mut parts = sitting.split(STATEMENT);
+    let mut parts = session.split(STATEMENT);
     let _before = parts.next();
     for part in parts {
         change(conn, part.lines().next().unwrap_or(""), came)?;
@@ -127,31 +127,31 @@ fn change<S: Alter>(
     }
 }
 
-/// Takes a sitting's steps over tables, which are closed afterwards.
-fn sit_over<S: Alter + Drop>(
+/// Takes a session's steps over tables, which are closed afterwards.
+fn take_in_tables<S: Alter + Drop>(
     alloc: Global,
     conn: Connection<S>,
-    sitting: &str,
+    session: &str,
     came: &mut String,
 ) -> (Connection<S>, Result<(), AllocError>) {
-    match Setup::parse(alloc, setup_in(sitting).as_bytes()) {
-        Ok(setup) => sit_with(alloc, setup, conn, sitting, came),
+    match Setup::parse(alloc, setup_in(session).as_bytes()) {
+        Ok(setup) => take_with_setup(alloc, setup, conn, session, came),
         Err(fault) => (conn, put_refused(fault, came)),
     }
 }
 
-/// Takes a sitting's steps over tables with this setup, which are closed afterwards.
-fn sit_with<S: Alter + Drop>(
+/// Takes a session's steps over tables with this setup, which are closed afterwards.
+fn take_with_setup<S: Alter + Drop>(
     alloc: Global,
     setup: Setup,
     conn: Connection<S>,
-    sitting: &str,
+    session: &str,
     came: &mut String,
 ) -> (Connection<S>, Result<(), AllocError>) {
     match Tables::open(alloc, conn, &setup) {
         Ok(tables) => {
-            let (tables, sat) = sit_in(alloc, setup, tables, sitting, came);
-            (tables.into_connection(), sat)
+            let (tables, taken) = take_in_store(alloc, setup, tables, session, came);
+            (tables.into_connection(), taken)
         }
         Err((fault, conn)) => {
             drop(setup);

@@ -27,9 +27,9 @@ Sender: clock
 Role: runs
 ";
 
-/// The setup that the steps of a sitting give.
-pub fn setup_in(sitting: &str) -> &str {
-    match sitting.split_once("\n> setup\n") {
+/// The setup that the steps of a session give.
+pub fn setup_in(session: &str) -> &str {
+    match session.split_once("\n> setup\n") {
         Some((_, rest)) => match rest.split_once("\n> ") {
             Some((setup, _)) => setup,
             None => rest,
@@ -38,14 +38,14 @@ pub fn setup_in(sitting: &str) -> &str {
     }
 }
 
-/// Takes the steps of a sitting in an office, and adds the results. The text before the first step is none.
-pub fn sit<K: Keeper>(
+/// Takes the steps of a session in an office, and adds the results. The text before the first step isn't one.
+pub fn take_session<K: Keeper>(
     alloc: Global,
     office: &mut Office<K>,
-    sitting: &str,
+    session: &str,
     came: &mut String,
 ) -> Result<(), AllocError> {
-    let mut steps = sitting.split("\n> ");
+    let mut steps = session.split("\n> ");
     let _about = steps.next();
     for step in steps {
         let (head, lines) = step.split_once('\n').unwrap_or((step, ""));

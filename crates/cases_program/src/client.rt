@@ -2,7 +2,7 @@
 
 use cases_faults::{Met, close, due, new_office};
 use mio::net::TcpListener;
-use office_cli::{listen, serve_next};
+use office_cli::{listen, serve_clients};
 use office_http::{Office, routes};
 use office_store::Keeper;
 use std::io;
@@ -25,7 +25,7 @@ fn ask<K: Keeper>(
     let Ok(table) = routes(rt.alloc()) else {
         return Err(io::ErrorKind::OutOfMemory.into());
     };
-    if serve_next(rt, listener, office, &table).is_err() {
+    if serve_clients(rt, listener, office, &table, 1, &[]).is_err() {
         return Err(io::ErrorKind::Other.into());
     }
     io::read_to_string(rt.alloc(), client)

@@ -30,13 +30,13 @@ fn try_group(alloc: Global, setup: &Setup) -> Result<(), Met> {
 /// The facts take what the group's mail says.
 fn take_group(alloc: Global, setup: &Setup, facts: &mut Facts) -> Result<(), Met> {
     for letter in letters_of(6) {
-        take_text(alloc, setup, facts, letter.text)?;
+        take_letter(alloc, setup, facts, letter.text)?;
     }
     Ok(())
 }
 
-/// The facts take what a text says.
-fn take_text(alloc: Global, setup: &Setup, facts: &mut Facts, text: &str) -> Result<(), Met> {
+/// The facts take what the text of a letter says.
+fn take_letter(alloc: Global, setup: &Setup, facts: &mut Facts, text: &str) -> Result<(), Met> {
     match read_message(alloc, setup, text.as_bytes()) {
         Ok(message) => {
             let taken = take_message(facts, &message);

@@ -226,7 +226,8 @@ impl<'a> Clients<'a> {
     }
 }
 
-/// Serves so many connections of a listener, as these hosts.
+/// Serves this many connections of a listener, for requests to these hosts, or to any host if none is given. A failed
+/// connection counts, too.
 pub fn serve_clients<K: Keeper>(
     rt: &HostRuntime,
     listener: &mut TcpListener,

@@ -21,9 +21,10 @@ mod status;
 mod tasks;
 mod trials;
 
+pub use clients::serve_clients;
 pub use office_store::{
     ConfFault, FileFault, close_store, conf_status, open_store, open_tables, read_setup,
     setup_status, store_status,
 };
-pub use service::{ServiceFault, listen, serve, serve_next, service_status};
+pub use service::{ServiceFault, listen, serve, service_status};
 pub use tasks::run_command;

@@ -1,7 +1,7 @@
 //! Prints on standard error which messages of a bag were refused, and how far a replay is.
 
 use deb_control::{Paragraph, Paragraphs};
-use office_core_orders::fault_words;
+use office_core_replies::fault_words;
 use office_http::{DeliverFault, Held, Progress, StoreFault, Watcher};
 use office_mail::MailFault;
 use std::io::IsTerminal;

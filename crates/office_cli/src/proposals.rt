@@ -6,10 +6,10 @@ ghost use Rattle.office_cli.specs.steps.Told.{status_of_proposal};
 use crate::answers::{print_text, refuse};
 use crate::status::ExitStatus;
 use deb_control::Text;
-use office_core_orders::name_at;
 use office_core_outcome::{
     AskedSource, LongGroup, Proposal, SearchNotes, SourceEnd, proposal_text, release_place,
 };
+use office_core_replies::name_at;
 use office_http::StoreFault;
 use office_mail::Setup;
 
@@ -89,7 +89,8 @@ fn print_long(rt: &HostRuntime, group: &LongGroup) {
     );
 }
 
-/// Prints on standard error how the search ended for a source, unless a hint moves it or standard output has its answer.
+/// Prints on standard error how the search ended for a source, unless a hint moves it or standard output has its
+/// answer.
 fn print_end(rt: &HostRuntime, asked: &AskedSource) {
     let name = asked.name.as_str();
     let _ = match asked.end {

@@ -8,10 +8,10 @@ ghost use Rattle.office_core_facts.specs.State.{state_of};
 use crate::answers::{print_text, refuse, refuse_output};
 use deb_control::Text;
 use jiff_core::civil::Date;
-use office_core_orders::StoreFault;
 use office_core_queries::{
     AskFault, export, mail_counts, mail_text, order_text, runs_text, write_list,
 };
+use office_core_store::StoreFault;
 use office_http::Office;
 use office_mail::ToWrite;
 use office_store::Keeper;

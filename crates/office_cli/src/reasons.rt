@@ -1,5 +1,5 @@
-//! Why sources stand where a run left them, what a run made of hints, and what changes break; and where an office is made that
-//! is asked.
+//! Why sources stand where a run left them, what a run made of hints, and what changes break; and where an office is
+//! made that is asked.
 
 ghost use Rattle.std.specs.Prelude.{◌≡◌, if◌then◌else◌, IfOk};
 ghost use Rattle.office_cli.specs.steps.Told.{IsAsked};
@@ -14,7 +14,7 @@ use crate::tasks::{
 use crate::trials::{NextAsk, print_next};
 use office_core_breaks::question_in;
 use office_core_check::{office_after, office_before, why_of_run};
-use office_core_orders::{DeliverFault, fault_words};
+use office_core_replies::{DeliverFault, fault_words};
 use office_http::{Office, StoreFault};
 use office_mail::{MAX_NUMBER, MailFault, Setup};
 use office_store::{Keeper, Plain, open_store, read_setup};
@@ -282,8 +282,8 @@ fn print_hint<K: Keeper>(rt: &HostRuntime, office: &mut Office<K>, number: u32) 
     }
 }
 
-/// Prints what a change breaks that words name where the last run of an office left testing, and gives the exit status. Words
-/// that name none are refused on standard error.
+/// Prints what a change breaks that words name where the last run of an office left testing, and gives the exit status.
+/// Words that name none are refused on standard error.
 fn print_change<K: Keeper>(rt: &HostRuntime, office: &mut Office<K>, words: &str) -> u8 {
     match question_in(rt.alloc(), office.setup(), words) {
         Ok(question) => match office.breaks_text(&question) {
@@ -353,8 +353,8 @@ fn print_last<K: Keeper>(
     }
 }
 
-/// Prints what is asked of an earlier run of a store, over an office in memory that is as that run left it, and gives the exit
-/// status.
+/// Prints what is asked of an earlier run of a store, over an office in memory that is as that run left it, and gives
+/// the exit status.
 fn print_earlier<K: Keeper>(
     rt: &HostRuntime,
     setup: &Setup,

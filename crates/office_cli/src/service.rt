@@ -2,13 +2,12 @@
 
 ghost use Rattle.std.specs.Prelude.{◌≡◌};
 ghost use Rattle.std.specs.IoError.{error_kind};
-ghost use Rattle.office_http_requests.specs.Routes.{office_routes};
 ghost use Rattle.office_cli.specs.Service.{status_of_service};
 ghost use Rattle.office_cli.specs.steps.Service.{fault_by};
 
 use crate::clients::serve_clients;
 use mio::net::TcpListener;
-use office_http::{Office, Routes, routes};
+use office_http::{Office, routes};
 use office_store::Keeper;
 use std::io;
 use std::io::ErrorKind;
@@ -44,8 +43,8 @@ pub fn service_status(served: &Result<(), ServiceFault>) -> u8
     }
 }
 
-/// Serves so many connections on a port of 127.0.0.1, as these hosts, or as each if none is given. A connection that fails
-/// counts.
+/// Serves this many connections on a port of 127.0.0.1, for requests to these hosts, or to any host if none is given. A
+/// failed connection counts, too.
 pub fn serve<K: Keeper>(
     rt: &HostRuntime,
     office: &mut Office<K>,
@@ -78,16 +77,4 @@ fn socket_fault(fault: io::Error) -> ServiceFault
         ErrorKind::PermissionDenied => ServiceFault::Forbidden(fault),
         _ => ServiceFault::Socket(fault),
     }
-}
-
-/// Serves the next connection of a listener. If it fails, prints that on standard error.
-pub fn serve_next<K: Keeper>(
-    rt: &HostRuntime,
-    listener: &mut TcpListener,
-    office: &mut Office<K>,
-    table: &Routes,
-) -> Result<(), ServiceFault>
-    requires { table.now ≡ office_routes }
-{
-    serve_clients(rt, listener, office, table, 1, &[])
 }

@@ -6,10 +6,10 @@ use crate::reasons::{Ask, ask_for};
 use crate::status::ExitStatus;
 use crate::tasks::out_of_memory;
 use deb_control::{NoMemory, Text, is_package_name};
-use office_core_orders::{DeliverFault, fault_words, name_at};
 use office_core_outcome::{
     RefusedHint, Trial, TrialOptions, TrialReport, has_changes, release_place, trial_text,
 };
+use office_core_replies::{DeliverFault, fault_words, name_at};
 use office_http::{Office, StoreFault};
 use office_mail::Setup;
 use office_mail_setup::values::day_in;

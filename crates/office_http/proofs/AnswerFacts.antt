@@ -6,7 +6,7 @@ use Rattle.office_mail.specs.Lists.{Lists}
 use Rattle.office_mail.specs.Runs.{IsReadyCount, cover}
 use Rattle.office_mail.specs.declared.message.RunOrder.{RunOrder}
 use Rattle.office_core_orders.specs.Ready.{HasPlaces}
-use Rattle.office_core_orders.specs.Replies.{status_line}
+use Rattle.office_core_replies.specs.Replies.{status_line}
 use Rattle.office_core_orders.specs.WaitingLines.{lack_line, awaited_lines, waiting_text}
 use Rattle.office_core_orders.specs.declared.wait_lines.Awaited.{Awaited}
 use Rattle.office_core_orders.specs.declared.wait_lines.Awaited.TheVariants.{Order, Mail}
@@ -32,7 +32,7 @@ use Rattle.office_core_orders.specs.Waiting.{Awaits, AwaitsBy}
 use Rattle.office_core_orders.proofs.WaitingFacts.{one_list}
 use Rattle.office_core_breaks.specs.declared.BreaksText.{BreaksText}
 use Rattle.office_http.specs.Breaks.{body_answer, breaks_answer}
-use Rattle.office_http.specs.Serve.{action_answer, body_of, answer_of, proposal_answer, AsksBreaks, AsksProposal, Found, IsFound, IsFoundBy, IsFoundFor}
+use Rattle.office_http.specs.Serve.{action_answer, body_of, answer_of, proposal_answer, AsksBreaks, AsksProposal, Found, IsFoundForAsked, IsFoundBy, IsFoundFor}
 use Rattle.office_http.specs.steps.ServeSteps.{post_answer, why_answer, IsFoundByPost}
 use Rattle.office_http.specs.steps.ServeSteps.{whole_page}
 use Rattle.office_http.specs.ShortTexts.{short_page}
@@ -99,7 +99,7 @@ seen_page : (p : Page) → (p ≡ page.Hints) ⊎ (p ≡ page.Unstable) → (ask
 seen_page p (inl e) = inl (ap (λ (q : Page). asks.Tell q) e)
 seen_page p (inr e) = inr (ap (λ (q : Page). asks.Tell q) e)
 
-pub one_answer : (s : OfficeState) (asked : Asked) (rest : List ℕ) (x y : Found) → IsFound s x asked rest → IsFound s y asked rest → ((source : List ℕ) → asked ≡ asks.Tell (page.Why source) → x.why ≡ y.why)
+pub one_answer : (s : OfficeState) (asked : Asked) (rest : List ℕ) (x y : Found) → IsFoundForAsked s x asked rest → IsFoundForAsked s y asked rest → ((source : List ℕ) → asked ≡ asks.Tell (page.Why source) → x.why ≡ y.why)
     → ((p : Posted) → asked ≡ asks.Post p → terms_of p.action ≢ None → x.trial ≡ y.trial) → ((asked ≡ asks.Tell page.Hints) ⊎ (asked ≡ asks.Tell page.Unstable) → HasPlaces s.setup s.kept) → (AsksProposal asked → x.proposal ≡ y.proposal) → (AsksBreaks asked → x.breaks ≡ y.breaks) → answer_of s x asked rest ≡ answer_of s y asked rest
 one_answer s (asks.Refused r) rest x y h g told tried places proposed broken = refl
 one_answer s (asks.Tell p) rest x y h g told tried places proposed broken =

@@ -9,7 +9,7 @@ use Rattle.office_mail.specs.Kept.{Kept, Place, kept_from, place_cmp, place_of}
 use Rattle.office_mail.specs.Lists.{Lists}
 use Rattle.office_mail.specs.Read.{read}
 use Rattle.office_mail.proofs.KeptFacts.{kept_from-fault, kept_from-free, kept_from-nil, kept_from-taken, places_total, tied}
-use Rattle.office_core_orders.specs.declared.faults.StoreFault.{StoreFault}
+use Rattle.office_core_store.specs.declared.faults.StoreFault.{StoreFault}
 use Rattle.office_core_facts.specs.OfficeState.{OfficeState}
 use Rattle.office_core.specs.OneSender.{ButOf}
 use Rattle.office_http_requests.specs.declared.request.Action.TheVariants.{DeliverOf}

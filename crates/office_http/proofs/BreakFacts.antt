@@ -2,9 +2,9 @@
 use Rattle.std.proofs.Common.{◌≡◌, ℕ, true, false, cond, List, None, Some, Option, Result, Ok, Err, IfOk, refl, sym, ap, ◌∙◌}
 use Rattle.std.specs.Str.{is_utf8}
 use Rattle.office_mail.specs.declared.message.MailFault.TheVariants as mail
-use Rattle.office_core_orders.specs.declared.faults.DeliverFault.TheVariants.{Mail}
-use Rattle.office_core_orders.specs.declared.faults.StoreFault.{StoreFault}
-use Rattle.office_core_orders.specs.declared.faults.StoreFault.TheVariants as fault
+use Rattle.office_core_replies.specs.declared.faults.DeliverFault.TheVariants.{Mail}
+use Rattle.office_core_store.specs.declared.faults.StoreFault.{StoreFault}
+use Rattle.office_core_store.specs.declared.faults.StoreFault.TheVariants as fault
 use Rattle.office_http_requests.specs.declared.reply.Answer.{Answer}
 use Rattle.office_http_requests.specs.declared.reply.Answer.TheVariants.{Refused, Delivered}
 use Rattle.office_http_requests.specs.declared.request.Action.TheVariants.{Breaks}

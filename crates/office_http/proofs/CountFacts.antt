@@ -1,6 +1,6 @@
 -- The counts of kept mail are functions of it.
-use Rattle.std.proofs.Common.{◌≡◌, ◌≤◌, ◌<◌, ◌+◌, ◌-◌, ℕ, zero, suc, Bool, true, false, nat_eq, List, [], ◌∷◌, map, length, filter_map, is_some, Option, Some, None, Result, Ok, Err, IfOk, refl, sym, ap, ◌∙◌, arith}
-use Rattle.std.specs.Prelude.{IsSome, ◌==◌, slice_index}
+use Rattle.std.proofs.Common.{◌≡◌, ◌≤◌, ◌<◌, ◌+◌, ◌-◌, ℕ, zero, suc, Bool, true, false, nat_eq, List, [], ◌∷◌, map, filter_map, is_some, Option, Some, None, refl, sym, ap, ◌∙◌, arith}
+use Rattle.std.specs.Prelude.{IsSome, ◌==◌}
 use Rattle.std.proofs.lemmas.Bool.Decides.{nat_tests}
 use Rattle.std.specs.List.{AllByRecursion, range_with_len}
 use Rattle.std.specs.FinMap.{get}
@@ -12,7 +12,7 @@ use Rattle.office_core.specs.Unbroken.{AreUnbroken}
 use Rattle.office_core_orders.specs.Ready.{HasNumbers, HasPlaces}
 use Rattle.office_core_queries.specs.declared.mail.MailCount.{MailCount}
 use Rattle.office_core_queries.specs.Mail.{AreMailCounts, IsMailCount}
-use Rattle.office_http.specs.Serve.{unbroken_from, unbroken_of, mail_count, mail_counts}
+use Rattle.office_http.specs.Serve.{unbroken_from, unbroken_of, mail_count}
 
 module _ (kept : Kept) (sender : ℕ) where
   -- so many numbers of the sender from one on, as far as they are kept
@@ -88,10 +88,5 @@ module _ (setup : Lists) (kept : Kept) (places : HasPlaces setup kept) where
   pub counts_are : (n : ℕ) (counts : List MailCount) → AreMailCounts kept n counts → counts ≡ map (mail_count kept) (range_with_len 0 n)
   counts_are n counts are = each_is counts are.each ∙ ap (map (mail_count kept)) are.senders
 
-  pub counted_on : {V F : Type 0} (items : V → List MailCount) (result : Result V F) → IfOk result (λ v. AreMailCounts kept (length setup.senders) (items v)) → IfOk result (λ v. items v ≡ mail_counts setup kept)
-  counted_on items (Ok v) are = counts_are (length setup.senders) (items v) are
-  counted_on items (Err f) are = tt
-
-  pub unbroken_on : {V F : Type 0} (numbers : V → List ℕ) (result : Result V F) → IfOk result (λ v. AreUnbroken kept (slice_index (numbers v))) → IfOk result (λ v. slice_index (numbers v) ≡ unbroken_of kept)
-  unbroken_on numbers (Ok v) are = λ i s. sym (unbroken_to s (slice_index (numbers v) s) (are.each s).each (are.each s).gap) i
-  unbroken_on numbers (Err f) are = tt
+  pub unbroken_are : (unbroken : ℕ → ℕ) → AreUnbroken kept unbroken → unbroken ≡ unbroken_of kept
+  unbroken_are unbroken are = λ i s. sym (unbroken_to s (unbroken s) (are.each s).each (are.each s).gap) i

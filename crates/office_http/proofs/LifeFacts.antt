@@ -6,7 +6,7 @@ use Rattle.office_mail.specs.Lists.{Lists}
 use Rattle.office_store_keeper.specs.Content.{Content, item_from_one, no_content}
 use Rattle.office_store_keeper.specs.declared.keeper.Keeper.{Ghosts}
 use Rattle.office_store_keeper.specs.declared.values.Reports.{Reports}
-use Rattle.office_core_orders.specs.Replies.{not_lost}
+use Rattle.office_core_replies.specs.Replies.{not_lost}
 use Rattle.office_core_facts.specs.State.{IsOffice, IsSound, reports_at, state_of}
 use Rattle.office_core_facts.proofs.ReportFacts.{reports_at-is}
 use Rattle.office_core.specs.History.{Finished, IsByRules, Leads, Looked, Settled, Step, coming, is_settled, settled_by, text_in, texts_in}
@@ -17,8 +17,8 @@ use Rattle.office_core.specs.Visible.{visible}
 use Rattle.office_core.proofs.CameFacts.{finished_by}
 use Rattle.office_core.proofs.HistoryFacts.{by_rules_all, came_leads, leads_stand, leads_twice, looked}
 use Rattle.office_core.proofs.OfficeFacts.{IsOffice-new}
-use Rattle.office_core_orders.specs.declared.faults.StoreFault.{StoreFault}
-use Rattle.office_core_orders.specs.declared.replies.Delivery.{Delivery}
+use Rattle.office_core_store.specs.declared.faults.StoreFault.{StoreFault}
+use Rattle.office_core_replies.specs.declared.replies.Delivery.{Delivery}
 use Rattle.office_mail.specs.Reading.{Reading}
 use Rattle.office_core_replay.specs.Delivered.{KeepsMail}
 use Rattle.office_core_replay.specs.Replay.{Replays, StopsReplay}

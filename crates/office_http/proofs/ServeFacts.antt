@@ -2,6 +2,7 @@
 use Rattle.std.proofs.Common.{◌≡◌, inl, inr, ⊎_elim, ℕ, ◌+◌, ◌-◌, ◌≤◌, ◌<◌, Bool, true, false, ◌||◌, cond, nat_le, if◌then◌else◌, List, [], ◌∷◌, ◌++◌, length, take, drop, Option, Some, None, Result, Ok, Err, IfOk, IfErr, IfSome, OnOk, is_ok, refl, sym, ap, subst, ◌∙◌, arith, append_assoc, append-nil, ◌⊎◌}
 use Rattle.std.specs.List.{list_any}
 use Rattle.std.specs.Option.{option_map}
+use Rattle.std.specs.Result.{result_ok}
 use Rattle.std.specs.FinMap.{get}
 use Rattle.jiff_core.specs.declared.civil.date.Date.{Date}
 use Rattle.std.specs.Io.KnownBytes.{Appends, Consumes, IsAtEnd}
@@ -18,14 +19,14 @@ use Rattle.office_mail.specs.Lists.{Lists}
 use Rattle.office_mail.specs.Read.{read}
 use Rattle.office_mail.specs.Runs.{IsReady, IsReadyCount}
 use Rattle.office_mail.proofs.KeptFacts.{kept_from-nil}
-use Rattle.office_core_orders.specs.declared.faults.DeliverFault.{DeliverFault}
-use Rattle.office_core_orders.specs.declared.faults.DeliverFault.TheVariants.{Mail, OtherText, Store}
-use Rattle.office_core_orders.specs.declared.faults.Held.{Held}
-use Rattle.office_core_orders.specs.declared.faults.Progress.{Progress}
-use Rattle.office_core_orders.specs.declared.faults.StoreFault.{StoreFault}
-use Rattle.office_core_orders.specs.declared.faults.StoreFault.TheVariants as fault
-use Rattle.office_core_orders.specs.declared.replies.Mark.{Mark}
-use Rattle.office_core_orders.specs.declared.replies.Mark.TheVariants.{Taken, LostForMemory, LostForStore}
+use Rattle.office_core_replies.specs.declared.faults.DeliverFault.{DeliverFault}
+use Rattle.office_core_replies.specs.declared.faults.DeliverFault.TheVariants.{Mail, OtherText, Store}
+use Rattle.office_core_replies.specs.declared.faults.Held.{Held}
+use Rattle.office_core_orders.specs.declared.wait_lines.Progress.{Progress}
+use Rattle.office_core_store.specs.declared.faults.StoreFault.{StoreFault}
+use Rattle.office_core_store.specs.declared.faults.StoreFault.TheVariants as fault
+use Rattle.office_core_replies.specs.declared.replies.Mark.{Mark}
+use Rattle.office_core_replies.specs.declared.replies.Mark.TheVariants.{Taken, LostForMemory, LostForStore}
 use Rattle.office_core_orders.specs.declared.wait_lines.Awaited.TheVariants.{Order}
 use Rattle.office_http_requests.specs.declared.reply.Refusal.{Refusal}
 use Rattle.office_http_requests.specs.declared.reply.Refusal.TheVariants as refusal
@@ -42,20 +43,21 @@ use Rattle.office_http.specs.declared.serve.ServeFault.{ServeFault}
 use Rattle.office_http.specs.declared.serve.ServeFault.TheVariants.{Read, Write}
 use Rattle.office_http.specs.declared.serve.Served.{Served}
 use Rattle.office_http_requests.specs.Asked.{asked_of, body_size, is_head_method}
+use Rattle.office_http_requests.proofs.SizeFacts.{body_fits}
 use Rattle.office_core_replay.specs.Losses.{TextCounted, DeliveryCounted}
 use Rattle.office_core_queries.specs.BagPart.{bag_part}
 use Rattle.office_core_queries.specs.Mail.{mail_text}
 use Rattle.office_core_queries.specs.NextOrder.{order_text}
 use Rattle.office_core_queries.specs.RunLines.{runs_text}
 use Rattle.office_core_facts.specs.Outcome.{testing_text, testing_after}
-use Rattle.office_core_orders.specs.Replies.{reply_by, mark_of, if_taken}
+use Rattle.office_core_replies.specs.Replies.{reply_by, mark_of, if_taken}
 use Rattle.office_http_requests.specs.Reply.{continue_bytes, refused, reply_in, reply_bytes}
 use Rattle.office_http_requests.specs.steps.Reply.{HasPlace}
 use Rattle.office_http_requests.specs.Request.{body_room, head_room, BeginsWith}
 use Rattle.office_http_requests.specs.steps.RequestSteps.{Came, IsHeadAt}
 use Rattle.office_core_facts.specs.OfficeState.{OfficeState}
 use Rattle.office_core_facts.specs.State.{AnswersDelivery, answer_to, reports_at}
-use Rattle.office_core_orders.specs.Written.{AppendsFront}
+use Rattle.office_mail.specs.Written.{AppendsFront}
 use Rattle.office_core_outcome.specs.declared.proposal.Proposal.{Proposal}
 use Rattle.office_core_outcome.specs.declared.Trial.TheVariants.{NoDate}
 use Rattle.office_core_outcome.specs.declared.TrialOptions.{TrialOptions}
@@ -781,6 +783,11 @@ unread_err rose s l0 l1 w0 w1 input r (Ok served) took few cause h = tt
 unread_err rose s l0 l1 w0 w1 input r (Err f) took few cause h = subst (λ (f : ServeFault). StopsServe s s l0 l1 w0 w1 f rose) (sym h.0) (inr (record { input = input; took = took; told = []; reply = reply_bytes (refused r) false; code = (refused r).code; served = unread rose s l1 input r few cause; between = w0; first = Appends-nil w0; wrote = h.1 }))
 
 -- what is asked, where it was read
-pub asked_due : (setup : Lists) (o : Option Asked) (seen : List ℕ) (headers : List HeaderSpan) (spans : RequestSpans) (head : RequestHead) → IfSome o (λ a. (h : RequestHead) → IsRequestAt seen headers spans h → a ≡ asked_of setup h) → IsRequestAt seen headers spans head → IfSome o (λ a. a ≡ asked_of setup head)
-asked_due setup None seen headers spans head f h = tt
-asked_due setup (Some a) seen headers spans head f h = f head h
+pub asked_due : {E : Type 0} (setup : Lists) (r : Result Asked E) (o : Option Asked) (seen : List ℕ) (headers : List HeaderSpan) (spans : RequestSpans) (head : RequestHead) → o ≡ result_ok r
+    → IfOk r (λ a. (h : RequestHead) → IsRequestAt seen headers spans h → a ≡ asked_of setup h) → IsRequestAt seen headers spans head → IfSome o (λ a. a ≡ asked_of setup head)
+asked_due setup (Ok a) o seen headers spans head is f h = subst (λ (x : Option Asked). IfSome x (λ b. b ≡ asked_of setup head)) (sym is) (f head h)
+asked_due setup (Err e) o seen headers spans head is f h = subst (λ (x : Option Asked). IfSome x (λ b. b ≡ asked_of setup head)) (sym is) tt
+
+pub asked_fits : (setup : Lists) (o : Option Asked) (head : RequestHead) → IfSome o (λ a. a ≡ asked_of setup head) → IfSome o (λ a. body_size a ≤ body_room)
+asked_fits setup (Some a) head is = subst (λ (b : Asked). body_size b ≤ body_room) (sym is) (body_fits setup head)
+asked_fits setup None head is = tt

@@ -7,8 +7,8 @@ use Rattle.office_mail.proofs.KeptFacts.{kept_from-nil}
 use Rattle.office_store_keeper.specs.declared.keeper.Keeper.{Ghosts}
 use Rattle.office_core_facts.specs.OfficeState.{OfficeState}
 use Rattle.office_core_facts.specs.State.{IsOffice, IsSound, state_of}
-use Rattle.office_core_orders.specs.declared.faults.StoreFault.{StoreFault}
-use Rattle.office_core_orders.specs.declared.faults.StoreFault.TheVariants.{NoMemory, Store}
+use Rattle.office_core_store.specs.declared.faults.StoreFault.{StoreFault}
+use Rattle.office_core_store.specs.declared.faults.StoreFault.TheVariants.{NoMemory, Store}
 use Rattle.office_http_requests.specs.declared.request.Action.{Action}
 use Rattle.office_http_requests.specs.declared.request.Action.TheVariants.{Settle}
 use Rattle.office_http_requests.specs.declared.request.Asked.{Asked}
@@ -22,7 +22,7 @@ use Rattle.office_http_requests.specs.declared.reply.Refusal.TheVariants.{BadReq
 use Rattle.office_core.specs.History.{Leads, Looked, Settled, coming}
 use Rattle.office_core.specs.Preserves.{StoreRefused}
 use Rattle.office_core.proofs.HistoryFacts.{came_leads, came_settled}
-use Rattle.office_http.specs.Serve.{Does, Exchange, Found, IsFound, Moves, answer_of, body_of, by_fault, delivered_by, posted_body, settles}
+use Rattle.office_http.specs.Serve.{Does, Exchange, Found, IsFoundForAsked, Moves, answer_of, body_of, by_fault, delivered_by, posted_body, settles}
 use Rattle.office_http.specs.steps.ServeSteps.{IsFoundByPost, post_answer}
 
 state_leads : {K : Type 0} (keeper : Ghosts K) (old new : K) (texts : List (List ℕ)) → keeper.setup new ≡ keeper.setup old → (keeper.content new).kept ≡ kept_from (keeper.setup old) (keeper.content old).kept texts → length (keeper.content old).reports ≤ length (keeper.content new).reports → IsSound keeper old → IsSound keeper new
@@ -104,5 +104,5 @@ told_settled keeper old new left input told reply code p x was is asks settle we
     ap (λ (a : Asked). answer_of before x.found a x.rest) asks ∙ ap (λ (a : Action). post_answer before x.found (option_map (λ (body : List ℕ). (a, body)) o)) settle in
     told_by keeper old new x.fault x.found o
     (subst (λ (b : Option (Action × List ℕ)). Does before (state_of keeper new) b x.fault x.found.ready (StoreRefused keeper old new)) posted x.does) was is
-    (λ none. subst (λ (a : Action). IsFoundByPost before x.found (option_map (λ (body : List ℕ). (a, body)) o)) settle (subst (λ (a : Asked). IsFound before x.found a x.rest) asks (x.is none)))
+    (λ none. subst (λ (a : Action). IsFoundByPost before x.found (option_map (λ (body : List ℕ). (a, body)) o)) settle (subst (λ (a : Asked). IsFoundForAsked before x.found a x.rest) asks (x.is none)))
     (ap (λ (due : Answer). (reply_in (keeper.setup old) (by_fault x.fault due)).code) (sym answers) ∙ sym x.code_is ∙ well)

@@ -4,7 +4,7 @@ use Rattle.std.specs.Str.{is_utf8}
 use Rattle.office_mail.specs.declared.message.MailFault.{MailFault}
 use Rattle.office_mail.specs.declared.message.MailFault.TheVariants as mail
 use Rattle.office_mail.specs.Lists.{Lists}
-use Rattle.office_core_orders.specs.declared.faults.DeliverFault.TheVariants.{Mail}
+use Rattle.office_core_replies.specs.declared.faults.DeliverFault.TheVariants.{Mail}
 use Rattle.office_core_facts.specs.OfficeState.{OfficeState}
 use Rattle.office_core_breaks.specs.Asked.{question_in}
 use Rattle.office_core_breaks.specs.Told.{IsBreaks}

@@ -3,9 +3,9 @@ use Rattle.std.specs.Prelude.{◌≡◌, ℕ, List, [], ◌∷◌, Option}
 use Rattle.office_mail.specs.Lists.{Lists}
 use Rattle.office_store_keeper.specs.Content.{Content}
 use Rattle.office_store_keeper.specs.declared.keeper.Keeper.{Ghosts}
-use Rattle.office_core_orders.specs.Replies.{not_lost}
-use Rattle.office_core_orders.specs.declared.faults.StoreFault.{StoreFault}
-use Rattle.office_core_orders.specs.declared.replies.Delivery.{Delivery}
+use Rattle.office_core_replies.specs.Replies.{not_lost}
+use Rattle.office_core_store.specs.declared.faults.StoreFault.{StoreFault}
+use Rattle.office_core_replies.specs.declared.replies.Delivery.{Delivery}
 use Rattle.office_core_facts.specs.State.{state_of}
 use Rattle.office_core.specs.History.{Leads, Step, texts_in}
 use Rattle.office_core.specs.Preserves.{Holds, Preserves, StoreRefused}

@@ -20,11 +20,11 @@ use Rattle.office_mail.specs.Read.{read}
 use Rattle.office_mail.specs.Runs.{IsReady, IsReadyCount, cover, greatest, latest_day, orders_to}
 use Rattle.office_store_keeper.specs.declared.keeper.Keeper.{Ghosts}
 use Rattle.office_store_keeper.specs.declared.values.Letter.{Letter as KeptLetter}
-use Rattle.office_core_orders.specs.declared.faults.DeliverFault.{DeliverFault}
-use Rattle.office_core_orders.specs.declared.faults.DeliverFault.TheVariants.{Mail, Store}
-use Rattle.office_core_orders.specs.declared.faults.Held.{Held}
-use Rattle.office_core_orders.specs.declared.faults.StoreFault.{StoreFault}
-use Rattle.office_core_orders.specs.declared.faults.StoreFault.TheVariants as fault
+use Rattle.office_core_replies.specs.declared.faults.DeliverFault.{DeliverFault}
+use Rattle.office_core_replies.specs.declared.faults.DeliverFault.TheVariants.{Mail, Store}
+use Rattle.office_core_replies.specs.declared.faults.Held.{Held}
+use Rattle.office_core_store.specs.declared.faults.StoreFault.{StoreFault}
+use Rattle.office_core_store.specs.declared.faults.StoreFault.TheVariants as fault
 use Rattle.office_core_orders.specs.declared.wait_lines.Awaited.{Awaited}
 use Rattle.office_core_orders.specs.WaitingLines.{waiting_text}
 use Rattle.office_http_requests.specs.declared.reply.Refusal.{Refusal}
@@ -62,7 +62,7 @@ use Rattle.office_core_facts.specs.Seen.{IsSeen}
 use Rattle.office_core_facts.specs.State.{answer_to, reports_at, state_of}
 use Rattle.office_core.specs.Preserves.{Holds, StoreRefused}
 use Rattle.office_core_orders.specs.Waiting.{Awaits}
-use Rattle.office_core_orders.specs.Written.{AppendsFront}
+use Rattle.office_mail.specs.Written.{AppendsFront}
 use Rattle.office_http.specs.Breaks.{IsBreaksBy, are_many, body_answer, breaks_answer, first_change}
 use Rattle.office_http.specs.ShortTexts.{short_page}
 use Rattle.office_http.specs.Trials.{has_many_hints, hints_in, request_terms, terms_on, tried_answer}
@@ -226,10 +226,10 @@ IsFoundBy s found Settle body = IsReadyCount s.setup s.kept found.ready
 IsFoundBy s found added body = IsFoundByAdded s found added body
 
 -- as far as the answer to a request does
-abbrev pub IsFound : OfficeState → Found → Asked → List ℕ → Type 0
-IsFound s found (asks.Refused r) rest = ⊤
-IsFound s found (asks.Tell page) rest = IsFoundFor s found page
-IsFound s found (asks.Post p) rest = IfSome (posted_body (asks.Post p) rest) (λ (post : Action × List ℕ). IsFoundBy s found post.0 post.1)
+abbrev pub IsFoundForAsked : OfficeState → Found → Asked → List ℕ → Type 0
+IsFoundForAsked s found (asks.Refused r) rest = ⊤
+IsFoundForAsked s found (asks.Tell page) rest = IsFoundFor s found page
+IsFoundForAsked s found (asks.Post p) rest = IfSome (posted_body (asks.Post p) rest) (λ (post : Action × List ℕ). IsFoundBy s found post.0 post.1)
 
 -- a request for proposals
 abbrev pub AsksProposal : Asked → Type 0
@@ -317,7 +317,7 @@ pub record Exchange (before after : OfficeState) (left : Option (List ℕ)) (inp
   pub by_store : TextCounted rose fault
   pub found : Found
   pub whole : fault ≡ None → IsWhole (asked_of before.setup head) rest left
-  pub is : fault ≡ None → IsFound before found (asked_of before.setup head) rest
+  pub is : fault ≡ None → IsFoundForAsked before found (asked_of before.setup head) rest
   pub does : Does before after (posted_body (asked_of before.setup head) rest) fault found.ready rose
   pub goes_on : Bool
   pub went : fault ≡ None → goes_on ≡ waits_of (asked_of before.setup head)

@@ -7,8 +7,8 @@ use Rattle.jiff_core.specs.declared.civil.date.Date.{Date}
 use Rattle.office_mail.specs.declared.message.MailFault.{MailFault}
 use Rattle.office_mail.specs.declared.message.MailFault.TheVariants as mail
 use Rattle.office_mail.specs.Lists.{Lists}
-use Rattle.office_core_orders.specs.declared.faults.DeliverFault.TheVariants.{Mail}
-use Rattle.office_core_orders.specs.Replies.{fault_words, name_at}
+use Rattle.office_core_replies.specs.declared.faults.DeliverFault.TheVariants.{Mail}
+use Rattle.office_core_replies.specs.Replies.{fault_words, name_at}
 use Rattle.office_http_requests.specs.declared.request.Action.{Action}
 use Rattle.office_http_requests.specs.declared.request.Action.TheVariants.{Try, TryOn}
 use Rattle.office_http_requests.specs.declared.reply.Refusal.TheVariants as refusal

@@ -11,7 +11,7 @@ use crate::trials::{hint_at, hints_in, refused_hint};
 use deb_control::Text;
 use office_core::Office;
 use office_core_breaks::{BreaksText, Question, question_in};
-use office_core_orders::StoreFault;
+use office_core_store::StoreFault;
 use office_http_requests::{Answer, Refusal};
 use office_mail::MailFault;
 use office_store_keeper::Keeper;

@@ -1,7 +1,7 @@
 //! A service that is known by some hosts alone.
 ghost use Rattle.std.specs.Prelude.{◌≡◌, Some, IfOk, map};
 ghost use Rattle.office_core.specs.Preserves.{Preserves};
-ghost use Rattle.office_core_orders.specs.Written.{Writes};
+ghost use Rattle.office_mail.specs.Written.{Writes};
 ghost use Rattle.office_http_requests.specs.Asked.{is_head_method};
 ghost use Rattle.office_http_requests.specs.Hosts.{IsForOther};
 ghost use Rattle.office_http_requests.specs.Reply.{refused, reply_bytes};

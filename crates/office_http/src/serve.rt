@@ -1,11 +1,8 @@
 //! One connection of the service: a request, and its reply (RFC 9110, RFC 9112).
-ghost use Rattle.std.specs.Prelude.{◌≡◌, true, false, ◌≤◌, ◌<◌, ◌+◌, Option, Some, None, IfOk, IfErr, IfSome, OnOk, OnErr, length, drop, if◌then◌else◌, slice_index};
+ghost use Rattle.std.specs.Prelude.{◌≡◌, true, false, ◌≤◌, ◌+◌, Some, IfOk, IfErr, IfSome, OnOk, OnErr, length, drop};
 ghost use Rattle.std.specs.Io.KnownBytes.{Appends};
-ghost use Rattle.httparse.specs.Grammar.{RequestHead};
-ghost use Rattle.httparse.specs.Spans.{IsRequestAt};
-ghost use Rattle.httparse.specs.declared.spans.HeaderSpan.{HeaderSpan};
 ghost use Rattle.office_mail.specs.Read.{read};
-ghost use Rattle.office_http_requests.specs.Asked.{asked_of, body_size};
+ghost use Rattle.office_http_requests.specs.Asked.{body_size};
 ghost use Rattle.office_core_queries.specs.Mail.{mail_text};
 ghost use Rattle.office_core_queries.specs.NextOrder.{order_text};
 ghost use Rattle.office_core.specs.Preserves.{Asks, Preserves, Holds, StoreRefused};
@@ -16,14 +13,14 @@ ghost use Rattle.office_http_requests.specs.Request.{body_room, head_room};
 ghost use Rattle.office_http_requests.specs.steps.RequestSteps.{IsHeadAt};
 ghost use Rattle.office_http_requests.specs.Routes.{office_routes};
 ghost use Rattle.office_http.specs.steps.Calls.{AsksCounted, RunsAction};
-ghost use Rattle.office_http.specs.Serve.{mail_counts, unbroken_of, refusal_for, delivery_answer, is_of_other, waits_of, Does, StopsBefore, CountsFaults, ServesOne, StopsOne};
+ghost use Rattle.office_http.specs.Serve.{mail_counts, unbroken_of, refusal_for, delivery_answer, is_of_other, waits_of, StopsBefore, CountsFaults, ServesOne, StopsOne};
 ghost use Rattle.office_http.specs.steps.ServeSteps.{if_known, report_answer, why_answer, letter_answer};
 ghost use Rattle.office_core_why.specs.Why.{IsWhy};
 ghost use Rattle.office_http.specs.steps.ServeSteps.{answer_or, part_answer, status_answer, text_answer, Tells, TellsAwaited, TellsShort, Runs, Answers, StopsRequest, ServesHead};
 ghost use Rattle.office_http.specs.Trials.{has_many_hints, terms_of};
 ghost use Rattle.office_core_facts.specs.State.{state_of};
-ghost use Rattle.office_core_orders.specs.Counted.{CountsFailure};
-ghost use Rattle.office_core_orders.specs.Written.{AppendsFront};
+ghost use Rattle.office_mail.specs.Counts.{CountsFailure};
+ghost use Rattle.office_mail.specs.Written.{AppendsFront};
 
 use crate::breaks::{breaks_body, breaks_of};
 use crate::proposals::{propose_for, propose_groups, propose_on};
@@ -33,17 +30,19 @@ use deb_control::{NoMemory, Text};
 use httparse::spans::{EMPTY_HEADER_SPAN, HeaderSpan, RequestSpans};
 use jiff_core::civil::Date;
 use office_core::Office;
-use office_core_orders::{DeliverFault, Held, Progress, StoreFault, WriteFault, waiting_text};
+use office_core_orders::{Progress, waiting_text};
 use office_core_outcome::TrialOptions;
-use office_core_queries::{MailCount, bag_part, mail_counts, mail_text, order_text, runs_text};
-use office_core_replay::settle_behind;
+use office_core_queries::{bag_part, mail_counts, mail_text, order_text, runs_text};
+use office_core_replay::{Unwatched, settle_behind};
+use office_core_replies::{DeliverFault, Held};
+use office_core_store::StoreFault;
 use office_core_why::WhyText;
 use office_http_requests::routes::{Routes, routes};
 use office_http_requests::{
     Action, Answer, Asked, BodyRead, FIELD_ROOM, HeadRead, Page, Posted, Refusal, asked_of,
     is_head_method, read_head, read_up_to, write_answer, write_continue,
 };
-use office_mail::{Feed, MailFault, ReadFailed, Setup, Sink, read_message};
+use office_mail::{Feed, MailFault, ReadFailed, Setup, Sink, WriteFault, read_message};
 use office_store_keeper::{Keeper, MailText};
 use std::alloc::Global;
 use thiserror::Error;
@@ -193,29 +192,13 @@ fn awaited_text<K: Keeper>(office: &mut Office<K>) -> Result<Text, StoreFault>
     Ok(waiting_text(office.alloc(), office.setup(), &waiting)?)
 }
 
-/// How much mail is kept of each sender.
-fn counted_mail<K: Keeper>(office: &mut Office<K>) -> Result<Vec<MailCount>, StoreFault>
-    ensures asks { AsksCounted K.Keeper office.old office.new result }
-    ensures counts { Holds K.Keeper office.old office.new → IfOk result (λ counts. counts.items ≡ mail_counts (K.setup office.old) (K.content office.old).kept) }
-{
-    mail_counts(office)
-}
-
 /// The text on how much mail is kept of each sender.
 fn counted_text<K: Keeper>(office: &mut Office<K>) -> Result<Text, StoreFault>
     ensures asks { AsksCounted K.Keeper office.old office.new result }
     ensures text { Holds K.Keeper office.old office.new → IfOk result (λ text. text ≡ mail_text (K.setup office.old) (mail_counts (K.setup office.old) (K.content office.old).kept)) }
 {
-    let counts = counted_mail(office)?;
+    let counts = mail_counts(office)?;
     Ok(mail_text(office.alloc(), office.setup(), &counts)?)
-}
-
-/// The number up to which each sender's mail is kept without a gap.
-fn unbroken_mail<K: Keeper>(office: &mut Office<K>) -> Result<Vec<u32>, StoreFault>
-    ensures asks { AsksCounted K.Keeper office.old office.new result }
-    ensures unbroken { Holds K.Keeper office.old office.new → IfOk result (λ unbroken. slice_index unbroken.items ≡ unbroken_of (K.content office.old).kept) }
-{
-    office.unbroken()
 }
 
 /// The text of the next order, on a day, over all mail without a gap.
@@ -223,7 +206,7 @@ fn order_on<K: Keeper>(office: &mut Office<K>, day: Date) -> Result<Text, StoreF
     ensures asks { AsksCounted K.Keeper office.old office.new result }
     ensures text { Holds K.Keeper office.old office.new → IfOk result (λ text. text ≡ order_text (K.setup office.old) (unbroken_of (K.content office.old).kept) day) }
 {
-    let unbroken = unbroken_mail(office)?;
+    let unbroken = office.unbroken()?;
     Ok(order_text(office.alloc(), office.setup(), &unbroken, day)?)
 }
 
@@ -288,7 +271,7 @@ fn deliver_and_settle<K: Keeper>(office: &mut Office<K>, text: &[u8]) -> Result<
     ensures runs { RunsAction K.Keeper office.old office.new Action.Deliver text.now (delivery_answer result) }
 {
     let reply = office.deliver(text);
-    settle_behind(office, &reply);
+    settle_behind(office, &reply, &mut Unwatched);
     reply
 }
 
@@ -423,27 +406,7 @@ fn answer_post<K: Keeper, R: Feed, W: Sink>(
     }
 }
 
-/// What a request asks for, none if memory ran out.
-fn asked_in(
-    alloc: Global,
-    table: &Routes,
-    setup: &Setup,
-    seen: &[u8],
-    spans: RequestSpans,
-    headers: &[HeaderSpan],
-) -> Option<Asked>
-    requires table { table.now ≡ office_routes }
-    requires head { IsHeadAt seen.now headers.now spans }
-    ensures asked { IfSome result (λ asked. (head : RequestHead) → IsRequestAt seen.now headers.now spans head → asked ≡ asked_of setup.now head) }
-    ensures fits { IfSome result (λ asked. body_size asked ≤ body_room) }
-{
-    match asked_of(alloc, table, setup, seen, spans, headers) {
-        Ok(asked) => Some(asked),
-        Err(_) => None,
-    }
-}
-
-/// Answers a request whose head is at the beginning of the bytes seen.
+/// Answers a request whose head is at the beginning of the bytes seen, given what it asks for; none if memory ran out.
 fn answer_request<K: Keeper, R: Feed, W: Sink>(
     office: &mut Office<K>,
     asked: Option<Asked>,
@@ -495,14 +458,15 @@ fn serve_request<K: Keeper, R: Feed, W: Sink>(
 {
     let HeadParts { spans, headers } = head;
     let is_head = is_head_method(seen.as_slice(), spans);
-    let asked = asked_in(
+    let asked = asked_of(
         office.alloc(),
         table,
         office.setup(),
         seen.as_slice(),
         spans,
         headers,
-    );
+    )
+    .ok();
     let answer = answer_request(office, asked, spans.len, seen, reader, writer)?;
     Ok(write_answer(office.setup(), &answer, is_head, writer)?)
 }
@@ -516,38 +480,6 @@ fn refuse<W: Sink>(setup: &Setup, refusal: Refusal, writer: &mut W) -> Result<Se
 {
     let code = write_answer(setup, &Answer::Refused(refusal), false, writer)?;
     Ok(Served { code: Some(code) })
-}
-
-/// Reads one request, does what it asks for, and writes its reply.
-fn serve_connection<K: Keeper, R: Feed, W: Sink>(
-    office: &mut Office<K>,
-    table: &Routes,
-    reader: &mut R,
-    writer: &mut W,
-) -> Result<Served, ServeFault>
-    requires { table.now ≡ office_routes }
-    ensures carries { Preserves K.Keeper office.old office.new }
-    ensures ok { ServesOne K.Keeper R.Feed W.Sink office.old office.new reader.old reader.new writer.old writer.new result }
-    ensures err { StopsOne K.Keeper R.Feed W.Sink office.old office.new reader.old reader.new writer.old writer.new result }
-    ensures calls { R.calls reader.new ≤ R.calls reader.old + (head_room + body_room) }
-    ensures counts { CountsFaults (R.failures reader.old) (R.failures reader.new) (W.failures writer.old) (W.failures writer.new) result }
-{
-    let mut headers = [EMPTY_HEADER_SPAN; FIELD_ROOM];
-    let mut seen = Vec::new(office.alloc());
-    match read_head(reader, &mut seen, &mut headers)? {
-        HeadRead::Nothing => Ok(Served { code: None }),
-        HeadRead::Head(spans) => {
-            let head = HeadParts {
-                spans,
-                headers: &headers,
-            };
-            let code = serve_request(office, table, &mut seen, head, reader, writer)?;
-            Ok(Served { code: Some(code) })
-        }
-        HeadRead::HeadTooLarge => refuse(office.setup(), Refusal::HeadTooLarge, writer),
-        HeadRead::BadRequest => refuse(office.setup(), Refusal::BadRequest, writer),
-        HeadRead::NoMemory => refuse(office.setup(), Refusal::NoMemory, writer),
-    }
 }
 
 /// Reads one request, does what it asks for, and writes its reply.
@@ -576,7 +508,22 @@ pub fn serve_with_routes<K: Keeper, R: Feed, W: Sink>(
     ensures calls { R.calls reader.new ≤ R.calls reader.old + (head_room + body_room) }
     ensures counts { CountsFaults (R.failures reader.old) (R.failures reader.new) (W.failures writer.old) (W.failures writer.new) result }
 {
-    serve_connection(office, table, reader, writer)
+    let mut headers = [EMPTY_HEADER_SPAN; FIELD_ROOM];
+    let mut seen = Vec::new(office.alloc());
+    match read_head(reader, &mut seen, &mut headers)? {
+        HeadRead::Nothing => Ok(Served { code: None }),
+        HeadRead::Head(spans) => {
+            let head = HeadParts {
+                spans,
+                headers: &headers,
+            };
+            let code = serve_request(office, table, &mut seen, head, reader, writer)?;
+            Ok(Served { code: Some(code) })
+        }
+        HeadRead::HeadTooLarge => refuse(office.setup(), Refusal::HeadTooLarge, writer),
+        HeadRead::BadRequest => refuse(office.setup(), Refusal::BadRequest, writer),
+        HeadRead::NoMemory => refuse(office.setup(), Refusal::NoMemory, writer),
+    }
 }
 
 /// The same with a table of routes of its own. Without memory for that table nothing is read, and the reply says so.

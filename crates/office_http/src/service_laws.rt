@@ -6,10 +6,10 @@ ghost use Rattle.office_http_requests.specs.declared.request.Action.{Action};
 ghost use Rattle.office_http_requests.specs.declared.request.Asked.{Asked};
 ghost use Rattle.office_http_requests.specs.declared.request.Page.{Page};
 ghost use Rattle.office_http_requests.specs.declared.request.Posted.{Posted};
-ghost use Rattle.office_http.specs.Serve.{action_answer, answer_of, AsksBreaks, AsksProposal, Does, Exchange, Found, IsFound, Moves, Serves, StopsServe, delivered_by, kept_by, settles};
+ghost use Rattle.office_http.specs.Serve.{action_answer, answer_of, AsksBreaks, AsksProposal, Does, Exchange, Found, IsFoundForAsked, Moves, Serves, StopsServe, delivered_by, kept_by, settles};
 ghost use Rattle.office_core_facts.specs.OfficeState.{OfficeState};
 ghost use Rattle.office_core_facts.specs.State.{IsSound, reports_at, state_of};
-ghost use Rattle.office_core_orders.specs.declared.faults.StoreFault.{StoreFault};
+ghost use Rattle.office_core_store.specs.declared.faults.StoreFault.{StoreFault};
 ghost use Rattle.office_core.specs.History.{IsByRules, Leads, Looked, Settled, coming};
 ghost use Rattle.office_core.specs.Preserves.{Preserves, StoreRefused};
 ghost use Rattle.office_core.specs.Came.{AllCame};
@@ -30,7 +30,7 @@ use office_store_keeper::Keeper;
 /// found leaves no other. The texts on a source, a trial, a proposal and what a change breaks are what was found of them.
 /// The hints and unstable need an office with mail only of senders of its setup.
 pub fn requests_have_one_answer()
-    ensures { (s : OfficeState) (asked : Asked) (rest : List ℕ) (x y : Found) → IsFound s x asked rest → IsFound s y asked rest
+    ensures { (s : OfficeState) (asked : Asked) (rest : List ℕ) (x y : Found) → IsFoundForAsked s x asked rest → IsFoundForAsked s y asked rest
         → ((source : List ℕ) → asked ≡ Asked.Tell (Page.Why source) → x.why ≡ y.why) → ((p : Posted) → asked ≡ Asked.Post p → terms_of p.action ≢ None → x.trial ≡ y.trial)
         → ((asked ≡ Asked.Tell Page.Hints) ⊎ (asked ≡ Asked.Tell Page.Unstable) → HasPlaces s.setup s.kept) → (AsksProposal asked → x.proposal ≡ y.proposal)
         → (AsksBreaks asked → x.breaks ≡ y.breaks)

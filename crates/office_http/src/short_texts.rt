@@ -5,7 +5,7 @@ ghost use Rattle.std.specs.List.{count_by, suffix_len};
 ghost use Rattle.office_http.specs.ShortTexts.{short_text, short_answer, cut_text, ends_line, is_told_whole, is_within_line, left_out_line, whole_lines};
 
 use deb_control::{NoMemory, Text};
-use office_core_orders::StoreFault;
+use office_core_store::StoreFault;
 use office_http_requests::{Answer, Page};
 use std::alloc::{AllocError, Global};
 

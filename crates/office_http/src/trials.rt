@@ -5,7 +5,7 @@ ghost use Rattle.office_core_facts.specs.State.{state_of};
 ghost use Rattle.office_http.specs.steps.Calls.{AsksPlaced};
 ghost use Rattle.office_http.specs.steps.ServeSteps.{TellsTrial};
 ghost use Rattle.office_http.specs.Trials.{begins_easy, has_many_hints, hints_in, is_mark, is_one_group, refused_hint, refused_line, request_terms, terms_on, trial_answer};
-ghost use Rattle.office_core_orders.specs.Replies.{name_at};
+ghost use Rattle.office_core_replies.specs.Replies.{name_at};
 ghost use Rattle.office_http_requests.specs.steps.Reply.{HasPlace};
 ghost use Rattle.office_core.specs.Preserves.{Holds};
 ghost use Rattle.office_core_facts.specs.Seen.{release};
@@ -16,10 +16,11 @@ use crate::short_texts::{line_count, short_text};
 use deb_control::{NoMemory, Text};
 use jiff_core::civil::Date;
 use office_core::Office;
-use office_core_orders::{DeliverFault, StoreFault, fault_words, name_at};
 use office_core_outcome::{
     RefusedHint, Trial, TrialOptions, TrialReport, release_place, trial_text,
 };
+use office_core_replies::{DeliverFault, fault_words, name_at};
+use office_core_store::StoreFault;
 use office_http_requests::{Answer, Refusal};
 use office_mail::{MailFault, Setup};
 use office_store_keeper::Keeper;

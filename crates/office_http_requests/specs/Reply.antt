@@ -3,14 +3,14 @@ use Rattle.std.specs.Prelude.{ℕ, List, [], ◌∷◌, ◌++◌, length, codes,
 use Rattle.http.specs.StatusCode.{reason_phrase}
 use Rattle.office_mail.specs.declared.message.MailFault.TheVariants as mail
 use Rattle.office_mail.specs.Lists.{Lists}
-use Rattle.office_core_orders.specs.declared.faults.DeliverFault.{DeliverFault}
-use Rattle.office_core_orders.specs.declared.faults.DeliverFault.TheVariants.{Mail, OtherText, Store}
-use Rattle.office_core_orders.specs.declared.faults.Held.{Held}
+use Rattle.office_core_replies.specs.declared.faults.DeliverFault.{DeliverFault}
+use Rattle.office_core_replies.specs.declared.faults.DeliverFault.TheVariants.{Mail, OtherText, Store}
+use Rattle.office_core_replies.specs.declared.faults.Held.{Held}
 use Rattle.office_http_requests.specs.declared.reply.Refusal.{Refusal}
 use Rattle.office_http_requests.specs.declared.reply.Refusal.TheVariants as refusal
 use Rattle.office_http_requests.specs.declared.reply.Answer.{Answer}
 use Rattle.office_http_requests.specs.declared.reply.Answer.TheVariants.{Refused, Delivered, Status, Told, Letter, BadHint}
-use Rattle.office_core_orders.specs.Replies.{status_line, reply_line}
+use Rattle.office_core_replies.specs.Replies.{status_line, reply_line}
 
 -- a status code, the field Allow or nothing, and a body
 pub record Reply : Type 0 where

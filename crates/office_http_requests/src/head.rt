@@ -4,8 +4,8 @@ ghost use Rattle.httparse.specs.Grammar.{HasNoRequest};
 ghost use Rattle.std.specs.Io.KnownBytes.{IsAtEnd, Keeps};
 ghost use Rattle.httparse.specs.declared.spans.HeaderSpan.{HeaderSpan};
 ghost use Rattle.office_http_requests.specs.Request.{head_room, field_room};
-ghost use Rattle.office_http_requests.specs.steps.RequestSteps.{IsHeadScan, IsEnd, Came, Draws, Heads, Fills};
-ghost use Rattle.office_core_orders.specs.Counted.{CountsFailure};
+ghost use Rattle.office_http_requests.specs.steps.RequestSteps.{IsEnd, Came, Draws, Heads, Fills};
+ghost use Rattle.office_mail.specs.Counts.{CountsFailure};
 
 use httparse::Status;
 use httparse::spans::{HeaderSpan, RequestSpans, parse_request};
@@ -54,30 +54,6 @@ fn read_more<R: Feed>(
     Ok(ChunkRead::Bytes)
 }
 
-/// What the first bytes of a request are.
-#[derive(Clone, Copy, Debug, PartialEq, Eq)]
-pub enum HeadScan {
-    /// They begin with a head.
-    Whole(RequestSpans),
-    /// They may yet become a head.
-    More,
-    TooMany,
-    Never,
-}
-
-/// Looks for the head of a request.
-fn scan_head(seen: &[u8], headers: &mut [HeaderSpan]) -> HeadScan
-    requires { length headers.old ≡ field_room }
-    ensures { IsHeadScan seen.now headers.new result }
-{
-    match parse_request(seen, headers) {
-        Ok(Status::Complete(head)) => HeadScan::Whole(head),
-        Ok(Status::Partial) => HeadScan::More,
-        Err(httparse::Error::TooManyHeaders) => HeadScan::TooMany,
-        Err(_) => HeadScan::Never,
-    }
-}
-
 /// How the reading of a head ended.
 #[derive(Clone, Copy, Debug, PartialEq, Eq)]
 pub enum HeadRead {
@@ -90,18 +66,18 @@ pub enum HeadRead {
     NoMemory,
 }
 
-/// How the bytes seen so far end the reading, if they do.
-fn end_of(seen: &[u8], headers: &mut [HeaderSpan]) -> Option<HeadRead>
+/// Looks for the head of a request, and returns how the bytes seen so far end the reading, if they do.
+fn scan_head(seen: &[u8], headers: &mut [HeaderSpan]) -> Option<HeadRead>
     requires room { length headers.old ≡ field_room }
     requires short { length seen.now ≤ head_room }
     ensures ends { IfSome result (λ ended. (left : Option (List ℕ)) → IsEnd left seen.now seen.now headers.new ended) }
     ensures goes_on { result ≡ None → HasNoRequest seen.now }
 {
-    match scan_head(seen, headers) {
-        HeadScan::Whole(head) => Some(HeadRead::Head(head)),
-        HeadScan::TooMany => Some(HeadRead::HeadTooLarge),
-        HeadScan::Never => Some(HeadRead::BadRequest),
-        HeadScan::More => None,
+    match parse_request(seen, headers) {
+        Ok(Status::Complete(head)) => Some(HeadRead::Head(head)),
+        Ok(Status::Partial) => None,
+        Err(httparse::Error::TooManyHeaders) => Some(HeadRead::HeadTooLarge),
+        Err(_) => Some(HeadRead::BadRequest),
     }
 }
 
@@ -137,7 +113,7 @@ pub fn read_head<R: Feed>(
             ChunkRead::End => return Ok(at_end(seen.as_slice())),
             ChunkRead::NoMemory => return Ok(HeadRead::NoMemory),
         }
-        if let Some(ended) = end_of(seen.as_slice(), headers) {
+        if let Some(ended) = scan_head(seen.as_slice(), headers) {
             return Ok(ended);
         }
     }

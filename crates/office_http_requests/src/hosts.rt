@@ -45,18 +45,11 @@ fn is_own(value: &[u8]) -> bool
     is_named(value, b"127.0.0.1") || is_named(value, b"localhost") || is_named(value, b"[::1]")
 }
 
-/// Whether one of these names is that of a value.
-fn is_any_of(hosts: &[&str], value: &[u8]) -> bool
-    ensures { result ≡ list_any (λ host. is_named value.now host.now) hosts.now }
-{
-    hosts.iter().any(|host| is_named(value, host.as_bytes()))
-}
-
 /// Whether a value is one of these names.
 fn is_one_of(hosts: &[&str], value: &[u8]) -> bool
     ensures { result ≡ list_any (is_named value.now) (map (λ host. host.now) hosts.now) }
 {
-    is_any_of(hosts, value)
+    hosts.iter().any(|host| is_named(value, host.as_bytes()))
 }
 
 /// Whether a known host was named, or this field names one.

@@ -4,17 +4,15 @@ ghost use Rattle.std.specs.Io.KnownBytes.{Appends};
 ghost use Rattle.http.specs.StatusCode.{reason_phrase};
 ghost use Rattle.office_http_requests.specs.Reply.{delivery_code, refusal_status, refusal_allow, refused, reply_in, reply_with, front_bytes, continue_bytes};
 ghost use Rattle.office_http_requests.specs.steps.Reply.{WritesReply, HasPlace};
-ghost use Rattle.office_core_orders.specs.Counted.{CountsFailure};
-ghost use Rattle.office_core_orders.specs.Replies.{status_line};
-ghost use Rattle.office_core_orders.specs.Written.{AppendsFront, Writes};
-ghost use Rattle.office_core_orders.specs.steps.Written.{joined};
+ghost use Rattle.office_mail.specs.Counts.{CountsFailure};
+ghost use Rattle.office_core_replies.specs.Replies.{status_line};
+ghost use Rattle.office_mail.specs.Written.{AppendsFront, Writes, joined};
 
 use deb_control::Text;
 use http::StatusCode;
-use office_core_orders::{
-    DeliverFault, Digits, Held, Progress, WriteFault, fault_words, write_all, write_parts,
-};
-use office_mail::{MailFault, Setup, Sink};
+use office_core_orders::Progress;
+use office_core_replies::{DeliverFault, Held, fault_words};
+use office_mail::{Digits, MailFault, Setup, Sink, WriteFault, write_all, write_parts};
 use office_store_keeper::MailText;
 
 /// Why a request is refused.
@@ -216,7 +214,7 @@ fn write_refused<W: Sink>(
     )
 }
 
-#[tactic(auto, unfolding(office_core_orders::specs::Replies::reply_line))]
+#[tactic(auto, unfolding(office_core_replies::specs::Replies::reply_line))]
 fn write_held<W: Sink>(
     setup: &Setup,
     held: Held,
@@ -239,7 +237,7 @@ fn write_held<W: Sink>(
     write_whole(StatusCode::OK, "", &body, size, is_head, writer)
 }
 
-#[tactic(auto, unfolding(office_core_orders::specs::Replies::reply_line))]
+#[tactic(auto, unfolding(office_core_replies::specs::Replies::reply_line))]
 fn write_fault<W: Sink>(
     setup: &Setup,
     fault: DeliverFault,

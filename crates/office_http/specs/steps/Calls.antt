@@ -1,8 +1,8 @@
 -- What calls on an office that answer a request leave, and what they answer.
 use Rattle.std.specs.Prelude.{ℕ, List, Result, IfOk}
 use Rattle.office_store_keeper.specs.declared.keeper.Keeper.{Ghosts}
-use Rattle.office_core_orders.specs.declared.faults.StoreFault.{StoreFault}
-use Rattle.office_core_orders.specs.Counted.{Counted}
+use Rattle.office_core_store.specs.declared.faults.StoreFault.{StoreFault}
+use Rattle.office_core_store.specs.Counted.{Counted}
 use Rattle.office_core_facts.specs.State.{state_of}
 use Rattle.office_core.specs.Preserves.{Asks, Holds, StoreRefused}
 use Rattle.office_http_requests.specs.declared.reply.Answer.{Answer}

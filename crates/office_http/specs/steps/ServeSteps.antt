@@ -3,8 +3,8 @@ use Rattle.std.specs.Prelude.{◌≡◌, ◌⊎◌, ◌≤◌, ◌+◌, ℕ, Boo
 use Rattle.std.specs.Option.{option_map_or}
 use Rattle.std.specs.Io.KnownBytes.{Appends, Consumes}
 use Rattle.office_mail.specs.Runs.{IsReadyCount}
-use Rattle.office_core_orders.specs.declared.faults.Progress.{Progress}
-use Rattle.office_core_orders.specs.declared.faults.StoreFault.{StoreFault}
+use Rattle.office_core_orders.specs.declared.wait_lines.Progress.{Progress}
+use Rattle.office_core_store.specs.declared.faults.StoreFault.{StoreFault}
 use Rattle.office_core_orders.specs.declared.wait_lines.Awaited.{Awaited}
 use Rattle.office_core_orders.specs.WaitingLines.{waiting_text}
 use Rattle.office_http_requests.specs.declared.reply.Refusal.TheVariants as refusal
@@ -21,7 +21,7 @@ use Rattle.office_core_replay.specs.Losses.{TextCounted}
 use Rattle.office_http_requests.specs.Request.{body_room}
 use Rattle.office_core_facts.specs.OfficeState.{OfficeState}
 use Rattle.office_core_orders.specs.Waiting.{Awaits}
-use Rattle.office_core_orders.specs.Written.{AppendsFront}
+use Rattle.office_mail.specs.Written.{AppendsFront}
 use Rattle.office_core_breaks.specs.Told.{IsBreaks}
 use Rattle.office_core_breaks.specs.declared.BreaksText.{BreaksText}
 use Rattle.office_core_breaks.specs.declared.asked.Question.{Question}
@@ -29,7 +29,7 @@ use Rattle.office_core_outcome.specs.declared.Trial.{Trial}
 use Rattle.office_core_outcome.specs.declared.TrialOptions.{TrialOptions}
 use Rattle.office_core_outcome.specs.Trial.{IsTrial}
 use Rattle.office_core_outcome.specs.declared.proposal.Proposal.{Proposal}
-use Rattle.office_http.specs.Serve.{refusal_for, by_fault, added_page, page_answer, action_answer, posted_body, answer_of, proposal_answer, waits_of, continued, Found, IsFound, IsFoundBy, IsFoundFor, IsProposedFor, Moves, Does, IsWhole, IsAwaited, StopsBefore, Exchange}
+use Rattle.office_http.specs.Serve.{refusal_for, by_fault, added_page, page_answer, action_answer, posted_body, answer_of, proposal_answer, waits_of, continued, Found, IsFoundForAsked, IsFoundBy, IsFoundFor, IsProposedFor, Moves, Does, IsWhole, IsAwaited, StopsBefore, Exchange}
 use Rattle.office_core_why.specs.declared.WhyText.{WhyText}
 use Rattle.office_http.specs.Breaks.{IsBreaksBy, are_many, breaks_answer, changes_answer, first_change}
 use Rattle.office_http.specs.Trials.{trial_answer}
@@ -167,7 +167,7 @@ pub record Answers (before after : OfficeState) (left left' written written' : O
   pub by_store : TextCounted rose fault
   pub found : Found
   pub whole : fault ≡ None → IsWhole asked (front ++ more) left'
-  pub is : fault ≡ None → IsFound before found asked (front ++ more)
+  pub is : fault ≡ None → IsFoundForAsked before found asked (front ++ more)
   pub answer_is : answer ≡ by_fault fault (answer_of before found asked (front ++ more))
   pub does : Does before after (posted_body asked (front ++ more)) fault found.ready rose
   pub goes_on : Bool

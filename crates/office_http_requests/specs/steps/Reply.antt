@@ -2,9 +2,9 @@
 use Rattle.std.specs.Prelude.{◌≡◌, ⊤, ◌<◌, ℕ, Bool, length, Result, Ok, Err, IfOk}
 use Rattle.office_mail.specs.Lists.{Lists}
 use Rattle.office_mail.specs.declared.feed.Sink.{Ghosts}
-use Rattle.office_core_orders.specs.declared.faults.DeliverFault.{DeliverFault}
-use Rattle.office_core_orders.specs.declared.faults.Held.{Held}
-use Rattle.office_core_orders.specs.Written.{Writes}
+use Rattle.office_core_replies.specs.declared.faults.DeliverFault.{DeliverFault}
+use Rattle.office_core_replies.specs.declared.faults.Held.{Held}
+use Rattle.office_mail.specs.Written.{Writes}
 use Rattle.office_http_requests.specs.declared.reply.Answer.{Answer}
 use Rattle.office_http_requests.specs.declared.reply.Answer.TheVariants.{Delivered}
 use Rattle.office_http_requests.specs.Reply.{Reply, reply_bytes}

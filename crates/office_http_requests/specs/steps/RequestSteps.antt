@@ -1,4 +1,4 @@
--- How the bytes of a request are read, and what a scan of them finds.
+-- How the bytes of a request are read, and how its reading ends.
 use Rattle.std.specs.Prelude.{◌≡◌, ⊤, ◌<◌, ◌≤◌, ◌⊎◌, ◌+◌, ℕ, List, [], ◌++◌, length, Option}
 use Rattle.std.specs.Io.KnownBytes.{Consumes, IsAtEnd}
 use Rattle.httparse.specs.Grammar.{RequestHead, HasNoRequest, NeverHasRequest}
@@ -7,8 +7,6 @@ use Rattle.httparse.specs.declared.spans.HeaderSpan.{HeaderSpan}
 use Rattle.httparse.specs.declared.spans.RequestSpans.{RequestSpans}
 use Rattle.office_http_requests.specs.declared.head.ChunkRead.{ChunkRead}
 use Rattle.office_http_requests.specs.declared.head.ChunkRead.TheVariants as drawn
-use Rattle.office_http_requests.specs.declared.head.HeadScan.{HeadScan}
-use Rattle.office_http_requests.specs.declared.head.HeadScan.TheVariants.{Whole, More, TooMany, Never}
 use Rattle.office_http_requests.specs.declared.head.HeadRead.{HeadRead}
 use Rattle.office_http_requests.specs.declared.head.HeadRead.TheVariants.{Nothing, Head, HeadTooLarge, BadRequest, NoMemory}
 use Rattle.office_http_requests.specs.declared.head.BodyRead.{BodyRead}
@@ -42,13 +40,6 @@ pub record IsHeadAt (seen : List ℕ) (headers : List HeaderSpan) (spans : Reque
   pub parts : IsRequestAt seen headers spans head
   pub few : length head.fields ≤ field_room
   pub short : length seen ≤ head_room
-
--- what a scan of the first bytes finds
-abbrev pub IsHeadScan : List ℕ → List HeaderSpan → HeadScan → Type 0
-IsHeadScan seen headers (Whole spans) = IsRequestWithin seen headers spans × ((head : RequestHead) × IsRequestAt seen headers spans head × (length head.fields ≤ field_room))
-IsHeadScan seen headers More = HasNoRequest seen
-IsHeadScan seen headers TooMany = RequestExceeds field_room seen × RequestOverflows field_room seen
-IsHeadScan seen headers Never = NeverHasRequest seen
 
 -- how the reading of a head ended: what was read, what of it is held, and what is left of the input
 abbrev pub IsEnd : Option (List ℕ) → List ℕ → List ℕ → List HeaderSpan → HeadRead → Type 0

@@ -1,5 +1,5 @@
 use Rattle.std.proofs.lemmas.Result.{err_from_is_err_and}
-use Rattle.office_core_orders.proofs.WrittenFacts.{writes_front}
+use Rattle.office_mail.proofs.WrittenFacts.{writes_front}
 use Rattle.office_http.proofs.hosts.refuse_host.Goals as goal
 
 pub returns-in_err-code-clause-writes : goal.returns-in_err-code-clause-writes

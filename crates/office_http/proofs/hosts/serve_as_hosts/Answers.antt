@@ -1,5 +1,5 @@
 use Rattle.std.proofs.Common.{Bool, Bor, List, ℕ, map, refl, subst}
-use Rattle.office_core_orders.specs.Written.{Writes}
+use Rattle.office_mail.specs.Written.{Writes}
 use Rattle.office_http_requests.specs.Reply.{refused, reply_bytes}
 use Rattle.office_http_requests.specs.declared.reply.Refusal.TheVariants as refusal
 use Rattle.office_http_requests.proofs.HostFacts.{for_none, head_is}

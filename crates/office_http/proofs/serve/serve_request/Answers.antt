@@ -5,8 +5,15 @@ use Rattle.office_http_requests.specs.Asked.{asked_of}
 use Rattle.office_core.specs.Preserves.{StoreRefused}
 use Rattle.office_http_requests.specs.steps.Reply.{HasPlace}
 use Rattle.office_core_facts.specs.State.{state_of}
-use Rattle.office_http.proofs.ServeFacts.{asked_due, served_head, served_front, stopped_asked, stopped_request}
+use Rattle.office_http.proofs.ServeFacts.{asked_due, asked_fits, served_head, served_front, stopped_asked, stopped_request}
 use Rattle.office_http.proofs.serve.serve_request.Goals as goal
+
+pub answer_request-requires-clause-fits : goal.answer_request-requires-clause-fits
+answer_request-requires-clause-fits g c =
+    let setup = g.K.Keeper.setup c.args.office.now in
+    let h = c.requires.head in
+    asked_fits setup c.ok-asked.result h.head
+    (asked_due setup c.asked_of.result c.ok-asked.result c.args.seen.now.items c.args.head.headers.now c.args.head.spans h.head c.ok-asked.ensures.value (rw (c.as_slice-2.ensures.value, c.setup.ensures.setup) at c.asked_of.ensures) h.parts)
 
 pub write_answer-requires : goal.write_answer-requires
 write_answer-requires g c =
@@ -21,7 +28,7 @@ returns-in_err-write_answer-clause-err g c =
     let left = g.R.Feed.left in
     let written = g.W.Sink.written in
     let h = c.requires.head in
-    let asked = asked_due (g.K.Keeper.setup c.args.office.now) c.asked_in-asked.result c.args.seen.now.items c.args.head.headers.now c.args.head.spans h.head (rw (c.as_slice-2.ensures.value, c.setup.ensures.setup) at c.asked_in-asked.ensures.asked) h.parts in
+    let asked = asked_due (g.K.Keeper.setup c.args.office.now) c.asked_of.result c.ok-asked.result c.args.seen.now.items c.args.head.headers.now c.args.head.spans h.head c.ok-asked.ensures.value (rw (c.as_slice-2.ensures.value, c.setup.ensures.setup) at c.asked_of.ensures) h.parts in
     let same = c.setup-2.ensures.setup ∙ c.in_ok-answer.ensures.carries.setup in
     let is_head = (rw c.as_slice.ensures.value at c.is_head_method-is_head.ensures) c.args.head.headers.now h.head h.parts in
     let p = err_from_is_err_and c.from_residual-in_err-write_answer.result c.from_residual-in_err-write_answer.ensures.1 in
@@ -36,7 +43,7 @@ returns-clause-ok g c =
     let left = g.R.Feed.left in
     let written = g.W.Sink.written in
     let h = c.requires.head in
-    let asked = asked_due (g.K.Keeper.setup c.args.office.now) c.asked_in-asked.result c.args.seen.now.items c.args.head.headers.now c.args.head.spans h.head (rw (c.as_slice-2.ensures.value, c.setup.ensures.setup) at c.asked_in-asked.ensures.asked) h.parts in
+    let asked = asked_due (g.K.Keeper.setup c.args.office.now) c.asked_of.result c.ok-asked.result c.args.seen.now.items c.args.head.headers.now c.args.head.spans h.head c.ok-asked.ensures.value (rw (c.as_slice-2.ensures.value, c.setup.ensures.setup) at c.asked_of.ensures) h.parts in
     let same = c.setup-2.ensures.setup ∙ c.in_ok-answer.ensures.carries.setup in
     let is_head = (rw c.as_slice.ensures.value at c.is_head_method-is_head.ensures) c.args.head.headers.now h.head h.parts in
     λ t. served_head (StoreRefused keeper s0 s1) (state_of keeper s0) (state_of keeper s1) (left c.args.reader.now) (left c.answer_request.new.reader) (written c.args.writer.now) (written c.answer_request.new.writer) (written c.write_answer.new.writer)
@@ -52,7 +59,7 @@ returns-in_err-answer-clause-err g c =
     let w0 = g.W.Sink.written c.args.writer.now in
     let w1 = g.W.Sink.written c.answer_request.new.writer in
     let h = c.requires.head in
-    let asked = asked_due (g.K.Keeper.setup c.args.office.now) c.asked_in-asked.result c.args.seen.now.items c.args.head.headers.now c.args.head.spans h.head (rw (c.as_slice-2.ensures.value, c.setup.ensures.setup) at c.asked_in-asked.ensures.asked) h.parts in
+    let asked = asked_due (g.K.Keeper.setup c.args.office.now) c.asked_of.result c.ok-asked.result c.args.seen.now.items c.args.head.headers.now c.args.head.spans h.head c.ok-asked.ensures.value (rw (c.as_slice-2.ensures.value, c.setup.ensures.setup) at c.asked_of.ensures) h.parts in
     let p = err_from_is_err_and c.from_residual.result c.from_residual.ensures.1 in
     λ t. rw (p.1, p.2) (stopped_request (StoreRefused keeper c.args.office.now c.answer_request.new.office) s0 s1 l0 l1 w0 w1 c.args.seen.now.items _
-    (stopped_asked s0 s1 l0 l1 w0 w1 c.asked_in-asked.result c.args.seen.now.items c.args.head.headers.now c.args.head.spans h asked (c.in_err-answer.ensures.err t.0)))
+    (stopped_asked s0 s1 l0 l1 w0 w1 c.ok-asked.result c.args.seen.now.items c.args.head.headers.now c.args.head.spans h asked (c.in_err-answer.ensures.err t.0)))

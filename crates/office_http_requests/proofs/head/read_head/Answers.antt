@@ -16,5 +16,5 @@ returns-in-NoMemory-clause-ended g c =
 pub returns-in-Some-clause-ended : goal.returns-in-Some-clause-ended
 returns-in-Some-clause-ended g c =
     let left = g.R.Feed.left in
-    head_some (left c.args.reader.now) (left c.reads.reader) (left c.read_more.new.reader) c.reads.seen.items c.read_more.new.seen.items c.end_of.new.headers c.in-Some.ended
+    head_some (left c.args.reader.now) (left c.reads.reader) (left c.read_more.new.reader) c.reads.seen.items c.read_more.new.seen.items c.scan_head.new.headers c.in-Some.ended
     c.reads.invariant.took (rw c.in-Bytes.is at c.in_ok-read_more.ensures.drawn) (rw c.as_slice-in-reads.ensures.value at (c.in-Some.ensures.ends (left c.read_more.new.reader)))
